@@ -1,0 +1,11 @@
+pub mod Lists
+pub mod Results
+pub mod Fresh
+pub mod Query
+pub mod Settling
+pub mod CoreActions
+pub mod Reading
+pub mod CoreRule
+pub mod Encoded
+pub mod Fits
+pub mod FreshVars

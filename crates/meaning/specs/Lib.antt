@@ -1,0 +1,3 @@
+pub mod Meaning
+pub mod Demand3
+pub mod FreshVars
