@@ -1,0 +1,80 @@
+// Loops over regions of words: copy, replace, compare. Each goes from the first word of its region to the last.
+ghost use mathlib.Core.Path.{_≡_};
+ghost use mathlib.Core.List.{map};
+ghost use Prim.Native.Nat.{_+_, _≤_};
+ghost use lib.ListN.{length};
+ghost use Rattle.octets.specs.Words.{words};
+ghost use Rattle.octets.specs.Regions.{splice, part, Clear, swap, eqWords};
+use crate::get;
+use crate::put;
+
+// Writes the n words of `src` from `from` on at `at` of `out`.
+pub fn copy(out: &mut [u8], at: usize, src: &[u8], from: usize, n: usize)
+    requires { ⌜ (at + n ≤ length (words (now out))) × (from + n ≤ length (words (now src))) ⌝ }
+    ensures { λ _. ⌜ words (now (out .exit)) ≡ splice (words (now (out .entry))) at (part (words (now (src .entry))) from n) ⌝ }
+{
+    let mut i = 0;
+    while i < n {
+        put(out, at + i, get(src, from + i));
+        i += 1;
+    }
+}
+
+// Writes the n words from `from` on at `to` of the same slice. `to` lies at or below `from`, or beyond those words, since a word must not
+// be overwritten before it is read.
+pub fn carry(buf: &mut [u8], to: usize, from: usize, n: usize)
+    requires { ⌜ (to + n ≤ length (words (now buf))) × (from + n ≤ length (words (now buf))) ⌝ }
+    requires { ⌜ Clear to from n ⌝ }
+    ensures { λ _. ⌜ words (now (buf .exit)) ≡ splice (words (now (buf .entry))) to (part (words (now (buf .entry))) from n) ⌝ }
+{
+    let mut i = 0;
+    while i < n {
+        let w = get(buf, from + i);
+        put(buf, to + i, w);
+        i += 1;
+    }
+}
+
+// y for x, and any other word as it is.
+fn swapped(x: u32, y: u32, w: u32) -> u32
+    ensures { λ r. ⌜ r ≡ swap x y w ⌝ }
+{
+    if w == x { y } else { w }
+}
+
+// Replaces x by y in the n words from `from` on. Every word is stored, changed or not, so that the loop has no branch and runs on vectors.
+pub fn replace(buf: &mut [u8], from: usize, n: usize, x: u32, y: u32)
+    requires { ⌜ from + n ≤ length (words (now buf)) ⌝ }
+    ensures { λ _. ⌜ words (now (buf .exit)) ≡ splice (words (now (buf .entry))) from (map (swap x y) (part (words (now (buf .entry))) from n)) ⌝ }
+{
+    let mut i = 0;
+    while i < n {
+        let at = from + i;
+        let w = get(buf, at);
+        put(buf, at, swapped(x, y, w));
+        i += 1;
+    }
+}
+
+// Whether the n words of `a` from p on are the n words of `b` from q on. It ends at the first two that differ.
+pub fn same_between(a: &[u8], p: usize, b: &[u8], q: usize, n: usize) -> bool
+    requires { ⌜ (p + n ≤ length (words (now a))) × (q + n ≤ length (words (now b))) ⌝ }
+    ensures { λ r. ⌜ r ≡ eqWords (part (words (now (a .entry))) p n) (part (words (now (b .entry))) q n) ⌝ }
+{
+    let mut i = 0;
+    while i < n {
+        if get(a, p + i) != get(b, q + i) {
+            return false;
+        }
+        i += 1;
+    }
+    true
+}
+
+// The same within one slice.
+pub fn same(buf: &[u8], p: usize, q: usize, n: usize) -> bool
+    requires { ⌜ (p + n ≤ length (words (now buf))) × (q + n ≤ length (words (now buf))) ⌝ }
+    ensures { λ r. ⌜ r ≡ eqWords (part (words (now (buf .entry))) p n) (part (words (now (buf .entry))) q n) ⌝ }
+{
+    same_between(buf, p, buf, q, n)
+}
