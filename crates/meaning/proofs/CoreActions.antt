@@ -17,7 +17,8 @@ use Rattle.rules.specs.Canonicalize.{bindings, Replacement}
 use Rattle.meaning.specs.Meaning.{World, All, val, Bound, Event, called, wasSet, deleted, subsumed, united, Answers, Run, upd, give, note, runExpr, runExprs, runSet, runUnion, runAction, runActions, runCoreAction, runCoreActions}
 use Rattle.meaning.proofs.Results.{bind-ok, ok-inj, refuse-ok, demand-ok}
 use Rattle.meaning.proofs.Fresh.{Before, Grows, before-later, plain-before, Took, took, fresh-var}
-use Rattle.meaning.proofs.Query.{Plain, Plains, AgreePlain, AgreeBefore, val-agree, same-all, all-map, Same, upd-same, upd-other, val-fresh, before-plain}
+use Rattle.meaning.proofs.Query.{Plain, Plains, AgreePlain, AgreeBefore, val-agree, same-all, Same, upd-same, upd-other, val-fresh, before-plain}
+use Rattle.meaning.proofs.Lists.{all-map}
 
 abbrev pub PlainAction : Action → Type 0
 PlainAction (let′ p w e) = Plain e

@@ -3,21 +3,21 @@ use Prim.Native.Nat.{ℕ, _+_}
 use mathlib.Core.Path.{_≡_, refl, sym, _∙_, ap, subst, fun-ext}
 use mathlib.Core.Logic.{_↔_}
 use mathlib.Core.Bool.{Bool, true, false, cond, _||_}
-use mathlib.Core.List.{List, [], _∷_, _++_}
+use mathlib.Core.List.{List, [], _++_}
 use lib.Dec.{leb}
 use Rattle.rules.specs.Words.{nameBase}
 use Rattle.rules.specs.Refusals.{ok}
 use Rattle.rules.specs.Signature.{Sig, isFresh}
 use Rattle.rules.specs.Written.{Rule}
-use Rattle.rules.specs.Flat.{Atom, CoreAction}
 use Rattle.rules.specs.ToQuery.{Query, toQuery, bodyVars}
 use Rattle.rules.specs.ToCoreActions.{Done, toCoreActions, CoreRule, toCoreRule}
-use Rattle.rules.specs.Canonicalize.{Replacement, bindings}
+use Rattle.rules.specs.Canonicalize.{bindings}
 use Rattle.rules.specs.RemoveDupVars.{settle}
-use Rattle.meaning.specs.Meaning.{World, ValueEq, All, val, FactHolds, TabHolds, Bound, Answers, Run, runActions, runCoreActions}
+use Rattle.meaning.specs.Meaning.{World, ValueEq, All, val, FactHolds, Answers, Run, runActions, runCoreActions}
 use Rattle.meaning.specs.Demand3.{Stable, join, OneChoice}
 use Rattle.meaning.proofs.Results.{bind-ok, ok-inj}
-use Rattle.meaning.proofs.Query.{PlainFact, Words, AgreePlain, Same, facts-agree, GoodQ, good-query, before-plain, words-map}
+use Rattle.meaning.proofs.Query.{PlainFact, AgreePlain, Same, facts-agree, GoodQ, good-query, before-plain}
+use Rattle.meaning.proofs.Terms.{all-terms-map}
 use Rattle.meaning.proofs.CoreActions.{PlainAction, actions-alike, bindings-run, run-append}
 use Rattle.meaning.proofs.Settling.{SettledHolds, settle-law}
 
@@ -67,7 +67,7 @@ module _ {D : Type 0} (stable : Stable D) (s : Sig) (W : World D) (eqs : ValueEq
               (g .sound (join ρ (h .0)) (settle-law s W (join ρ (h .0)) stable eqs (q .atoms) .1 (h .1))),
         );
         unique = λ ρ φ ψ h k.
-            words-map (Same s W (join ρ φ) (join ρ ψ)) (λ (w : ℕ). isFresh w ≡ true → φ w ≡ ψ w)
+            all-terms-map (Same s W (join ρ φ) (join ρ ψ)) (λ (w : ℕ). isFresh w ≡ true → φ w ≡ ψ w)
             (λ w e f. sym (join-fresh ρ φ s W w f) ∙ e ∙ join-fresh ρ ψ s W w f) (q .atoms)
             (g .unique (join ρ φ) (join ρ ψ) (λ w n. sym (join-plain ρ φ w n) ∙ join-plain ρ ψ w n)
             (settle-law s W (join ρ φ) stable eqs (q .atoms) .1 h) (settle-law s W (join ρ ψ) stable eqs (q .atoms) .1 k));

@@ -1,18 +1,18 @@
 -- What is written reads back: the words of a well-formed flat rule are read as that rule, each atom with the place where it stands.
 -- Assumes nothing.
-use Prim.Native.Nat.{ℕ, zero, suc, _+_, _-_, _*_, _/_, _%_, _≤_, _<_}
+use Prim.Native.Nat.{ℕ, zero, suc, _+_, _-_, _*_, _≤_, _<_}
 use native.Mathlib.Omega.{arith}
 use mathlib.Core.Path.{_≡_, refl, sym, _∙_, ap, ap₂, subst}
-use mathlib.Core.Bool.{Bool, true, false, cond, _&&_, _||_}
+use mathlib.Core.Bool.{Bool, true, false, cond, _&&_}
 use mathlib.Core.List.{List, [], _∷_, _++_, append-assoc, append-nil}
-use lib.ListN.{length, getD, drop, length-append, length-drop}
+use lib.ListN.{length, getD, drop, length-append}
 use lib.Dec.{leb, ltb, eqb}
-use borrow.Author.Tests.{lt-ltb, le-leb, eq-eqb, ne-eqb, le-ltb, lt-leb}
+use borrow.Author.Tests.{lt-ltb, le-leb, ne-eqb, le-ltb}
 use Rattle.rules.specs.Words.{limit12, limit16, headBase, equalityBase, headerBase, headWord, headerWord, equalityWord, actionWord, within, isLiteralWord, isHeadWord, isEqualityWord, isHeaderWord, headOf, countOf, factsOf, actionsOf, Code, codeOf, noCode}
 use Rattle.rules.specs.Refusals.{Res, ok, _>>=_, demand, unfit}
 use Rattle.rules.specs.Signature.{Sig, heads}
-use Rattle.rules.specs.Written.{Read, Reader, readWord, readRow, codeAt, allRead}
-use Rattle.rules.specs.Flat.{Tab, Atom, eqn, tab, CoreAction, Let, Set, Delete, Subsume, Union, Panic, Call, FlatRule, tabWords, actionWords, wordsOf, encode, isTarget, isTerm, readTerm, isTable, isNone, isPair, isOdd, isEmpty, AtomShape, atomShape, atomShapeAt, readAtomShape, readAtom, Terms, readTerms, readCoreCode, readCoreAction, readFlat}
+use Rattle.rules.specs.Written.{Read, Reader, readWord, readRow, codeAt}
+use Rattle.rules.specs.Flat.{Tab, Atom, tab, CoreAction, Let, Set, Delete, Subsume, Union, Panic, Call, tabWords, actionWords, wordsOf, encode, isTarget, isTerm, readTerm, isTable, isNone, isPair, isOdd, isEmpty, AtomShape, atomShape, atomShapeAt, readAtomShape, readAtom, readTerms, readCoreCode, readCoreAction, readFlat}
 use Rattle.meaning.specs.Meaning.{All}
 
 -- ---- a place in a list, by what stands there and behind it

@@ -1,38 +1,35 @@
 -- What lowering and settling give is a well-formed flat rule: its heads are the signature's, its terms are terms.
 -- Assumes nothing.
-use Prim.Native.Nat.{ℕ, zero, suc, _+_, _*_, _≤_, _<_}
+use Prim.Native.Nat.{ℕ, zero, suc, _+_, _*_, _<_}
 use native.Mathlib.Omega.{arith}
 use mathlib.Core.Path.{_≡_, refl, sym, _∙_, ap, subst}
-use mathlib.Core.Bool.{Bool, true, false, cond, not, _&&_, _||_, false≢true}
+use mathlib.Core.Bool.{Bool, true, false, not, _&&_, _||_, false≢true}
 use mathlib.Core.List.{List, [], _∷_, _++_, map}
 use mathlib.Core.Option.{Option, none, some, Option·some-injective, Option·none-ne-some}
 use lib.ListN.{length, length-map}
-use lib.Dec.{eqb, leb, ltb}
-use borrow.Author.Tests.{le-leb, lt-ltb, lt-leb, ltb-true}
-use Rattle.rules.specs.Words.{limit12, limit16, freshBase, nameBase, literalBase, freshWord, unit, within, isNameWord, isLiteralWord, isFreshWord}
-use Rattle.rules.specs.Refusals.{ok, refuse, unbound, alreadyDefined}
+use lib.Dec.{eqb, leb}
+use borrow.Author.Tests.{lt-leb}
+use Rattle.rules.specs.Words.{limit16, freshBase, nameBase, literalBase, freshWord, unit, isNameWord, isLiteralWord, isFreshWord}
+use Rattle.rules.specs.Refusals.{ok, unbound, alreadyDefined}
 use Rattle.rules.specs.Signature.{Sig, heads, isVar, isFresh, isName, isConstructor, sameTerm, elem}
-use Rattle.rules.specs.Written.{Expr, Exprs, leaf, call, end, _then_, Fact, holds, equal, Action, let′, set′, delete′, subsume′, union′, panic′, expr′, Rule}
-use Rattle.rules.specs.Flat.{Tab, Atom, eqn, tab, CoreAction, Let, Set, Delete, Subsume, Union, Panic, Call, isTarget, isTerm}
-use Rattle.rules.specs.ToQuery.{count, Fresh, fresh, Flat, Flats, flatten, flattenAll, Query, flattenFact, toQuery, bodyVars}
-use Rattle.rules.specs.ToCoreActions.{readable, Low, Lows, lowerExpr, lowerExprs, Done, lowerSet, lowerChange, AsSet, optional, unionAsSet, lowerUnion, lowerLet, lowerAction, toCoreActions, CoreRule, toCoreRule}
-use Rattle.rules.specs.Canonicalize.{Replacement, replaceTerm, replaceAtom, replacementOf, orElse, firstReplacement, Body, replaceStep, replaceUpTo, replaceAll, resolveEq, resolve, canonicalize, bindings}
+use Rattle.rules.specs.Written.{Expr, Exprs, leaf, call, end, _then_, Fact, holds, equal, Action, let′, set′, delete′, subsume′, union′, panic′, expr′}
+use Rattle.rules.specs.Flat.{Tab, Atom, eqn, tab, CoreAction, Delete, Subsume, isTarget}
+use Rattle.rules.specs.ToQuery.{count, Fresh, fresh, Flat, Flats, flatten, flattenAll, Query, flattenFact, toQuery}
+use Rattle.rules.specs.ToCoreActions.{readable, Low, Lows, lowerExpr, lowerExprs, Done, lowerSet, lowerChange, AsSet, optional, unionAsSet, lowerUnion, lowerLet, lowerAction, toCoreActions}
+use Rattle.rules.specs.Canonicalize.{Replacement, replaceTerm, replaceAtom, replacementOf, orElse, firstReplacement, Body, replaceStep, replaceUpTo, replaceAll, resolveEq, resolve, bindings}
 use Rattle.rules.specs.RemoveDupVars.{alike, seen, keep, clashes, merged, Settled, afterPass, removeDupVars, settle}
 use Rattle.meaning.specs.Meaning.{All}
-use Rattle.meaning.proofs.Lists.{all-append, cond-both}
+use Rattle.meaning.proofs.Lists.{all-append, cond-both, or-right}
+use Rattle.meaning.proofs.MergePass.{keep-all}
 use Rattle.meaning.proofs.Results.{bind-ok, ok-inj, refuse-ok, demand-ok}
 use Rattle.meaning.proofs.Fresh.{Took, took}
-use Rattle.meaning.proofs.Reading.{within-high, LeafWord, many, FormedCall, Formed, FormedAll, FormedFact, FormedAction, FormedRule}
+use Rattle.meaning.proofs.Reading.{within-high, LeafWord, many, FormedCall, Formed, FormedAll, FormedFact, FormedAction}
 use Rattle.meaning.proofs.Encoded.{within-is, TermWord, FitTerms, FitTab, FitAction}
 
 -- ---- terms
 
 or-left : (a b : Bool) → a ≡ true → (a || b) ≡ true
 or-left a b e = ap (λ (x : Bool). x || b) e
-
-or-right : (a b : Bool) → b ≡ true → (a || b) ≡ true
-or-right true b e = refl
-or-right false b e = e
 
 module _ (s : Sig) where
   target-term : (w : ℕ) → isTarget s w ≡ true → TermWord s w
@@ -312,11 +309,6 @@ module _ (s : Sig) where
         go true ih = ih
         go false ih = (record { ins = record { head = known; few = omega arith; terms = (h .0 .0, (h .0 .1, tt)) }; out = unit-term }, ih)
 
-    keep-fits : (fs ts : List Tab) → All (FitTab s) ts → All (FitTab s) (keep fs ts)
-    keep-fits fs [] h = tt
-    keep-fits fs (a ∷ xs) h =
-        cond-both (All (FitTab s)) (seen a fs) (keep fs xs) (a ∷ keep (a ∷ fs) xs) (keep-fits fs xs (h .1)) (h .0, keep-fits (a ∷ fs) xs (h .1))
-
     clashes-fit : (a : Tab) (ts : List Tab) → FitTab s a → All (FitTab s) ts → All FitAtom (clashes a ts)
     clashes-fit a [] g h = tt
     clashes-fit a (b ∷ xs) g h =
@@ -344,10 +336,10 @@ module _ (s : Sig) where
         go : (es : List Atom) → All FitAtom es
             → ((us : List Tab) (qs : List Replacement) (j : ℕ) → All (FitTab s) us → All FitReplacement qs → FitSettled (removeDupVars s n us qs j))
             → FitSettled (afterPass s es (keep [] ts) rs k (λ us qs j. removeDupVars s n us qs j))
-        go [] m ih = record { tabs = keep-fits [] ts h; repls = g }
+        go [] m ih = record { tabs = keep-all (FitTab s) [] ts h; repls = g }
         go (e ∷ es) m ih =
             let xs : List Atom = e ∷ es ++ map tab (keep [] ts) in
-            let f = replace-fits (length xs) xs rs (all-append FitAtom (e ∷ es) (map tab (keep [] ts)) m (tabs-fit (keep [] ts) (keep-fits [] ts h))) g in
+            let f = replace-fits (length xs) xs rs (all-append FitAtom (e ∷ es) (map tab (keep [] ts)) m (tabs-fit (keep [] ts) (keep-all (FitTab s) [] ts h))) g in
             ih (resolve s (replaceAll s xs rs .atoms)) (replaceAll s xs rs .repls) (suc k) (resolve-fits (replaceAll s xs rs .atoms) (f .atoms)) (f .repls)
 
     pub settle-fits : (xs : List Atom) → All FitAtom xs → FitSettled (settle s xs)

@@ -1,10 +1,10 @@
 -- In one lowering all fresh variables are distinct, and none is a written name: the promises of specs/FreshVars.antt. Assumes nothing.
-use Prim.Native.Nat.{ℕ, suc, _≤_, _<_}
-use native.Mathlib.Nat.{le-refl, le-trans, lt-of-lt-of-le}
+use Prim.Native.Nat.{ℕ, _≤_, _<_}
+use native.Mathlib.Nat.{le-refl, le-trans}
 use native.Mathlib.Omega.{arith}
 use mathlib.Core.Path.{_≡_, refl, sym, _∙_, ap, subst}
 use mathlib.Core.Bool.{Bool, true, false, _||_}
-use mathlib.Core.List.{List, [], _∷_, _++_, append-assoc, append-nil}
+use mathlib.Core.List.{List, [], _∷_, _++_, append-nil}
 use mathlib.Core.Option.{Option, none, some}
 use Rattle.rules.specs.Words.{limit16, freshWord, isNameWord, isLiteralWord}
 use Rattle.rules.specs.Refusals.{ok, unbound, alreadyDefined}
@@ -15,7 +15,7 @@ use Rattle.rules.specs.ToQuery.{count, Fresh, fresh, Flat, Flats, flatten, flat
 use Rattle.rules.specs.ToCoreActions.{readable, Low, Lows, lowerExpr, lowerExprs, Done, lowerSet, lowerChange, AsSet, unionAsSet, lowerUnion, lowerLet, lowerAction, toCoreActions, CoreRule, toCoreRule}
 use Rattle.meaning.specs.Meaning.{All}
 use Rattle.meaning.specs.FreshVars.{Distinct, madeByAtoms, madeByActions, made, leaves, leavesAll, factLeaves, actionLeaves, PairByWord, FreshAreNew}
-use Rattle.meaning.proofs.Lists.{all-append}
+use Rattle.meaning.proofs.Lists.{all-append, all-map, or-right}
 use Rattle.meaning.proofs.Results.{bind-ok, ok-inj, refuse-ok, demand-ok}
 use Rattle.meaning.proofs.Fresh.{Grows, Took, took, fresh-inj, fresh-is}
 use Rattle.meaning.proofs.Reading.{Formed, FormedAll, FormedFact, FormedAction, leaf-plain, written-formed}
@@ -38,11 +38,6 @@ pub record Takes (cs ds : List ℕ) (vs : List ℕ) : Type 0 where
   pub grows : Grows cs ds
   pub each : All (Between cs ds) vs
   pub apart : Distinct vs
-
-module _ {A : Type 0} (P Q : A → Type 0) (f : (x : A) → P x → Q x) where
-  pub all-weaken : (xs : List A) → All P xs → All Q xs
-  all-weaken [] h = tt
-  all-weaken (x ∷ xs) h = (f x (h .0), all-weaken xs (h .1))
 
 between-wide : (bs cs ds es : List ℕ) → Grows bs cs → Grows ds es → (v : ℕ) → Between cs ds v → Between bs es v
 between-wide bs cs ds es g k v b =
@@ -68,14 +63,14 @@ distinct-append [] ys p q a = q
 distinct-append (x ∷ xs) ys p q a = (all-append (λ (y : ℕ). x ≡ y → ⊥) xs ys (p .0) (a .0), distinct-append xs ys (p .1) q (a .1))
 
 apart-all : (P Q : ℕ → Type 0) → ((x y : ℕ) → P x → Q y → x ≡ y → ⊥) → (xs ys : List ℕ) → All P xs → All Q ys → All (λ (x : ℕ). All (λ (y : ℕ). x ≡ y → ⊥) ys) xs
-apart-all P Q f xs ys h k = all-weaken P _ (λ x p. all-weaken Q _ (λ y q. f x y p q) ys k) xs h
+apart-all P Q f xs ys h k = all-map P _ (λ x p. all-map Q _ (λ y q. f x y p q) ys k) xs h
 
 module _ (cs ds es : List ℕ) (us vs : List ℕ) (a : Takes cs ds us) (b : Takes ds es vs) where
   first-wide : All (Between cs es) us
-  first-wide = all-weaken _ _ (between-wide cs cs ds es (λ h. le-refl _) (b .grows)) us (a .each)
+  first-wide = all-map _ _ (between-wide cs cs ds es (λ h. le-refl _) (b .grows)) us (a .each)
 
   second-wide : All (Between cs es) vs
-  second-wide = all-weaken _ _ (between-wide cs ds es es (a .grows) (λ h. le-refl _)) vs (b .each)
+  second-wide = all-map _ _ (between-wide cs ds es es (a .grows) (λ h. le-refl _)) vs (b .each)
 
   grow-both : Grows cs es
   grow-both h = le-trans (a .grows h) (b .grows h)
@@ -105,7 +100,7 @@ takes-none cs = record { grows = λ h. le-refl _; each = tt; apart = tt }
 -- a count that is used up and binds nothing
 takes-extra : (cs ds es vs : List ℕ) → Takes cs ds vs → Grows ds es → Takes cs es vs
 takes-extra cs ds es vs a g =
-    record { grows = λ h. le-trans (a .grows h) (g h); each = all-weaken _ _ (between-wide cs cs ds es (λ h. le-refl _) g) vs (a .each); apart = a .apart }
+    record { grows = λ h. le-trans (a .grows h) (g h); each = all-map _ _ (between-wide cs cs ds es (λ h. le-refl _) g) vs (a .each); apart = a .apart }
 
 takes-one : (h : ℕ) (cs : List ℕ) (f : Fresh) → Took h cs f → Takes cs (f .next) (f .var ∷ [])
 takes-one h cs f t =
@@ -297,10 +292,6 @@ module _ (s : Sig) (n : ℕ) where
   action-old (subsume′ p g es) h = all-leaves-old es (h .args)
   action-old (union′ a b) h = all-append Old (leaves a) (leaves b) (leaves-old a (h .0)) (leaves-old b (h .1))
   action-old (panic′ l) h = (leaf-plain l (or-right (isNameWord l) (isLiteralWord l) h), tt)
-    where
-      or-right : (a b : Bool) → b ≡ true → (a || b) ≡ true
-      or-right true b e = refl
-      or-right false b e = e
   action-old (expr′ e) h = leaves-old e h
 
 pub fresh-are-new : FreshAreNew
@@ -308,7 +299,7 @@ fresh-are-new s ws cs r c k e =
     let t = rule-takes s r cs c e in
     let f = written-formed s ws r k in (
       t .apart,
-      all-weaken _ _ (λ v b. ap isFresh (b .isIt) ∙ fresh-is (b .head) (b .number)) (made c) (t .each),
-      all-weaken _ _ (fact-old s _) (r .facts) (f .facts),
-      all-weaken _ _ (action-old s _) (r .actions) (f .actions),
+      all-map _ _ (λ v b. ap isFresh (b .isIt) ∙ fresh-is (b .head) (b .number)) (made c) (t .each),
+      all-map _ _ (fact-old s _) (r .facts) (f .facts),
+      all-map _ _ (action-old s _) (r .actions) (f .actions),
     )

@@ -9,3 +9,32 @@ pub mod CoreRule
 pub mod Encoded
 pub mod Fits
 pub mod FreshVars
+pub mod SignatureLaws
+-- Settling comes to its end
+pub mod CanonicalizeEnds
+pub mod MergePass
+pub mod RemoveDupVarsEnds
+pub mod Terms
+pub mod DistinctWords
+pub mod Replacements
+-- The sizes of what is read, lowered and settled
+pub mod WordLaws
+pub mod Room
+pub mod SmallAtoms
+pub mod SmallAtomsMerged
+pub mod ReadSizes
+pub mod ReadFlatSizes
+pub mod BodySizes
+pub mod LoweredBody
+pub mod HeadSizes
+pub mod ResultBounds
+-- For code that settles where the words stand
+pub mod ReadBack
+pub mod Unplaced
+pub mod Encodable
+pub mod Signatures
+pub mod Sweep
+pub mod Passes
+-- Demand 3
+pub mod Demand3
+pub mod Example

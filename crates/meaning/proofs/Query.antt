@@ -1,27 +1,23 @@
 -- Flattening keeps the meaning of facts: a flat body has exactly one choice of its fresh variables where the facts are met,
 -- and none where they are not.
 -- Assumes nothing.
-use Prim.Native.Nat.{ℕ, suc, _+_, _≤_, _<_}
+use Prim.Native.Nat.{ℕ}
 use native.Mathlib.Nat.{le-refl, le-trans}
-use native.Mathlib.Decide.{ℕ-discrete, decLt}
 use native.Mathlib.Omega.{arith}
 use mathlib.Core.Path.{_≡_, refl, sym, _∙_, ap, ap₂, subst, transport}
-use mathlib.Core.Logic.{by-cases}
-use mathlib.Core.Bool.{Bool, true, false, cond, _||_}
+use mathlib.Core.Bool.{Bool, false, cond}
 use mathlib.Core.List.{List, [], _∷_, _++_, map, head-eq-of-cons-eq, tail-eq-of-cons-eq}
 use mathlib.Core.Option.{Option, none, some, Option·some-injective, Option·none-ne-some}
-use lib.ListN.{length, set, List·getD-eq-default}
-use lib.Seq.{getD-set-same, getD-set-other}
-use lib.Dec.{leb, ltb}
-use borrow.Author.Tests.{eq-eqb, ne-eqb, le-leb, ltb-true, leb-false}
+use borrow.Author.Tests.{eq-eqb, ne-eqb}
 use Rattle.rules.specs.Signature.{Sig, isVar, isFresh}
-use Rattle.rules.specs.Words.{freshBase, nameBase, freshWord}
+use Rattle.rules.specs.Words.{freshWord}
 use Rattle.rules.specs.Written.{Expr, Exprs, leaf, call, end, _then_, Fact, holds, equal}
 use Rattle.rules.specs.Flat.{Atom, eqn, tab}
-use Rattle.rules.specs.Refusals.{Res, ok, refuse}
+use Rattle.rules.specs.Refusals.{ok}
 use Rattle.rules.specs.ToQuery.{count, Fresh, fresh, Flat, Flats, flatten, flattenAll, Query, flattenFact, toQuery, termsOf}
 use Rattle.meaning.specs.Meaning.{World, All, upd, andThen, val, eval, evalAll, FactHolds, AtomHolds}
 use Rattle.meaning.proofs.Lists.{all-append, all-left, all-right}
+use Rattle.meaning.proofs.Terms.{AllTerms, all-terms-map}
 use Rattle.meaning.proofs.Results.{bind-ok, ok-inj}
 use Rattle.meaning.proofs.Fresh.{Before, Grows, Took, took, before-later, plain-before, fresh-var}
 
@@ -44,18 +40,6 @@ abbrev mutual
 abbrev pub PlainFact : Fact → Type 0
 PlainFact (holds e) = Plain e
 PlainFact (equal p a b) = Plain a × Plain b
-
--- a property of every term of a body
-abbrev pub Words : (ℕ → Type 0) → List Atom → Type 0
-Words P xs = All (λ (a : Atom). All P (termsOf a)) xs
-
-pub all-map : (P Q : ℕ → Type 0) → ((w : ℕ) → P w → Q w) → (ts : List ℕ) → All P ts → All Q ts
-all-map P Q f [] h = tt
-all-map P Q f (t ∷ ts) h = (f t (h .0), all-map P Q f ts (h .1))
-
-pub words-map : (P Q : ℕ → Type 0) → ((w : ℕ) → P w → Q w) → (xs : List Atom) → Words P xs → Words Q xs
-words-map P Q f [] h = tt
-words-map P Q f (x ∷ xs) h = (all-map P Q f (termsOf x) (h .0), words-map P Q f xs (h .1))
 
 -- two choices of values agree on names, or on all that was made before the counters cs
 abbrev pub AgreePlain : {D : Type 0} → (ℕ → D) → (ℕ → D) → Type 0
@@ -105,13 +89,13 @@ module _ {D : Type 0} (s : Sig) (W : World D) where
       ap₂ (λ (xs : List D) (y : D). W .table (t .head) xs ≡ some y)
       (same-all σ τ (t .ins) (all-left (Same σ τ) (t .ins) (t .out ∷ []) h)) (all-right (Same σ τ) (t .ins) (t .out ∷ []) h .0)
 
-  pub atoms-agree : (σ τ : ℕ → D) (xs : List Atom) → Words (Same σ τ) xs → All (AtomHolds s W σ) xs ≡ All (AtomHolds s W τ) xs
+  pub atoms-agree : (σ τ : ℕ → D) (xs : List Atom) → AllTerms (Same σ τ) xs → All (AtomHolds s W σ) xs ≡ All (AtomHolds s W τ) xs
   atoms-agree σ τ [] h = refl
   atoms-agree σ τ (x ∷ xs) h = ap₂ (λ (X Y : Type 0). X × Y) (atom-agree σ τ x (h .0)) (atoms-agree σ τ xs (h .1))
 
   -- atoms made before the counters cs hold as well where only later fresh variables change
-  still : (cs : List ℕ) (σ τ : ℕ → D) (xs : List Atom) → Words (Before cs) xs → AgreeBefore cs σ τ → All (AtomHolds s W σ) xs → All (AtomHolds s W τ) xs
-  still cs σ τ xs b a h = transport (atoms-agree σ τ xs (words-map (Before cs) (Same σ τ) (λ w k. val-agree σ τ w (a w k)) xs b)) h
+  still : (cs : List ℕ) (σ τ : ℕ → D) (xs : List Atom) → AllTerms (Before cs) xs → AgreeBefore cs σ τ → All (AtomHolds s W σ) xs → All (AtomHolds s W τ) xs
+  still cs σ τ xs b a h = transport (atoms-agree σ τ xs (all-terms-map (Before cs) (Same σ τ) (λ w k. val-agree σ τ w (a w k)) xs b)) h
 
   pub val-fresh : (σ : ℕ → D) (h c x : ℕ) → x ≡ freshWord h c → val s W σ x ≡ σ x
   val-fresh σ h c x e = ap (λ (b : Bool). cond b (σ x) (W .fixed x)) (fresh-var s h c x e)
@@ -121,18 +105,18 @@ module _ {D : Type 0} (s : Sig) (W : World D) where
   pub record Good (e : Expr) (cs : List ℕ) (r : Flat) : Type 0 where
     pub grows : Grows cs (r .next)
     pub term : Before (r .next) (r .term)
-    pub words : Words (Before (r .next)) (r .atoms)
+    pub words : AllTerms (Before (r .next)) (r .atoms)
     pub sound : (σ : ℕ → D) → All (AtomHolds s W σ) (r .atoms) → eval s W σ e ≡ some (val s W σ (r .term))
     pub complete : (σ : ℕ → D) (v : D) → eval s W σ e ≡ some v → (τ : ℕ → D) × AgreeBefore cs σ τ × All (AtomHolds s W τ) (r .atoms)
-    pub unique : (σ τ : ℕ → D) → AgreePlain σ τ → All (AtomHolds s W σ) (r .atoms) → All (AtomHolds s W τ) (r .atoms) → Words (Same σ τ) (r .atoms)
+    pub unique : (σ τ : ℕ → D) → AgreePlain σ τ → All (AtomHolds s W σ) (r .atoms) → All (AtomHolds s W τ) (r .atoms) → AllTerms (Same σ τ) (r .atoms)
 
   pub record Goods (es : Exprs) (cs : List ℕ) (r : Flats) : Type 0 where
     pub grows : Grows cs (r .next)
     pub terms : All (Before (r .next)) (r .terms)
-    pub words : Words (Before (r .next)) (r .atoms)
+    pub words : AllTerms (Before (r .next)) (r .atoms)
     pub sound : (σ : ℕ → D) → All (AtomHolds s W σ) (r .atoms) → evalAll s W σ es ≡ some (map (val s W σ) (r .terms))
     pub complete : (σ : ℕ → D) (vs : List D) → evalAll s W σ es ≡ some vs → (τ : ℕ → D) × AgreeBefore cs σ τ × All (AtomHolds s W τ) (r .atoms)
-    pub unique : (σ τ : ℕ → D) → AgreePlain σ τ → All (AtomHolds s W σ) (r .atoms) → All (AtomHolds s W τ) (r .atoms) → Words (Same σ τ) (r .atoms)
+    pub unique : (σ τ : ℕ → D) → AgreePlain σ τ → All (AtomHolds s W σ) (r .atoms) → All (AtomHolds s W τ) (r .atoms) → AllTerms (Same σ τ) (r .atoms)
 
   good-leaf : (p w : ℕ) (cs : List ℕ) → isFresh w ≡ false → Good (leaf p w) cs (record { term = w; atoms = []; next = cs })
   good-leaf p w cs h =
@@ -172,7 +156,7 @@ module _ {D : Type 0} (s : Sig) (W : World D) where
               (ap (λ (x : List D). W .table h x) vs ∙ q .2 ∙ ap (λ (x : D). some x) (sym (upd-same σ (f .var) v) ∙ t .1 (f .var) (k .after) ∙ sym (val-fresh τ h (count cs h) (f .var) (k .isIt))), tt),
         )
 
-    call-unique : (σ τ : ℕ → D) → AgreePlain σ τ → All (AtomHolds s W σ) atoms-call → All (AtomHolds s W τ) atoms-call → Words (Same σ τ) atoms-call
+    call-unique : (σ τ : ℕ → D) → AgreePlain σ τ → All (AtomHolds s W σ) atoms-call → All (AtomHolds s W τ) atoms-call → AllTerms (Same σ τ) atoms-call
     call-unique σ τ a H K =
         let H₀ = all-left (AtomHolds s W σ) (r .atoms) (own ∷ []) H in
         let K₀ = all-left (AtomHolds s W τ) (r .atoms) (own ∷ []) K in
@@ -202,7 +186,7 @@ module _ {D : Type 0} (s : Sig) (W : World D) where
       record { grows = λ g. le-refl _; terms = tt; words = tt; sound = λ σ k. refl; complete = λ σ v k. (σ, λ x b. refl, tt); unique = λ σ τ a k l. tt }
 
   -- two parts in a row, the second from the counters that the first leaves
-  module _ (cs : List ℕ) (xs ys : List Atom) (ds : List ℕ) (wx : Words (Before ds) xs) where
+  module _ (cs : List ℕ) (xs ys : List Atom) (ds : List ℕ) (wx : AllTerms (Before ds) xs) where
     row-complete : (σ : ℕ → D)
         (t : (τ : ℕ → D) × AgreeBefore cs σ τ × All (AtomHolds s W τ) xs)
         → (u : (τ : ℕ → D) × AgreeBefore ds (t .0) τ × All (AtomHolds s W τ) ys)
@@ -222,7 +206,7 @@ module _ {D : Type 0} (s : Sig) (W : World D) where
         terms = (before-later (r .next) (q .next) (k .grows) (r .term) (g .term), k .terms);
         words =
             all-append (λ (x : Atom). All (Before (q .next)) (termsOf x)) (r .atoms) (q .atoms)
-            (words-map (Before (r .next)) (Before (q .next)) (before-later (r .next) (q .next) (k .grows)) (r .atoms) (g .words)) (k .words);
+            (all-terms-map (Before (r .next)) (Before (q .next)) (before-later (r .next) (q .next) (k .grows)) (r .atoms) (g .words)) (k .words);
         sound = λ σ H.
             ap₂ (λ (o : Option D) (p : Option (List D)). andThen o (λ v. andThen p (λ vs. some (v ∷ vs))))
             (g .sound σ (all-left (AtomHolds s W σ) (r .atoms) (q .atoms) H)) (k .sound σ (all-right (AtomHolds s W σ) (r .atoms) (q .atoms) H));
@@ -271,10 +255,10 @@ module _ {D : Type 0} (s : Sig) (W : World D) where
   -- what flattening facts gives, H being when they are met
   pub record GoodQ (H : (ℕ → D) → Type 0) (cs : List ℕ) (q : Query) : Type 0 where
     pub grows : Grows cs (q .next)
-    pub words : Words (Before (q .next)) (q .atoms)
+    pub words : AllTerms (Before (q .next)) (q .atoms)
     pub sound : (σ : ℕ → D) → All (AtomHolds s W σ) (q .atoms) → H σ
     pub complete : (σ : ℕ → D) → H σ → (τ : ℕ → D) × AgreeBefore cs σ τ × All (AtomHolds s W τ) (q .atoms)
-    pub unique : (σ τ : ℕ → D) → AgreePlain σ τ → All (AtomHolds s W σ) (q .atoms) → All (AtomHolds s W τ) (q .atoms) → Words (Same σ τ) (q .atoms)
+    pub unique : (σ τ : ℕ → D) → AgreePlain σ τ → All (AtomHolds s W σ) (q .atoms) → All (AtomHolds s W τ) (q .atoms) → AllTerms (Same σ τ) (q .atoms)
 
   good-holds : (e : Expr) (cs : List ℕ) (r : Flat) → Good e cs r → GoodQ (λ σ. FactHolds s W σ (holds e)) cs (record { atoms = r .atoms; next = r .next })
   good-holds e cs r g =
@@ -319,7 +303,7 @@ module _ {D : Type 0} (s : Sig) (W : World D) where
         (k .complete (t .0) (h .0) (sym (eval-agree σ (t .0) (before-plain cs σ (t .0) (t .1)) b pb) ∙ h .2)) (g .grows) in
         (u .0, u .1, all-append (AtomHolds s W (u .0)) first (eqn-own ∷ []) (u .2) (equal-own σ (u .0) (before-plain cs σ (u .0) (u .1)) pa h (u .2), tt))
 
-    equal-unique : Plain a → (σ τ : ℕ → D) → AgreePlain σ τ → All (AtomHolds s W σ) atoms-equal → All (AtomHolds s W τ) atoms-equal → Words (Same σ τ) atoms-equal
+    equal-unique : Plain a → (σ τ : ℕ → D) → AgreePlain σ τ → All (AtomHolds s W σ) atoms-equal → All (AtomHolds s W τ) atoms-equal → AllTerms (Same σ τ) atoms-equal
     equal-unique pa σ τ ag H K =
         let H₀ = all-left (AtomHolds s W σ) first (eqn-own ∷ []) H in
         let K₀ = all-left (AtomHolds s W τ) first (eqn-own ∷ []) K in
@@ -343,7 +327,7 @@ module _ {D : Type 0} (s : Sig) (W : World D) where
           grows = λ x. le-trans (g .grows x) (k .grows x);
           words =
               all-append (λ (x : Atom). All (Before (q .next)) (termsOf x)) first (eqn-own ∷ [])
-              (all-append (λ (x : Atom). All (Before (q .next)) (termsOf x)) (r .atoms) (q .atoms) (words-map (Before (r .next)) (Before (q .next)) tr (r .atoms) (g .words)) (k .words))
+              (all-append (λ (x : Atom). All (Before (q .next)) (termsOf x)) (r .atoms) (q .atoms) (all-terms-map (Before (r .next)) (Before (q .next)) tr (r .atoms) (g .words)) (k .words))
               ((tr (r .term) (g .term), (k .term, tt)), tt);
           sound = equal-sound;
           complete = equal-complete pa;
@@ -368,7 +352,7 @@ module _ {D : Type 0} (s : Sig) (W : World D) where
         grows = λ x. le-trans (g .grows x) (k .grows x);
         words =
             all-append (λ (x : Atom). All (Before (q .next)) (termsOf x)) (r .atoms) (q .atoms)
-            (words-map (Before (r .next)) (Before (q .next)) (before-later (r .next) (q .next) (k .grows)) (r .atoms) (g .words)) (k .words);
+            (all-terms-map (Before (r .next)) (Before (q .next)) (before-later (r .next) (q .next) (k .grows)) (r .atoms) (g .words)) (k .words);
         sound = λ σ H. (g .sound σ (all-left (AtomHolds s W σ) (r .atoms) (q .atoms) H), k .sound σ (all-right (AtomHolds s W σ) (r .atoms) (q .atoms) H));
         complete = λ σ h.
             let t = g .complete σ (h .0) in

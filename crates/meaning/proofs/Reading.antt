@@ -1,17 +1,17 @@
 -- What is read from the words of a written rule is well formed: its leaves are names and literals, its heads are the signature's.
 -- Assumes nothing.
-use Prim.Native.Nat.{ℕ, zero, suc, _+_, _-_, _*_, _/_, _≤_, _<_}
+use Prim.Native.Nat.{ℕ, zero, suc, _+_, _*_, _≤_, _<_}
 use native.Mathlib.Omega.{arith}
 use mathlib.Core.Path.{_≡_, refl, sym, ap, subst}
 use mathlib.Core.Bool.{Bool, true, false, cond, _&&_, _||_}
-use mathlib.Core.List.{List, [], _∷_}
+use mathlib.Core.List.{List}
 use lib.ListN.{length, getD}
 use lib.Dec.{leb, ltb, eqb}
 use borrow.Author.Tests.{ltb-true, leb-true, lt-leb}
 use Rattle.rules.specs.Words.{limit12, limit16, maxDepth, freshBase, nameBase, literalBase, headBase, equalityWord, within, isNameWord, isLiteralWord, isHeadWord, isHeaderWord, headOf, countOf, factsOf, actionsOf, Code, aLet, aSet, aDelete, aSubsume, aUnion, aPanic, aCall, anExpression, noCode}
-use Rattle.rules.specs.Refusals.{Res, ok, refuse, unfit, tooDeep}
+use Rattle.rules.specs.Refusals.{ok, refuse, unfit, tooDeep}
 use Rattle.rules.specs.Signature.{Sig, heads, isFresh}
-use Rattle.rules.specs.Written.{Expr, Exprs, leaf, call, end, _then_, Fact, holds, equal, Action, let′, set′, delete′, subsume′, union′, panic′, expr′, Rule, Read, Reader, isLeaf, isCall, isBad, readMany, readRow, readShape, readExpr, readWord, Target, readTarget, readEqual, readHolds, readFact, readCode, codeAt, readAction, allRead, readWritten}
+use Rattle.rules.specs.Written.{Expr, Exprs, leaf, call, end, _then_, Fact, holds, equal, Action, let′, set′, delete′, subsume′, union′, panic′, expr′, Rule, Read, Reader, isLeaf, isCall, isBad, readMany, readRow, readShape, readExpr, readWord, Target, readTarget, readEqual, readHolds, readFact, readCode, codeAt, readAction, readWritten}
 use Rattle.meaning.specs.Meaning.{All}
 use Rattle.meaning.proofs.Lists.{and-left, and-right}
 use Rattle.meaning.proofs.Results.{bind-ok, ok-inj, refuse-ok, demand-ok}

@@ -3,8 +3,8 @@
 -- Each is a function of all that is lent, as lists of bytes, scratch by its length alone, to number, place, three counts, and the bytes of output and of
 -- counters after the call. The tests stand in the order in which 01 runs them.
 -- Assumes nothing: these are definitions.
-use Prim.Native.Nat.{ℕ, _+_, _*_, _/_, _%_}
-use mathlib.Core.Bool.{Bool, true, false, _&&_}
+use Prim.Native.Nat.{ℕ, _*_, _/_, _%_}
+use mathlib.Core.Bool.{Bool, true, _&&_}
 use mathlib.Core.List.{List, [], _∷_, _++_}
 use lib.ListN.{length, drop}
 use lib.Dec.{leb, eqb}
@@ -13,8 +13,8 @@ use Rattle.rules.specs.Words.{maxWritten, maxFlat, scratchWords}
 use Rattle.rules.specs.Refusals.{Res, ok, refuse, _>>=_, demand, fewCounters, smallScratch, badLength, shortOutput, ragged}
 use Rattle.rules.specs.Signature.{Sig, heads, readSignature}
 use Rattle.rules.specs.Written.{Rule, readWritten}
-use Rattle.rules.specs.Flat.{Atom, CoreAction, encode, readFlat}
-use Rattle.rules.specs.ToCoreActions.{CoreRule, toCoreRule}
+use Rattle.rules.specs.Flat.{CoreAction, encode, readFlat}
+use Rattle.rules.specs.ToCoreActions.{toCoreRule}
 use Rattle.rules.specs.Canonicalize.{bindings}
 use Rattle.rules.specs.RemoveDupVars.{Settled, settle}
 use Rattle.rules.specs.FreeVars.{getFreeVars}

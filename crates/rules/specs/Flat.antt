@@ -2,14 +2,14 @@
 -- Terms are words: a variable, a global or a literal is the word that stands for it.
 -- Assumes nothing: these are definitions.
 use Prim.Native.Nat.{ℕ, suc, _-_}
-use mathlib.Core.Bool.{Bool, true, false, _||_, cond}
+use mathlib.Core.Bool.{Bool, _||_, cond}
 use mathlib.Core.List.{List, [], _∷_, _++_}
 use lib.ListN.{length, getD}
 use lib.Dec.{ltb, eqb}
 use Rattle.rules.specs.Words.{headWord, headerWord, equalityWord, actionWord, isNameWord, isLiteralWord, isFreshWord, isHeadWord, isEqualityWord, isHeaderWord, headOf, countOf, factsOf, actionsOf, Code, aLet, aSet, aDelete, aSubsume, aUnion, aPanic, aCall, anExpression, noCode}
 use Rattle.rules.specs.Refusals.{Res, ok, refuse, _>>=_, unfit, noTerms, notTwo}
 use Rattle.rules.specs.Signature.{Sig, heads}
-use Rattle.rules.specs.Written.{Read, Reader, readWord, readRow, codeAt, allRead}
+use Rattle.rules.specs.Written.{Reader, readWord, readRow, codeAt, allRead}
 
 -- ---- atoms. Each carries the place it came from; the words of an atom leave it out
 

@@ -4,7 +4,7 @@
 --
 -- Assumes nothing: these are definitions.
 use Prim.Native.Nat.{ℕ, zero, suc}
-use mathlib.Core.Bool.{Bool, true, false, _||_, _&&_, cond, not}
+use mathlib.Core.Bool.{Bool, false, _||_, _&&_, cond, not}
 use mathlib.Core.List.{List, [], _∷_, _++_, map}
 use lib.ListN.{length}
 use lib.Dec.{eqb}

@@ -6,7 +6,7 @@ use mathlib.Core.List.{List, [], _∷_}
 use lib.ListN.{length, getD}
 use lib.Dec.{leb, ltb, eqb}
 use Rattle.rules.specs.Words.{limit12, freshBase, nameBase, signatureBase, within}
-use Rattle.rules.specs.Refusals.{Res, ok, refuse, _>>=_, demand, badSignature}
+use Rattle.rules.specs.Refusals.{Res, ok, _>>=_, demand, badSignature}
 
 -- G, the value-eq head, the union-to-set flag, and the kind of each head: 0 function, 1 constructor, 2 primitive. H is the number of kinds
 pub record Sig : Type 0 where

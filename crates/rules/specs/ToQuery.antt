@@ -9,7 +9,7 @@ use mathlib.Core.List.{List, [], _∷_, _++_}
 use lib.ListN.{getD, set}
 use lib.Dec.{ltb}
 use Rattle.rules.specs.Words.{limit16, freshWord}
-use Rattle.rules.specs.Refusals.{Res, ok, refuse, _>>=_, demand, usedUp}
+use Rattle.rules.specs.Refusals.{Res, ok, _>>=_, demand, usedUp}
 use Rattle.rules.specs.Signature.{Sig, isVar}
 use Rattle.rules.specs.Written.{Expr, Exprs, leaf, call, end, _then_, Fact, holds, equal}
 use Rattle.rules.specs.Flat.{Atom, eqn, tab}

@@ -2,13 +2,13 @@
 -- Assumes nothing.
 use Prim.Native.Nat.{ℕ, zero, suc, _+_, _-_, _*_}
 use mathlib.Core.Path.{_≡_, refl}
-use mathlib.Core.Bool.{Bool, true, false, _&&_, cond}
+use mathlib.Core.Bool.{Bool, true, _&&_, cond}
 use mathlib.Core.List.{List, [], _∷_, _++_, map}
 use lib.ListN.{length, replicate}
 use lib.Dec.{leb, eqb}
 use Rattle.octets.specs.Words.{words, bytesOf}
 use Rattle.rules.specs.Words.{scratchWords}
-use Rattle.rules.specs.Refusals.{Res, ok, refuse}
+use Rattle.rules.specs.Refusals.{ok, refuse}
 use Rattle.rules.specs.Flat.{wordsOf}
 use Rattle.rules.specs.Calls.{Outcome, lower}
 use Rattle.rules.specs.Program.{wordLine, printed, program}
