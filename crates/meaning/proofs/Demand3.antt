@@ -5,7 +5,7 @@ use mathlib.Core.Path.{_≡_, refl, _∙_, ap, ap₂, subst, transport, transpor
 use mathlib.Core.List.{List, [], _∷_, _++_}
 use lib.ListN.{length}
 use lib.Seq.{take-at}
-use Rattle.rules.specs.Words.{limit16, maxWritten}
+use Rattle.rules.specs.Words.{limit12, limit16, maxWritten}
 use Rattle.rules.specs.Refusals.{ok}
 use Rattle.rules.specs.Signature.{Sig}
 use Rattle.rules.specs.Written.{Rule, readWritten, Expr, Exprs, leaf, call, end, _then_, Fact, holds, equal, Action, let′, set′, delete′, subsume′, union′, panic′, expr′}
@@ -14,20 +14,20 @@ use Rattle.rules.specs.ToQuery.{Query, toQuery, bodyVars}
 use Rattle.rules.specs.ToCoreActions.{CoreRule, toCoreActions, toCoreRule}
 use Rattle.rules.specs.Canonicalize.{Replacement, bindings}
 use Rattle.rules.specs.RemoveDupVars.{Settled, settle}
-use Rattle.rules.specs.Calls.{Result}
+use Rattle.rules.specs.Calls.{Result, lowerWords}
 use Rattle.meaning.specs.Meaning.{World, All, TabHolds, AtomHolds, Bound}
 use Rattle.meaning.specs.Demand3.{join, BindingHolds, Meets, Faithful, Demand3}
 use Rattle.meaning.proofs.Lists.{all-append, all-map}
 use Rattle.meaning.proofs.Results.{bind-ok, ok-inj}
 use Rattle.meaning.proofs.Reading.{Formed, FormedAll, FormedFact, FormedAction, FormedRule, leaf-plain, written-formed}
-use Rattle.meaning.proofs.SignatureLaws.{signature-sound}
+use Rattle.meaning.proofs.SignatureLaws.{SoundSignature, signature-sound}
 use Rattle.meaning.proofs.Query.{Plain, Plains, PlainFact}
 use Rattle.meaning.proofs.CoreActions.{PlainAction}
 use Rattle.meaning.proofs.Settling.{SettledHolds}
 use Rattle.meaning.proofs.CoreRule.{PlainRule, Keeps, core-rule-keeps}
-use Rattle.meaning.proofs.Encoded.{placed, tabAt, FitAction, reads-back}
+use Rattle.meaning.proofs.Encoded.{placed, tabAt, FitTab, FitAction, reads-back}
 use Rattle.meaning.proofs.Fits.{FitAtom, query-fits, actions-fit, settle-fits, bindings-fit}
-use Rattle.meaning.proofs.ResultBounds.{lower-inverse, lowered-counts}
+use Rattle.meaning.proofs.ResultBounds.{Lowered, lower-inverse, lowered-counts}
 use Rattle.meaning.proofs.WordLaws.{length-bindings}
 
 -- ---- no fresh variable is written
@@ -127,30 +127,57 @@ core-fits s rule counters short r read c e =
       acts = actions-fit s (length rule) small (r .actions) (formed .actions) bound (q .0 .next) (d .0) (d .1);
     })
 
+-- an accepted result: the words of a settled body and a head that are well formed
+pub record Accepted (signature rule counters : List ℕ) (o : Result) : Type 0 where
+  pub from : Lowered signature rule counters o
+  pub fits : CoreFits (from .sig) (from .tree) counters (from .core)
+  pub sound : SoundSignature (from .sig)
+  pub tabs : All (FitTab (from .sig)) (settle (from .sig) (from .core .body) .tabs)
+  pub acts : All (FitAction (from .sig)) (bindings (settle (from .sig) (from .core .body) .repls) ++ from .core .head)
+  pub few : length (settle (from .sig) (from .core .body) .tabs) < limit12
+  pub some : length (bindings (settle (from .sig) (from .core .body) .repls) ++ from .core .head) < limit12
+
+pub accepted : (signature rule counters : List ℕ) (room scratch : ℕ) (o : Result) → lowerWords signature rule counters room scratch ≡ ok o → Accepted signature rule counters o
+accepted signature rule counters room scratch o e =
+    let w = lower-inverse signature rule counters room scratch o e in
+    let c = w .core in
+    let b = settle (w .sig) (c .body) in
+    let f = core-fits (w .sig) rule counters (w .short) (w .tree) (w .read) c (w .lowers) in
+    let counts = lowered-counts (w .sig) rule counters (w .tree) c (w .read) (w .lowers) (w .short) in
+    let sound = signature-sound signature (w .sig) (w .reads) in
+    let fit = settle-fits (w .sig) (sound .value-eq-known) (c .body) (f .atoms) in
+    record {
+      from = w;
+      fits = f;
+      sound = sound;
+      tabs = fit .tabs;
+      acts = all-append (FitAction (w .sig)) (bindings (b .repls)) (c .head) (bindings-fit (w .sig) (b .repls) (fit .repls)) (f .acts);
+      few = counts .0;
+      some = counts .1;
+    }
+
 pub demand3 : Demand3
 demand3 signature rule counters room scratch o e =
-    let w = lower-inverse signature rule counters room scratch o e in
+    let a = accepted signature rule counters room scratch o e in
+    let w = a .from in
     let s = w .sig in
     let c = w .core in
     let b = settle s (c .body) in
-    let f = core-fits s rule counters (w .short) (w .tree) (w .read) c (w .lowers) in
-    let few = lowered-counts s rule counters (w .tree) c (w .read) (w .lowers) (w .short) in
-    let fit = settle-fits s (signature-sound signature s (w .reads) .value-eq-known) (c .body) (f .atoms) in
-    let acts = all-append (FitAction s) (bindings (b .repls)) (c .head) (bindings-fit s (b .repls) (fit .repls)) (f .acts) in
     let flat : FlatRule = record { atoms = placed tabWords tabAt 1 (b .tabs); actions = bindings (b .repls) ++ c .head } in
-    let back : readFlat s (encode (b .tabs) (bindings (b .repls) ++ c .head)) ≡ ok flat = reads-back s (b .tabs) (bindings (b .repls) ++ c .head) (fit .tabs) acts (few .0) (few .1) in (
+    let back : readFlat s (encode (b .tabs) (bindings (b .repls) ++ c .head)) ≡ ok flat = reads-back s (b .tabs) (bindings (b .repls) ++ c .head) (a .tabs) (a .acts) (a .few) (a .some) in (
       record {
         sig = s;
         written = w .tree;
-        query = f .query;
+        query = a .fits .query;
         lowered = flat;
         reads-signature = w .reads;
         reads-written = w .read;
-        flattens = f .flattens;
+        flattens = a .fits .flattens;
         reads-lowered = subst (λ (x : Result). readFlat s (x .words) ≡ ok flat) (w .gives) back;
       },
       λ D stable W eqs.
-          subst (λ (xs : List Atom). Faithful s W (w .tree) xs flat (o .replacements)) (f .same)
+          subst (λ (xs : List Atom). Faithful s W (w .tree) xs flat (o .replacements)) (a .fits .same)
           (subst (λ (n : ℕ). Faithful s W (w .tree) (c .body) flat n) (ap (λ (x : Result). x .replacements) (w .gives))
-          (faithful s W (w .tree) c (core-rule-keeps stable s W eqs (w .tree) (plain-rule s (length rule) (w .tree) (written-formed s rule (w .tree) (w .read))) counters c (w .lowers)))),
+          (faithful s W (w .tree) c
+          (core-rule-keeps stable s W eqs (w .tree) (plain-rule s (length rule) (w .tree) (written-formed s rule (w .tree) (w .read))) counters c (w .lowers)))),
     )

@@ -96,7 +96,7 @@ facts-met : All (FactHolds sig world sevens) (written .facts)
 facts-met = ((7, refl, refl), ((7, refl, refl), tt))
 
 -- some choice of values for the fresh variables meets the lowered rule
-pub matched : (c : Carried flagOn p1 zeros result) × (φ : ℕ → ℕ) × Meets (c .sig) world (c .lowered) 3 (join sevens φ)
+pub matched : (c : Carried flagOn p1 zeros (result .words)) × (φ : ℕ → ℕ) × Meets (c .sig) world (c .lowered) 3 (join sevens φ)
 matched =
     let d = demand3 flagOn p1 zeros 17 scratchWords result accepted in
     let c = d .0 in

@@ -35,6 +35,9 @@ pub mod Encodable
 pub mod Signatures
 pub mod Sweep
 pub mod Passes
+-- Numbers of refusals
+pub mod Numbers
 -- Demand 3
 pub mod Demand3
+pub mod Demand3Bytes
 pub mod Example

@@ -1,17 +1,18 @@
 -- Demand 3, as a statement. It is proved in proofs/Demand3.antt, and can be read with `Meaning` and the definitions of `rules` alone.
 -- Assumes nothing: what demand 3 supposes of tables, of value-eq and of values stands in the statement.
-use Prim.Native.Nat.{ℕ}
+use Prim.Native.Nat.{ℕ, _*_}
 use mathlib.Core.Path.{_≡_}
 use mathlib.Core.Logic.{_↔_}
 use mathlib.Core.Bool.{true, cond}
 use mathlib.Core.List.{List, []}
 use lib.ListN.{take}
+use Rattle.octets.specs.Words.{words}
 use Rattle.rules.specs.Refusals.{ok}
 use Rattle.rules.specs.Signature.{Sig, isFresh, readSignature}
 use Rattle.rules.specs.Written.{Rule, readWritten}
 use Rattle.rules.specs.Flat.{Atom, CoreAction, Let, Set, Delete, Subsume, Union, Panic, Call, FlatRule, readFlat}
 use Rattle.rules.specs.ToQuery.{Query, toQuery, termsOf}
-use Rattle.rules.specs.Calls.{Result, lowerWords}
+use Rattle.rules.specs.Calls.{Result, lowerWords, lower}
 use Rattle.meaning.specs.Meaning.{World, ValueEq, All, val, FactHolds, AtomHolds, Answers, runActions, runCoreActions}
 
 -- equality of values that cannot be denied holds. Of values this is all that is asked: it is so wherever equality can be decided
@@ -52,7 +53,7 @@ pub record Faithful {D : Type 0} (s : Sig) (W : World D) (r : Rule) (body : List
       ≡ runActions s W answers (r .actions) (record { env = ρ; trace = [] }) .trace
 
 -- what was lowered and what came of it: the signature and the written rule as read, the flat body, and the result as it is read back from its words
-pub record Carried (signature rule counters : List ℕ) (o : Result) : Type 0 where
+pub record Carried (signature rule counters result : List ℕ) : Type 0 where
   pub sig : Sig
   pub written : Rule
   pub query : Query
@@ -60,11 +61,24 @@ pub record Carried (signature rule counters : List ℕ) (o : Result) : Type 0 wh
   pub reads-signature : readSignature signature ≡ ok sig
   pub reads-written : readWritten sig rule ≡ ok written
   pub flattens : toQuery (written .facts) counters ≡ ok query
-  pub reads-lowered : readFlat sig (o .words) ≡ ok lowered
+  pub reads-lowered : readFlat sig result ≡ ok lowered
 
--- demand 3: whatever is accepted, whatever its signature and counters, is faithful, whatever the tables hold
+-- a result with n replacements is faithful, whatever the tables hold
+abbrev pub CarriedFaithfully : (signature rule counters result : List ℕ) → ℕ → Type 1
+CarriedFaithfully signature rule counters result n =
+    (c : Carried signature rule counters result)
+    × ((D : Type 0) → Stable D → (W : World D) → ValueEq D (c .sig) W → Faithful (c .sig) W (c .written) (c .query .atoms) (c .lowered) n)
+
+-- demand 3: whatever is accepted, whatever its signature and counters
 abbrev pub Demand3 : Type 1
 Demand3 =
     (signature rule counters : List ℕ) (room scratch : ℕ) (o : Result) → lowerWords signature rule counters room scratch ≡ ok o
-    → (c : Carried signature rule counters o)
-    × ((D : Type 0) → Stable D → (W : World D) → ValueEq D (c .sig) W → Faithful (c .sig) W (c .written) (c .query .atoms) (c .lowered) (o .replacements))
+    → CarriedFaithfully signature rule counters (o .words) (o .replacements)
+
+-- and of bytes: whatever the call gives back with number 0
+abbrev pub Demand3Bytes : Type 1
+Demand3Bytes =
+    (signature rule counters output : List ℕ) (scratch : ℕ) → lower signature rule counters output scratch .number ≡ 0
+    → CarriedFaithfully (words signature) (words rule) (words counters)
+    (words (take (4 * lower signature rule counters output scratch .written) (lower signature rule counters output scratch .output)))
+    (lower signature rule counters output scratch .replacements)

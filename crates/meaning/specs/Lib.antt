@@ -9,3 +9,4 @@ pub mod Weight
 pub mod ReadBack
 pub mod Signatures
 pub mod Sweep
+pub mod Numbers
