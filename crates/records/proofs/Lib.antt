@@ -1,0 +1,5 @@
+-- What the proofs of this crate share, and what those above it cite.
+pub mod WrittenWalk
+pub mod WrittenEnds
+pub mod WrittenLaws
+pub mod WrittenWhole

@@ -1,0 +1,118 @@
+-- Readings put together from others: where they end, and what a walk answers for them. Assumes nothing.
+use mathlib.Core.Path.{_≡_, refl, sym, ap, _∙_}
+use mathlib.Core.Bool.{Bool, true, false, _&&_}
+use mathlib.Core.List.{List}
+use Prim.Native.Nat.{ℕ, zero, suc, _+_, _-_, _≤_, _<_}
+use native.Mathlib.Omega.{arith}
+use lib.ListN.{length, getD}
+use lib.Dec.{ltb}
+use borrow.Author.Tests.{ltb-true}
+use Rattle.rules.specs.Refusals.{Res, ok, refuse, _>>=_, demand, unfit}
+use Rattle.rules.specs.Written.{Expr, Read, Reader, readWord, readMany, readRow}
+use Rattle.records.specs.declared.written.Walk.{Walk}
+use Rattle.records.specs.Written.{walk, walkOf}
+
+-- ---- where a reading ends
+
+-- A reading that begins at p ends at least j words further and, unless it begins behind the record's end, not behind that end. A refusal is not 0, the number
+-- that a walk gives where there is none, and its place is not behind the end either
+abbrev pub Went : {A : Type 0} → List ℕ → (p j : ℕ) → Res (Read A) → Type 0
+Went ws p j (ok r) = (p + j ≤ r .at) × (r .at - p ≤ length ws - p)
+Went ws p j (refuse n q) = (0 < n) × (q - p ≤ length ws - p)
+
+module _ (ws : List ℕ) where
+  pub went-then : {A B : Type 0} (p j k : ℕ) (x : Res (Read A)) (f : Read A → Res (Read B))
+      → Went ws p j x → ((r : Read A) → Went ws (r .at) k (f r)) → Went ws p (j + k) (_>>=_ x f)
+  went-then {B = B} p j k (ok r) f h g = go (f r) (g r)
+    where
+      go : (y : Res (Read B)) → Went ws (r .at) k y → Went ws p (j + k) y
+      go (ok t) l = (omega arith, omega arith)
+      go (refuse n q) l = (l .0, omega arith)
+  went-then p j k (refuse n q) f h g = h
+
+  -- a value made of what was read
+  pub went-made : {A B : Type 0} (p j : ℕ) (x : Res (Read A)) (f : Read A → B) → Went ws p j x → Went ws p j (_>>=_ x (λ r. ok (record { value = f r; at = r .at })))
+  went-made p j (ok r) f h = h
+  went-made p j (refuse n q) f h = h
+
+  pub went-less : {A : Type 0} (p j k : ℕ) (x : Res (Read A)) → k ≤ j → Went ws p j x → Went ws p k x
+  went-less p j k (ok r) l h = (omega arith, h .1)
+  went-less p j k (refuse n q) l h = h
+
+  -- from the word before, which is there
+  pub went-from : {A : Type 0} (p j : ℕ) (x : Res (Read A)) → p < length ws → Went ws (suc p) j x → Went ws p (suc j) x
+  went-from p j (ok r) l h = (omega arith, omega arith)
+  went-from p j (refuse n q) l h = (h .0, omega arith)
+
+  pub went-word : (fits : ℕ → Bool) (p : ℕ) → Went ws p 1 (readWord ws fits p)
+  went-word fits p = go (ltb p (length ws)) refl (fits (getD ws p 0))
+    where
+      go : (a : Bool) → ltb p (length ws) ≡ a → (b : Bool) → Went ws p 1 (demand (a && b) unfit p (record { value = getD ws p 0; at = suc p }))
+      go true e true = let l = ltb-true p (length ws) e in (omega arith, omega arith)
+      go true e false = (omega arith, omega arith)
+      go false e b = (omega arith, omega arith)
+
+-- ---- a walk follows the reading
+
+-- a refusal is the whole answer
+pub stops : {A B : Type 0} (x : Res (Read A)) (f : Read A → Res (Read B)) {w : Walk} → w ≡ walkOf x → ¬ (w .refused ≡ 0) → w ≡ walkOf (_>>=_ x f)
+stops (ok r) f e h = absurd (h (ap (λ (v : Walk). v .refused) e))
+stops (refuse n p) f e h = e
+
+-- and else the answer is that of the rest
+pub goes : {A B : Type 0} (ws : List ℕ) (p j : ℕ) (x : Res (Read A)) (f : Read A → Res (Read B)) {w z : Walk}
+    → Went ws p j x → w ≡ walkOf x → w .refused ≡ 0 → ((r : Read A) → r .at ≡ w .at → z ≡ walkOf (f r)) → z ≡ walkOf (_>>=_ x f)
+goes ws p j (ok r) f l e h g = g r (sym (ap (λ (v : Walk). v .at) e))
+goes ws p j (refuse n q) f l e h g = let z : n ≡ 0 = sym (ap (λ (v : Walk). v .refused) e) ∙ h in absurd (omega arith)
+
+-- and where it begins again is known
+pub walk-ends : {A : Type 0} (ws : List ℕ) (p j : ℕ) (x : Res (Read A)) {w : Walk}
+    → Went ws p j x → w ≡ walkOf x → w .refused ≡ 0 → (p + j ≤ w .at) × (w .at - p ≤ length ws - p)
+walk-ends ws p j (ok r) l e h = let same = ap (λ (v : Walk). v .at) e in (omega arith, omega arith)
+walk-ends ws p j (refuse n q) l e h = let z : n ≡ 0 = sym (ap (λ (v : Walk). v .refused) e) ∙ h in absurd (omega arith)
+
+-- a value made of what was read ends where the reading did
+pub made : {A B : Type 0} (x : Res (Read A)) (f : Read A → B) → walkOf (_>>=_ x (λ r. ok (record { value = f r; at = r .at }))) ≡ walkOf x
+made (ok r) f = refl
+made (refuse n p) f = refl
+
+-- one thing, then another, and a value made of both
+pub both : {A B C : Type 0} (ws : List ℕ) (p j : ℕ) (x : Res (Read A)) (one : Reader B) (f : Read A → Read B → C) {w z : Walk}
+    → Went ws p j x → w ≡ walkOf x → w .refused ≡ 0 → z ≡ walkOf (one (w .at))
+    → z ≡ walkOf (_>>=_ x (λ a. _>>=_ (one (a .at)) (λ b. ok (record { value = f a b; at = b .at }))))
+both ws p j x one f l e h g = goes ws p j x (λ a. _>>=_ (one (a .at)) (λ b. ok (record { value = f a b; at = b .at }))) l e h (λ r same. rw (made (one (r .at)) (f r), same) g)
+
+-- ---- several things, one after the other
+
+-- a reader of n things, taken apart at the first
+pub record Several {A B : Type 0} (ws : List ℕ) (one : Reader A) (several : ℕ → Reader B) : Type 0 where
+  pub went : (p : ℕ) → Went ws p 1 (one p)
+  pub none : (p : ℕ) → walkOf (several 0 p) ≡ walk 0 p
+  pub more : (n p : ℕ) → walkOf (several (suc n) p) ≡ walkOf (_>>=_ (one p) (λ x. several n (x .at)))
+
+then-made : {A B C : Type 0} (x : Res (Read A)) (one : Reader B) (f : Read A → Read B → C)
+    → walkOf (_>>=_ x (λ a. _>>=_ (one (a .at)) (λ b. ok (record { value = f a b; at = b .at })))) ≡ walkOf (_>>=_ x (λ a. one (a .at)))
+then-made (ok a) one f = made (one (a .at)) (f a)
+then-made (refuse n p) one f = refl
+
+pub many : (ws : List ℕ) (one : Reader Expr) → ((p : ℕ) → Went ws p 1 (one p)) → Several ws one (readMany one)
+many ws one went = record { went = went; none = λ p. refl; more = λ n p. then-made (one p) (readMany one n) _ }
+
+pub row : {A : Type 0} (ws : List ℕ) (one : Reader A) → ((p : ℕ) → Went ws p 1 (one p)) → Several ws one (readRow one)
+row ws one went = record { went = went; none = λ p. refl; more = λ n p. then-made (one p) (readRow one n) _ }
+
+module _ {A B : Type 0} {ws : List ℕ} {one : Reader A} {several : ℕ → Reader B} (k : Several ws one several) where
+  pub no-more : (n p : ℕ) → n ≡ 0 → walk 0 p ≡ walkOf (several n p)
+  no-more zero p z = sym (k .none p)
+  no-more (suc n) p z = absurd (omega arith)
+
+  pub first-stops : (n p : ℕ) {w : Walk} → ¬ (n ≡ 0) → w ≡ walkOf (one p) → ¬ (w .refused ≡ 0) → w ≡ walkOf (several n p)
+  first-stops zero p z e h = absurd (z refl)
+  first-stops (suc n) p z e h = stops (one p) (λ x. several n (x .at)) e h ∙ sym (k .more n p)
+
+  pub one-less : (n p : ℕ) {w : Walk} → ¬ (n ≡ 0) → w ≡ walkOf (one p) → w .refused ≡ 0 → walkOf (several (n - 1) (w .at)) ≡ walkOf (several n p)
+  one-less zero p z e h = absurd (z refl)
+  one-less (suc n) p {w} z e h = goes ws p 1 (one p) (λ x. several n (x .at)) (k .went p) e h (λ r same. rw (down, same)) ∙ sym (k .more n p)
+    where
+      down : suc n - 1 ≡ n
+      down = omega arith

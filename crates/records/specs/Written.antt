@@ -1,0 +1,58 @@
+-- 01, "Words and records" and "Turned back": what the code answers for a written rule, refusals 5 and 6 included.
+-- The readings themselves are those of `rules`.
+-- Assumes nothing: these are definitions.
+use Prim.Native.Nat.{ℕ, min}
+use mathlib.Core.Bool.{false, cond}
+use mathlib.Core.List.{List}
+use lib.ListN.{length, getD, replicate}
+use lib.Dec.{ltb}
+use Rattle.rules.specs.Words.{limit12, isHeaderWord, factsOf, actionsOf, countOf}
+use Rattle.rules.specs.Refusals.{Res, ok, refuse, _>>=_}
+use Rattle.rules.specs.Signature.{Sig}
+use Rattle.rules.specs.Written.{Read, Reader, Rule, Shape, isLeaf, isCall, isBad, readWord, readRow, readFact, readAction}
+use Rattle.words.specs.Word.{wordOf}
+use Rattle.words.specs.declared.Word.{Word}
+use Rattle.words.specs.declared.Word.the-variants.{Unfit}
+use Rattle.records.specs.declared.written.Walk.{Walk}
+use Rattle.records.specs.declared.written.Start.{Start}
+use Rattle.records.specs.declared.written.Start.the-variants.{Takes, Other}
+
+-- a signature of H heads; a kind 3 word can tell 4,096 of them apart, and no signature has more. Reading a written rule asks nothing else of a signature
+abbrev pub withHeads : ℕ → Sig
+withHeads H = record { globals = 0; valueEq = 0; flag = false; kinds = replicate (min H limit12) 0 }
+
+-- ---- the answers
+
+abbrev pub walk : (refused at : ℕ) → Walk
+walk n p = record { refused = n; at = p }
+
+-- where a reading ends, or its refusal
+abbrev pub walkOf : {A : Type 0} → Res (Read A) → Walk
+walkOf (ok r) = walk 0 (r .at)
+walkOf (refuse n p) = walk n p
+
+-- a whole record ends with its words
+abbrev pub wholeOf : List ℕ → Res Rule → Walk
+wholeOf ws (ok r) = walk 0 (length ws)
+wholeOf ws (refuse n p) = walk n p
+
+-- ---- the words
+
+-- the word at an index; behind the end there is none that fits
+unfoldable pub wordAt : List ℕ → ℕ → Word
+wordAt ws p = cond (ltb p (length ws)) (wordOf (getD ws p 0)) Unfit
+
+-- how many arguments a word of this shape takes
+abbrev pub startOf : Shape → ℕ → Start
+startOf isLeaf w = Takes 0
+startOf isCall w = Takes (countOf w)
+startOf isBad w = Other
+
+-- ---- a rule that begins at an index, whatever stands behind it
+
+abbrev pub readRule : Sig → List ℕ → Reader Rule
+readRule s ws p = do
+  w ← readWord ws isHeaderWord p
+  fs ← readRow (readFact s ws) (factsOf (w .value)) (w .at)
+  xs ← readRow (readAction s ws) (actionsOf (w .value)) (fs .at)
+  ok (record { value = record { facts = fs .value; actions = xs .value }; at = xs .at })

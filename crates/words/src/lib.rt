@@ -1,0 +1,160 @@
+// What a word of a record says. Its kind is the count of its leading zero bits, and the bits after the first one bit are its payload.
+ghost use mathlib.Core.Path.{_≡_};
+ghost use Prim.Native.Nat.{_≤_, _<_};
+ghost use Rattle.rules.specs.Words.{equalityBase, literalBase};
+ghost use Rattle.words.specs.Word.{wordOf};
+ghost use Rattle.words.specs.Atom.{termOf, atomOf};
+
+// Heads, names, facts, atoms and actions are numbered below LIMIT_12, counts and literals below LIMIT_16.
+pub const LIMIT_12: u32 = 4096;
+
+pub const LIMIT_16: u32 = 65536;
+
+// The first word of each kind.
+pub const FRESH_BASE: u32 = 0x8000_0000;
+
+pub const NAME_BASE: u32 = 0x4000_0000;
+
+pub const LITERAL_BASE: u32 = 0x2000_0000;
+
+pub const HEAD_BASE: u32 = 0x1000_0000;
+
+pub const EQUALITY_BASE: u32 = 0x0800_0000;
+
+pub const HEADER_BASE: u32 = 0x0400_0000;
+
+pub const ACTION_BASE: u32 = 0x0200_0000;
+
+pub const SIGNATURE_BASE: u32 = 0x0100_0000;
+
+pub enum Word {
+    // kind 0: a fresh variable, its head and its count
+    Fresh(u32, u32),
+    // kind 1: a name
+    Name(u32),
+    // kind 2: a literal
+    Literal(u32),
+    // kind 3: a head, and how many words or expressions stand under it
+    Head(u32, u32),
+    // kind 4: an equality and its count
+    Equality(u32),
+    // kind 5: a rule's header, its facts or atoms and its actions
+    Header(u32, u32),
+    // kind 6: an action, by its code
+    Action(u32),
+    // kind 7: a word of a signature
+    Signature(u32),
+    // no kind, or a payload that does not fit its kind
+    Unfit,
+}
+
+// What a word says: the count of its leading zeros tells the kind, and so where the payload begins.
+pub fn word_of(w: u32) -> Word
+    ensures { λ r. ⌜ r ≡ wordOf w ⌝ }
+{
+    let kind = u32::leading_zeros(w);
+    match kind {
+        0 => {
+            let p = w - FRESH_BASE;
+            Word::Fresh(p / LIMIT_16, p % LIMIT_16)
+        }
+        1 => {
+            let n = w - NAME_BASE;
+            if n < LIMIT_12 {
+                Word::Name(n)
+            } else {
+                Word::Unfit
+            }
+        }
+        2 => {
+            let n = w - LITERAL_BASE;
+            if n < LIMIT_16 {
+                Word::Literal(n)
+            } else {
+                Word::Unfit
+            }
+        }
+        3 => {
+            let p = w - HEAD_BASE;
+            Word::Head(p / LIMIT_16, p % LIMIT_16)
+        }
+        4 => Word::Equality(w - EQUALITY_BASE),
+        5 => {
+            let p = w - HEADER_BASE;
+            if p < LIMIT_12 * LIMIT_12 {
+                Word::Header(p / LIMIT_12, p % LIMIT_12)
+            } else {
+                Word::Unfit
+            }
+        }
+        6 => {
+            let code = w - ACTION_BASE;
+            match code {
+                1..=8 => Word::Action(code),
+                _ => Word::Unfit,
+            }
+        }
+        7 => Word::Signature(w - SIGNATURE_BASE),
+        _ => Word::Unfit,
+    }
+}
+
+// A term by what it is under a signature with G globals. Each case holds the term's word.
+pub enum Term {
+    // a fresh variable, or a name from G up
+    Var(u32),
+    // a name below G
+    Global(u32),
+    Literal(u32),
+}
+
+// The term that a word of a good record is.
+pub fn term_of(w: u32, globals: u32) -> Term
+    ensures { λ r. ⌜ r ≡ termOf globals w ⌝ }
+{
+    let kind = u32::leading_zeros(w);
+    match kind {
+        0 => Term::Var(w),
+        1 => {
+            if w - NAME_BASE < globals {
+                Term::Global(w)
+            } else {
+                Term::Var(w)
+            }
+        }
+        _ => Term::Literal(w),
+    }
+}
+
+// What an atom's table is: a head's, or the equality of its two terms.
+pub enum HeadOrEq {
+    Head(u32),
+    Eq,
+}
+
+// An atom's first word: its head, and how many terms follow.
+pub struct Atom {
+    pub head: HeadOrEq,
+    pub count: u32,
+}
+
+// The atom that a word of kind 3 or 4 begins.
+pub fn atom_of(w: u32) -> Atom
+    requires { ⌜ (equalityBase ≤ w) × (w < literalBase) ⌝ }
+    ensures { λ r. ⌜ r ≡ atomOf w ⌝ }
+{
+    let kind = u32::leading_zeros(w);
+    match kind {
+        3 => {
+            let p = w - HEAD_BASE;
+            Atom {
+                head: HeadOrEq::Head(p / LIMIT_16),
+                count: p % LIMIT_16,
+            }
+        }
+        _ => Atom {
+            head: HeadOrEq::Eq,
+            count: w - EQUALITY_BASE,
+        },
+    }
+}
