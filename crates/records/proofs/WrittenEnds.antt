@@ -21,7 +21,7 @@ module _ (s : Sig) (ws : List ℕ) where
       went-then ws p 0 0 (one p) _ (went-less ws p 1 0 (one p) (lit≤ tt) (h p)) (λ r. went-made ws (r .at) 0 (readMany one n (r .at)) _ (went-many one h n (r .at)))
 
   -- behind a word that is there
-  behind : {A : Type 0} (p : ℕ) (x : Res (Read A)) → p < length ws → Went ws (suc p) 1 x → Went ws p 1 x
+  pub behind : {A : Type 0} (p : ℕ) (x : Res (Read A)) → p < length ws → Went ws (suc p) 1 x → Went ws p 1 x
   behind p x l h = went-less ws p 2 1 x (lit≤ tt) (went-from ws p 1 x l h)
 
   went-shape : (inside : Bool) (args : ℕ → Reader Exprs) → ((n p : ℕ) → Went ws p 0 (args n p)) → (w p : ℕ)
@@ -84,7 +84,7 @@ module _ (s : Sig) (ws : List ℕ) where
       go true e = went-code (codeOf (getD ws p 0)) p (ltb-true p (length ws) e)
       go false e = (omega arith, omega arith)
 
-  went-row : {A : Type 0} (one : Reader A) → ((p : ℕ) → Went ws p 1 (one p)) → (n p : ℕ) → Went ws p 0 (readRow one n p)
+  pub went-row : {A : Type 0} (one : Reader A) → ((p : ℕ) → Went ws p 1 (one p)) → (n p : ℕ) → Went ws p 0 (readRow one n p)
   went-row one h zero p = (omega arith, omega arith)
   went-row one h (suc n) p =
       went-then ws p 0 0 (one p) _ (went-less ws p 1 0 (one p) (lit≤ tt) (h p)) (λ r. went-made ws (r .at) 0 (readRow one n (r .at)) _ (went-row one h n (r .at)))

@@ -22,11 +22,11 @@ use Rattle.records.proofs.WrittenLaws.{heads-with}
 -- ---- results put together
 
 -- the rest may be replaced by one that is the same everywhere
-then-same : {A B : Type 0} (x : Res A) (f g : A → Res B) → ((a : A) → f a ≡ g a) → _>>=_ x f ≡ _>>=_ x g
+pub then-same : {A B : Type 0} (x : Res A) (f g : A → Res B) → ((a : A) → f a ≡ g a) → _>>=_ x f ≡ _>>=_ x g
 then-same (ok a) f g h = h a
 then-same (refuse n p) f g h = refl
 
-then-then : {A B C : Type 0} (x : Res A) (f : A → Res B) (g : B → Res C) → _>>=_ x (λ a. _>>=_ (f a) g) ≡ _>>=_ (_>>=_ x f) g
+pub then-then : {A B C : Type 0} (x : Res A) (f : A → Res B) (g : B → Res C) → _>>=_ x (λ a. _>>=_ (f a) g) ≡ _>>=_ (_>>=_ x f) g
 then-then (ok a) f g = refl
 then-then (refuse n p) f g = refl
 

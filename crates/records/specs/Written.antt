@@ -32,7 +32,7 @@ walkOf (ok r) = walk 0 (r .at)
 walkOf (refuse n p) = walk n p
 
 -- a whole record ends with its words
-abbrev pub wholeOf : List ℕ → Res Rule → Walk
+abbrev pub wholeOf : {A : Type 0} → List ℕ → Res A → Walk
 wholeOf ws (ok r) = walk 0 (length ws)
 wholeOf ws (refuse n p) = walk n p
 

@@ -1,0 +1,13 @@
+-- `signature::is_kind` meets its contract. Assumes nothing.
+use borrow.Author.Tests.{le-leb, lt-leb}
+use Rattle.records.proofs.signature.is_kind.Statement.{statement}
+use Rattle.records.proofs.signature.is_kind.Tie as tie
+
+returns : tie.Need-returns
+returns c = simp (le-leb _ _ (c .if1 .taken))
+
+returns-2 : tie.Need-returns-2
+returns-2 c = simp (lt-leb _ _ (c .if1 .left))
+
+pub is-kind-spec : {M : Type 1} → statement M
+is-kind-spec = tie.close (tie.spec returns returns-2)

@@ -1,0 +1,305 @@
+// Reads flat rules: whether their words fit, which is refusal 5, and whether each atom has the terms it needs, which are refusals 11 and 12.
+use super::written::UNFIT;
+use super::written::Walk;
+use super::written::word_at;
+use words::Atom;
+use words::HeadOrEq;
+use words::LIMIT_12;
+use words::Word;
+ghost use mathlib.Core.Path.{_≡_};
+ghost use Rattle.octets.specs.Words.{words};
+ghost use Rattle.rules.specs.Words.{isNameWord, isLiteralWord, aLet, aSet, aCall};
+ghost use Rattle.rules.specs.Written.{readWord, readRow};
+ghost use Rattle.rules.specs.Flat.{isTarget, readTerm, readTerms, readAtom, readCoreAction, readFlat};
+ghost use Rattle.records.specs.Written.{withHeads, walkOf, wholeOf};
+ghost use Rattle.records.specs.Flat.{firstAt, readBehind, readFlatRule};
+
+// The refusals' numbers.
+pub const NO_TERMS: u32 = 11;
+
+pub const NOT_TWO: u32 = 12;
+
+// ---- terms
+
+// A literal.
+pub fn literal(rule: &[u8], at: usize) -> Walk
+    ensures { λ r. ⌜ r ≡ walkOf (readWord (words (now (rule .entry))) isLiteralWord at) ⌝ }
+{
+    let w = word_at(rule, at);
+    let Word::Literal(_) = w else {
+        return Walk { refused: UNFIT, at };
+    };
+    Walk {
+        refused: 0,
+        at: at + 1,
+    }
+}
+
+// A variable's or a global's name.
+fn name(rule: &[u8], at: usize) -> Walk
+    ensures { λ r. ⌜ r ≡ walkOf (readWord (words (now (rule .entry))) isNameWord at) ⌝ }
+{
+    let w = word_at(rule, at);
+    let Word::Name(_) = w else {
+        return Walk { refused: UNFIT, at };
+    };
+    Walk {
+        refused: 0,
+        at: at + 1,
+    }
+}
+
+// What an action may bind: a fresh variable of a head below H, which is at most 4,096, or a name.
+pub fn target(rule: &[u8], heads: u32, at: usize) -> Walk
+    ensures { λ r. ⌜ r ≡ walkOf (readWord (words (now (rule .entry))) (isTarget (withHeads heads)) at) ⌝ }
+{
+    let w = word_at(rule, at);
+    let Word::Fresh(head, _) = w else {
+        return name(rule, at);
+    };
+    if heads <= head {
+        return Walk { refused: UNFIT, at };
+    }
+    if LIMIT_12 <= head {
+        return Walk { refused: UNFIT, at };
+    }
+    Walk {
+        refused: 0,
+        at: at + 1,
+    }
+}
+
+// A term: what may be bound, or a literal.
+pub fn term(rule: &[u8], heads: u32, at: usize) -> Walk
+    ensures { λ r. ⌜ r ≡ walkOf (readTerm (withHeads heads) (words (now (rule .entry))) at) ⌝ }
+{
+    let read = target(rule, heads, at);
+    if read.refused == 0 {
+        return read;
+    }
+    literal(rule, at)
+}
+
+// `count` terms, one after the other.
+pub fn terms(rule: &[u8], heads: u32, at: usize, count: u32) -> Walk
+    ensures { λ r. ⌜ r ≡ walkOf (readRow (readTerm (withHeads heads) (words (now (rule .entry)))) count at) ⌝ }
+{
+    let mut next = at;
+    let mut left = count;
+    while 0 < left {
+        let read = term(rule, heads, next);
+        if read.refused != 0 {
+            return read;
+        }
+        next = read.at;
+        left -= 1;
+    }
+    Walk {
+        refused: 0,
+        at: next,
+    }
+}
+
+// ---- atoms
+
+// How an atom begins: with its head and the count of its terms. No atom begins with another word.
+pub enum First {
+    Atom(Atom),
+    Other,
+}
+
+pub fn first_at(rule: &[u8], at: usize) -> First
+    ensures { λ r. ⌜ r ≡ firstAt (words (now (rule .entry))) at ⌝ }
+{
+    if octets::count(rule) <= at {
+        return First::Other;
+    }
+    let w = octets::get(rule, at);
+    if w < 0x0800_0000 {
+        return First::Other;
+    }
+    if 0x2000_0000 <= w {
+        return First::Other;
+    }
+    First::Atom(words::atom_of(w))
+}
+
+// An atom: a head below H with one term or more, or the equality of two. A word that does not fit is a 5, whatever its count.
+pub fn atom(rule: &[u8], heads: u32, at: usize) -> Walk
+    ensures { λ r. ⌜ r ≡ walkOf (readAtom (withHeads heads) (words (now (rule .entry))) at) ⌝ }
+{
+    let first = first_at(rule, at);
+    let First::Atom(atom) = first else {
+        return Walk { refused: UNFIT, at };
+    };
+    let head = atom.head;
+    let count = atom.count;
+    match head {
+        HeadOrEq::Eq => {
+            if count == 2 {
+                terms(rule, heads, at + 1, count)
+            } else {
+                Walk {
+                    refused: NOT_TWO,
+                    at,
+                }
+            }
+        }
+        HeadOrEq::Head(number) => {
+            if heads <= number {
+                return Walk { refused: UNFIT, at };
+            }
+            if count == 0 {
+                return Walk {
+                    refused: NO_TERMS,
+                    at,
+                };
+            }
+            terms(rule, heads, at + 1, count)
+        }
+    }
+}
+
+// `count` atoms, one after the other.
+pub fn atoms(rule: &[u8], heads: u32, at: usize, count: u32) -> Walk
+    ensures { λ r. ⌜ r ≡ walkOf (readRow (readAtom (withHeads heads) (words (now (rule .entry)))) count at) ⌝ }
+{
+    let mut next = at;
+    let mut left = count;
+    while 0 < left {
+        let read = atom(rule, heads, next);
+        if read.refused != 0 {
+            return read;
+        }
+        next = read.at;
+        left -= 1;
+    }
+    Walk {
+        refused: 0,
+        at: next,
+    }
+}
+
+// ---- actions
+
+// A kind 3 word and its terms.
+pub fn head_terms(rule: &[u8], heads: u32, at: usize) -> Walk
+    ensures { λ r. ⌜ r ≡ walkOf (readTerms (withHeads heads) (words (now (rule .entry))) at) ⌝ }
+{
+    let w = word_at(rule, at);
+    let Word::Head(head, count) = w else {
+        return Walk { refused: UNFIT, at };
+    };
+    if head < heads {
+        terms(rule, heads, at + 1, count)
+    } else {
+        Walk { refused: UNFIT, at }
+    }
+}
+
+// What a let binds, and its term.
+fn let_action(rule: &[u8], heads: u32, at: usize) -> Walk
+    ensures { λ r. ⌜ r ≡ walkOf (readBehind (withHeads heads) (words (now (rule .entry))) aLet at) ⌝ }
+{
+    let bound = target(rule, heads, at);
+    if bound.refused != 0 {
+        return bound;
+    }
+    term(rule, heads, bound.at)
+}
+
+// A set's kind 3 word with its terms, and the value.
+fn set_action(rule: &[u8], heads: u32, at: usize) -> Walk
+    ensures { λ r. ⌜ r ≡ walkOf (readBehind (withHeads heads) (words (now (rule .entry))) aSet at) ⌝ }
+{
+    let inputs = head_terms(rule, heads, at);
+    if inputs.refused != 0 {
+        return inputs;
+    }
+    term(rule, heads, inputs.at)
+}
+
+// What a call's answer is bound to, and its kind 3 word with its terms.
+fn call_action(rule: &[u8], heads: u32, at: usize) -> Walk
+    ensures { λ r. ⌜ r ≡ walkOf (readBehind (withHeads heads) (words (now (rule .entry))) aCall at) ⌝ }
+{
+    let bound = target(rule, heads, at);
+    if bound.refused != 0 {
+        return bound;
+    }
+    head_terms(rule, heads, bound.at)
+}
+
+// An action: its code, and what the code asks for. Action 8 is not flat.
+pub fn action(rule: &[u8], heads: u32, at: usize) -> Walk
+    ensures { λ r. ⌜ r ≡ walkOf (readCoreAction (withHeads heads) (words (now (rule .entry))) at) ⌝ }
+{
+    let w = word_at(rule, at);
+    let Word::Action(code) = w else {
+        return Walk { refused: UNFIT, at };
+    };
+    let next = at + 1;
+    match code {
+        1 => let_action(rule, heads, next),
+        2 => set_action(rule, heads, next),
+        3..=4 => head_terms(rule, heads, next),
+        5 => terms(rule, heads, next, 2),
+        6 => literal(rule, next),
+        7 => call_action(rule, heads, next),
+        _ => Walk { refused: UNFIT, at },
+    }
+}
+
+// `count` actions, one after the other.
+pub fn actions(rule: &[u8], heads: u32, at: usize, count: u32) -> Walk
+    ensures { λ r. ⌜ r ≡ walkOf (readRow (readCoreAction (withHeads heads) (words (now (rule .entry)))) count at) ⌝ }
+{
+    let mut next = at;
+    let mut left = count;
+    while 0 < left {
+        let read = action(rule, heads, next);
+        if read.refused != 0 {
+            return read;
+        }
+        next = read.at;
+        left -= 1;
+    }
+    Walk {
+        refused: 0,
+        at: next,
+    }
+}
+
+// ---- rules
+
+// A rule that begins at an index, of a list that may go on behind it.
+pub fn rule_at(rule: &[u8], heads: u32, at: usize) -> Walk
+    ensures { λ r. ⌜ r ≡ walkOf (readFlatRule (withHeads heads) (words (now (rule .entry))) at) ⌝ }
+{
+    let w = word_at(rule, at);
+    let Word::Header(some, more) = w else {
+        return Walk { refused: UNFIT, at };
+    };
+    let body = atoms(rule, heads, at + 1, some);
+    if body.refused != 0 {
+        return body;
+    }
+    actions(rule, heads, body.at, more)
+}
+
+// A whole flat rule, with nothing behind it.
+pub fn flat(rule: &[u8], heads: u32) -> Walk
+    ensures { λ r. ⌜ r ≡ wholeOf (words (now (rule .entry))) (readFlat (withHeads heads) (words (now (rule .entry)))) ⌝ }
+{
+    let read = rule_at(rule, heads, 0);
+    if read.refused != 0 {
+        return read;
+    }
+    if read.at < octets::count(rule) {
+        return Walk {
+            refused: UNFIT,
+            at: read.at,
+        };
+    }
+    read
+}
