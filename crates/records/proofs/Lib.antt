@@ -3,4 +3,3 @@ pub mod WrittenWalk
 pub mod WrittenEnds
 pub mod WrittenLaws
 pub mod WrittenWhole
-pub mod Results

@@ -14,7 +14,7 @@ use Rattle.rules.specs.Words.{limit12, limit16, headBase, headerBase, headWord,
 use Rattle.rules.specs.Written.{Read, Reader, readWord, readRow}
 use Rattle.rules.specs.Flat.{Atom, CoreAction, FlatRule, Terms, isTarget, readTerms, readCoreCode, readCoreAction, readFlat, actionWords, isPair, isOdd, isTable, isEmpty, isNone, isTerm, readTerm, readAtomShape, readAtom, atomWords, wordsOf}
 use Rattle.words.proofs.Ranges.{within-true}
-use Rattle.records.proofs.Results.{ok-same, bind-ok, demand-ok}
+use Rattle.meaning.proofs.Results.{ok-inj, bind-ok, demand-ok}
 
 -- what a reader reads from p on is spelled there
 abbrev pub Spelled : {A : Type 0} → (A → List ℕ) → List ℕ → Reader A → Type 0
@@ -32,7 +32,7 @@ module _ (ws : List ℕ) where
       go : (a : Bool) → ltb p (length ws) ≡ a → (b : Bool) → fits (getD ws p 0) ≡ b → demand (a && b) unfit p (record { value = getD ws p 0; at = suc p }) ≡ ok r
           → (r .value ≡ getD ws p 0) × (r .at ≡ suc p) × (fits (getD ws p 0) ≡ true) × (drop p ws ≡ getD ws p 0 ∷ drop (suc p) ws)
       go true ea true eb k =
-          let same = ok-same (record { value = getD ws p 0; at = suc p }) r k in
+          let same = ok-inj (record { value = getD ws p 0; at = suc p }) r k in
           (sym (ap (λ (x : Read ℕ). x .value) same), sym (ap (λ (x : Read ℕ). x .at) same), eb, drop-cons ws p 0 (ltb-true p (length ws) ea))
       go true ea false eb k = let z : _≡_ {A = ℕ} 0 1 = cc in absurd (omega arith)
       go false ea b eb k = let z : _≡_ {A = ℕ} 0 1 = cc in absurd (omega arith)
@@ -42,12 +42,12 @@ module _ (ws : List ℕ) where
 
   pub row-spelled : {A : Type 0} (f : A → List ℕ) (one : Reader A) → Spelled f ws one → (n p : ℕ) (r : Read (List A)) → readRow one n p ≡ ok r
       → (drop p ws ≡ wordsOf f (r .value) ++ drop (r .at) ws) × (length (r .value) ≡ n)
-  row-spelled {A} f one h zero p r e = subst (λ (x : Read (List A)). (drop p ws ≡ wordsOf f (x .value) ++ drop (x .at) ws) × (length (x .value) ≡ 0)) (ok-same _ _ e) (refl, refl)
+  row-spelled {A} f one h zero p r e = subst (λ (x : Read (List A)). (drop p ws ≡ wordsOf f (x .value) ++ drop (x .at) ws) × (length (x .value) ≡ 0)) (ok-inj _ _ e) (refl, refl)
   row-spelled {A} f one h (suc n) p r e =
       let a = bind-ok (one p) _ r e in
       let b = bind-ok (readRow one n (a .0 .at)) _ r (a .2) in
       let k = row-spelled f one h n (a .0 .at) (b .0) (b .1) in
-      subst (λ (x : Read (List A)). (drop p ws ≡ wordsOf f (x .value) ++ drop (x .at) ws) × (length (x .value) ≡ suc n)) (ok-same _ _ (b .2))
+      subst (λ (x : Read (List A)). (drop p ws ≡ wordsOf f (x .value) ++ drop (x .at) ws) × (length (x .value) ≡ suc n)) (ok-inj _ _ (b .2))
       (h p (a .0) (a .1) ∙ ap (λ (l : List ℕ). f (a .0 .value) ++ l) (k .0) ∙ sym (append-assoc (f (a .0 .value)) (wordsOf f (b .0 .value)) (drop (b .0 .at) ws)), ap suc (k .1))
 
   wordsOf-single : (ts : List ℕ) → wordsOf single ts ≡ ts
@@ -74,7 +74,7 @@ module _ (ws : List ℕ) where
         let b = bind-ok (readTerm s ws (a .0 .at)) _ r (a .2) in
         let x = word-spelled (isTerm s) (suc p) (a .0) (a .1) in
         let y = word-spelled (isTerm s) (a .0 .at) (b .0) (b .1) in
-        subst (λ (q : Read Atom). drop p ws ≡ atomWords (q .value) ++ drop (q .at) ws) (ok-same _ _ (b .2)) (cc)
+        subst (λ (q : Read Atom). drop p ws ≡ atomWords (q .value) ++ drop (q .at) ws) (ok-inj _ _ (b .2)) (cc)
 
     table-spelled : (p : ℕ) (r : Read Atom) → drop p ws ≡ getD ws p 0 ∷ drop (suc p) ws → isHeadWord (heads s) (getD ws p 0) ≡ true → ¬ (countOf (getD ws p 0) ≡ 0)
         → readAtomShape s ws isTable (getD ws p 0) p ≡ ok r → drop p ws ≡ atomWords (r .value) ++ drop (r .at) ws
@@ -85,7 +85,7 @@ module _ (ws : List ℕ) where
         let x = terms-spelled s (countOf w - 1) (suc p) (a .0) (a .1) in
         let y = word-spelled (isTerm s) (a .0 .at) (b .0) (b .1) in
         let word = head-spelled s w (suc (length (a .0 .value))) head (omega arith) in
-        subst (λ (q : Read Atom). drop p ws ≡ atomWords (q .value) ++ drop (q .at) ws) (ok-same _ _ (b .2))
+        subst (λ (q : Read Atom). drop p ws ≡ atomWords (q .value) ++ drop (q .at) ws) (ok-inj _ _ (b .2))
         (here ∙ (λ i. sym word i ∷ (x .0 ∙ ap (λ (l : List ℕ). a .0 .value ++ l) y ∙ sym (append-assoc (a .0 .value) (b .0 .value ∷ []) (drop (b .0 .at) ws))) i))
 
     pub atom-spelled : Spelled atomWords ws (readAtom s ws)
@@ -146,7 +146,7 @@ module _ (s : Sig) (ws : List ℕ) where
       let word : headWord (headOf (a .0 .value)) (length (b .0 .value)) ≡ getD ws p 0 =
       ap (λ n. headWord (headOf n) (length (b .0 .value))) (k .0) ∙ head-spelled ws s (getD ws p 0) (length (b .0 .value)) (k .2) count in
       let next : drop (suc p) ws ≡ drop (a .0 .at) ws = ap (λ n. drop n ws) (sym (k .1)) in
-      subst (λ (q : Read Terms). drop p ws ≡ (headWord (q .value .head) (length (q .value .terms)) ∷ q .value .terms) ++ drop (q .at) ws) (ok-same _ _ (b .2))
+      subst (λ (q : Read Terms). drop p ws ≡ (headWord (q .value .head) (length (q .value .terms)) ∷ q .value .terms) ++ drop (q .at) ws) (ok-inj _ _ (b .2))
       (k .3 ∙ (λ i. sym word i ∷ (next ∙ x .0) i))
 
   -- the action whose word is here, by its code
@@ -160,7 +160,7 @@ module _ (s : Sig) (ws : List ℕ) where
         let b = bind-ok (readTerm s ws (a .0 .at)) _ r (a .2) in
         let x = word-spelled ws (isTarget s) (suc p) (a .0) (a .1) in
         let y = word-spelled ws (isTerm s) (a .0 .at) (b .0) (b .1) in
-        subst Here (ok-same _ _ (b .2)) (cc)
+        subst Here (ok-inj _ _ (b .2)) (cc)
     code-spelled aSet c e =
         let a = bind-ok (readTerms s ws (suc p)) _ r e in
         let b = bind-ok (readTerm s ws (a .0 .at)) _ r (a .2) in
@@ -168,32 +168,32 @@ module _ (s : Sig) (ws : List ℕ) where
         let y = word-spelled ws (isTerm s) (a .0 .at) (b .0) (b .1) in
         let t = a .0 .value in
         let z = append-assoc (t .terms) (b .0 .value ∷ []) (drop (b .0 .at) ws) in
-        subst Here (ok-same _ _ (b .2))
+        subst Here (ok-inj _ _ (b .2))
         (here ∙ (λ i. c i ∷ (x ∙ ap (λ (l : List ℕ). headWord (t .head) (length (t .terms)) ∷ (t .terms ++ l)) y ∙ ap (λ (l : List ℕ). headWord (t .head) (length (t .terms)) ∷ l) (sym z)) i))
     code-spelled aDelete c e =
         let a = bind-ok (readTerms s ws (suc p)) _ r e in
         let x = terms-of-spelled (suc p) (a .0) (a .1) in
-        subst Here (ok-same _ _ (a .2)) (here ∙ (λ i. c i ∷ x i))
+        subst Here (ok-inj _ _ (a .2)) (here ∙ (λ i. c i ∷ x i))
     code-spelled aSubsume c e =
         let a = bind-ok (readTerms s ws (suc p)) _ r e in
         let x = terms-of-spelled (suc p) (a .0) (a .1) in
-        subst Here (ok-same _ _ (a .2)) (here ∙ (λ i. c i ∷ x i))
+        subst Here (ok-inj _ _ (a .2)) (here ∙ (λ i. c i ∷ x i))
     code-spelled aUnion c e =
         let a = bind-ok (readTerm s ws (suc p)) _ r e in
         let b = bind-ok (readTerm s ws (a .0 .at)) _ r (a .2) in
         let x = word-spelled ws (isTerm s) (suc p) (a .0) (a .1) in
         let y = word-spelled ws (isTerm s) (a .0 .at) (b .0) (b .1) in
-        subst Here (ok-same _ _ (b .2)) (cc)
+        subst Here (ok-inj _ _ (b .2)) (cc)
     code-spelled aPanic c e =
         let a = bind-ok (readWord ws isLiteralWord (suc p)) _ r e in
         let x = word-spelled ws isLiteralWord (suc p) (a .0) (a .1) in
-        subst Here (ok-same _ _ (a .2)) (cc)
+        subst Here (ok-inj _ _ (a .2)) (cc)
     code-spelled aCall c e =
         let a = bind-ok (readWord ws (isTarget s) (suc p)) _ r e in
         let b = bind-ok (readTerms s ws (a .0 .at)) _ r (a .2) in
         let x = word-spelled ws (isTarget s) (suc p) (a .0) (a .1) in
         let y = terms-of-spelled (a .0 .at) (b .0) (b .1) in
-        subst Here (ok-same _ _ (b .2)) (here ∙ (λ i. c i ∷ (x ∙ ap (λ (l : List ℕ). a .0 .value ∷ l) y) i))
+        subst Here (ok-inj _ _ (b .2)) (here ∙ (λ i. c i ∷ (x ∙ ap (λ (l : List ℕ). a .0 .value ∷ l) y) i))
     code-spelled anExpression c e = let z : _≡_ {A = ℕ} 0 1 = cc in absurd (omega arith)
     code-spelled noCode c e = let z : _≡_ {A = ℕ} 0 1 = cc in absurd (omega arith)
 

@@ -16,7 +16,7 @@ use Rattle.words.specs.Word.{wordOf, kind}
 use Rattle.words.specs.declared.Word.the-variants.{Signature}
 use Rattle.words.proofs.Ranges.{within-true, true-within, false-below, false-above}
 use Rattle.words.proofs.WordLaws.{said, signature-kind}
-use Rattle.records.proofs.Results.{bind-ok, demand-ok}
+use Rattle.meaning.proofs.Results.{bind-ok, demand-ok}
 use Rattle.records.specs.Signature.{isKindAt, allKinds, firstBad, payloadOf, Begins}
 use Rattle.records.specs.declared.signature.Payload.the-variants.{Fits, Unfit}
 
