@@ -47,7 +47,7 @@ module _ (P : ℕ → Type 0) where
     kinds-among ws (suc n) p =
         among-bind (payloadAt ws 0 3 p) _ (payload-among ws 0 3 p) (λ k. among-bind (kindsAt ws n (suc p)) _ (kinds-among ws n (suc p)) (λ ks. tt))
 
-    signature-among : (ws : List ℕ) → Among (readSignature ws)
+    pub signature-among : (ws : List ℕ) → Among (readSignature ws)
     signature-among ws =
         among-bind (payloadAt ws 1 limit12 0) _ (payload-among ws 1 limit12 0)
         (λ h. among-bind (payloadAt ws 0 (suc limit12) 1) _ (payload-among ws 0 (suc limit12) 1)
@@ -117,7 +117,7 @@ module _ (P : ℕ → Type 0) where
       code-among p aCall q = five
       code-among p noCode q = five
 
-      written-among : Among (readWritten s ws)
+      pub written-among : Among (readWritten s ws)
       written-among =
           among-bind (readWord ws isHeaderWord 0) _ (word-among ws isHeaderWord 0)
           (λ w. among-bind (readRow (readFact s ws) (factsOf (w .value)) (w .at)) _ (row-among (readFact s ws) fact-among (factsOf (w .value)) (w .at))
@@ -157,7 +157,7 @@ module _ (P : ℕ → Type 0) where
       core-code-among p anExpression q = five
       core-code-among p noCode q = five
 
-      flat-among : Among (readFlat s ws)
+      pub flat-among : Among (readFlat s ws)
       flat-among =
           among-bind (readWord ws isHeaderWord 0) _ (word-among ws isHeaderWord 0)
           (λ w. among-bind (readRow (readAtom s ws) (factsOf (w .value)) (w .at)) _ (row-among (readAtom s ws) (λ p. atom-shape-among (atomShapeAt s ws p) (getD ws p 0) p) (factsOf (w .value)) (w .at))
@@ -231,7 +231,7 @@ module _ (P : ℕ → Type 0) where
       actions-among bound (a ∷ xs) cs =
           among-bind (lowerAction s bound a cs) _ (action-among bound a cs) (λ r. among-bind (toCoreActions s (r .bound) xs (r .next)) _ (actions-among (r .bound) xs (r .next)) (λ q. tt))
 
-      rule-among : (r : Rule) (cs : List ℕ) → Among (lowerRule s r cs)
+      pub rule-among : (r : Rule) (cs : List ℕ) → Among (lowerRule s r cs)
       rule-among r cs =
           among-bind (toCoreRule s r cs) _
           (among-bind (toQuery (r .facts) cs) _ (query-among (r .facts) cs)

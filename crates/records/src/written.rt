@@ -1,12 +1,10 @@
 // Reads written rules: whether their words fit, which is refusal 5, and how deep their expressions are, which is refusal 6.
 use words::Word;
 ghost use mathlib.Core.Path.{_≡_};
-ghost use mathlib.Core.Bool.{_&&_};
 ghost use Prim.Native.Nat.{_+_, _<_};
 ghost use lib.ListN.{length, getD};
-ghost use lib.Dec.{leb};
 ghost use Rattle.octets.specs.Words.{words};
-ghost use Rattle.rules.specs.Words.{maxWritten, aLet, aSet, aPanic};
+ghost use Rattle.rules.specs.Words.{aLet, aSet, aPanic};
 ghost use Rattle.rules.specs.Written.{shapeAt, readMany, readExpr, readTarget, readEqual, readFact, readCode, readAction, readRow, readWritten};
 ghost use Rattle.records.specs.Written.{withHeads, walkOf, wholeOf, wordAt, startOf, readRule};
 
@@ -18,9 +16,6 @@ pub const TOO_DEEP: u32 = 6;
 // An expression holds expressions up to 32 deep, itself counted.
 pub const MAX_DEPTH: u32 = 32;
 
-// The words of a written rule.
-pub const MAX_WRITTEN: usize = 512;
-
 // What a walk answers: with 0, the index after what it read; else a refusal's number and place.
 pub struct Walk {
     pub refused: u32,
@@ -31,14 +26,6 @@ pub struct Walk {
 enum Start {
     Takes(u32),
     Other,
-}
-
-// Whether a written rule has 1 to 512 words.
-pub fn length_fits(rule: &[u8]) -> bool
-    ensures { λ r. ⌜ r ≡ (leb 1 (length (words (now (rule .entry)))) && leb (length (words (now (rule .entry)))) maxWritten) ⌝ }
-{
-    let n = octets::count(rule);
-    1 <= n && n <= MAX_WRITTEN
 }
 
 // The word at an index; behind the record's end there is none that fits.

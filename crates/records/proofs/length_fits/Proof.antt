@@ -1,8 +1,8 @@
--- `records::written::length_fits` meets its contract: its tests are those of the definition. Assumes nothing.
+-- `records::length_fits` meets its contract: its tests are those of the definition. Assumes nothing.
 use borrow.Author.Tests.{le-leb, lt-leb}
 use borrow.Author.Needs.{needs}
-use Rattle.records.proofs.written.length_fits.Statement.{statement}
-use Rattle.records.proofs.written.length_fits.Tie as tie
+use Rattle.records.proofs.length_fits.Statement.{statement}
+use Rattle.records.proofs.length_fits.Tie as tie
 
 count-requires : tie.Need-count-requires
 count-requires c κs = search needs

@@ -1,0 +1,166 @@
+-- What the functions of `canonicalize` ask and give, in the definitions' words. Assumes nothing: these are definitions.
+use mathlib.Core.Bool.{Bool, false, true}
+use mathlib.Core.List.{List, [], _++_, _∷_, map}
+use mathlib.Core.Option.{Option, none, some}
+use mathlib.Core.Path.{_≡_}
+use Prim.Native.Nat.{_*_, _+_, _-_, _<_, _≤_, ℕ}
+use lib.Dec.{eqb}
+use lib.ListN.{getD, length}
+use Rattle.octets.specs.Regions.{At, Only, part, splice}
+use Rattle.rules.specs.Canonicalize.{Replacement, bindings, canonicalize, replaceAll, replaceTerm, replacementOf, resolve}
+use Rattle.rules.specs.Flat.{Atom, Tab, actionWords, eqn, tab, tabWords, wordsOf}
+use Rattle.rules.specs.Signature.{Sig, isVar, sameTerm}
+use Rattle.rules.specs.Words.{equalityWord, headWord, unit}
+use Rattle.meaning.proofs.MergePass.{IsEqn}
+use Rattle.meaning.specs.Meaning.{All}
+use Rattle.meaning.specs.Weight.{weight}
+use Rattle.settling.specs.declared.canonicalize.Asked.{Asked}
+use Rattle.settling.specs.declared.canonicalize.Canonical.{Canonical}
+use Rattle.settling.specs.Standing.{AtomsAt, TabsAt, atomsIn, sizeAt}
+
+-- the words of the bindings, the last one first
+abbrev pub bindingWords : List Replacement → List ℕ
+bindingWords rs = wordsOf actionWords (bindings rs)
+
+-- an atom of a head
+abbrev pub IsTab : Atom → Type 0
+IsTab (eqn p a b) = ⊥
+IsTab (tab t) = Unit {0}
+
+-- ---- one replacement
+
+abbrev pub askedOf : Option Replacement → Asked
+askedOf none = record { yes = false; old = 0; new = 0 }
+askedOf (some r) = record { yes = true; old = r .old; new = r .new }
+
+-- what the atom at p asks for
+abbrev pub askFor : (isEqn : Bool) → Sig → ℕ → ℕ → Option Replacement
+askFor true s a b = replacementOf (sameTerm a b) (isVar s a) (isVar s b) a b
+askFor false s a b = none
+
+unfoldable pub askAt : Sig → List ℕ → ℕ → Option Replacement
+askAt s l p = askFor (eqb (getD l p 0) equalityWord) s (getD l (p + 1) 0) (getD l (p + 2) 0)
+
+-- where the bindings begin after it, and the words after it
+abbrev pub placeAfter : Option Replacement → ℕ → ℕ
+placeAfter none d = d
+placeAfter (some r) d = d - 3
+
+abbrev pub wordsAfter : Option Replacement → List ℕ → ℕ → ℕ → ℕ → List ℕ
+wordsAfter none l at n d = l
+wordsAfter (some r) l at n d = splice (splice l at (map (replaceTerm r) (part l at n))) (d - 3) (bindingWords (r ∷ []))
+
+pub record StepAsks (l : List ℕ) (at n p d : ℕ) : Type 0 where
+  pub here : p < length l
+  pub whole : getD l p 0 ≡ equalityWord → p + 3 ≤ length l
+  pub room : at + n + 3 ≤ d
+  pub top : d ≤ length l
+
+-- ---- all of them
+
+pub record ReplaceAsks (l : List ℕ) (at n d : ℕ) : Type 0 where
+  pub atoms : AtomsAt (atomsIn l at n) l at n
+  pub room : at + n + 3 * length (atomsIn l at n) + 3 ≤ d
+  pub top : d ≤ length l
+
+-- the atoms with all replacements made stand where they were, the bindings from r to d, and nothing else changed
+pub record Replaced (s : Sig) (l m : List ℕ) (at n d r : ℕ) : Type 0 where
+  pub atoms : AtomsAt (replaceAll s (atomsIn l at n) [] .atoms) m at n
+  pub binds : At (bindingWords (replaceAll s (atomsIn l at n) [] .repls)) m r
+  pub count : r + 3 * length (replaceAll s (atomsIn l at n) [] .repls) ≡ d
+  pub only : Only l m at d
+  pub between : (ws : List ℕ) (q : ℕ) → At ws l q → at + n ≤ q → q + length ws ≤ r → At ws m q
+
+-- ---- what becomes of an atom
+
+abbrev pub resolveTerms : (same : Bool) → Sig → ℕ → ℕ → List ℕ
+resolveTerms true s a b = []
+resolveTerms false s a b = headWord (s .valueEq) 3 ∷ a ∷ b ∷ unit ∷ []
+
+abbrev pub resolveFor : (isEqn : Bool) → Sig → List ℕ → ℕ → List ℕ
+resolveFor true s l p = resolveTerms (sameTerm (getD l (p + 1) 0) (getD l (p + 2) 0)) s (getD l (p + 1) 0) (getD l (p + 2) 0)
+resolveFor false s l p = part l p (sizeAt l p)
+
+-- the words that the atom at p becomes
+unfoldable pub resolveAt : Sig → List ℕ → ℕ → List ℕ
+resolveAt s l p = resolveFor (eqb (getD l p 0) equalityWord) s l p
+
+pub record ResolveOneAsks (s : Sig) (l : List ℕ) (p to : ℕ) : Type 0 where
+  pub here : p < length l
+  pub whole : p + sizeAt l p ≤ length l
+  pub clear : p + sizeAt l p ≤ to
+  pub room : to + length (resolveAt s l p) ≤ length l
+
+pub record ResolveAsks (s : Sig) (l : List ℕ) (from n to : ℕ) : Type 0 where
+  pub atoms : AtomsAt (atomsIn l from n) l from n
+  pub clear : from + n ≤ to
+  pub room : to + length (wordsOf tabWords (resolve s (atomsIn l from n))) ≤ length l
+
+pub record Resolved (s : Sig) (l m : List ℕ) (from n to r : ℕ) : Type 0 where
+  pub tabs : TabsAt (resolve s (atomsIn l from n)) m to r
+  pub only : Only l m to (to + r)
+
+-- ---- equalities in front
+
+-- what is asked of the equalities in e words at `at`, with other atoms in k words behind them
+pub record FrontAsks (l : List ℕ) (at e k to d : ℕ) : Type 0 where
+  pub eqs : AtomsAt (atomsIn l at e) l at e
+  pub equalities : All IsEqn (atomsIn l at e)
+  pub others : AtomsAt (atomsIn l (at + e) k) l (at + e) k
+  pub clear : at + e + k ≤ to
+  pub room : to + weight (atomsIn l at e ++ atomsIn l (at + e) k) + 3 * length (atomsIn l at e ++ atomsIn l (at + e) k) + 3 ≤ d
+  pub top : d ≤ length l
+
+-- the equalities in front of the atoms in n words at `at` have r words
+pub record Leads (l : List ℕ) (at n r : ℕ) : Type 0 where
+  pub inside : r ≤ n
+  pub eqs : AtomsAt (atomsIn l at r) l at r
+  pub equalities : All IsEqn (atomsIn l at r)
+  pub others : AtomsAt (atomsIn l (at + r) (n - r)) l (at + r) (n - r)
+  pub whole : atomsIn l at n ≡ atomsIn l at r ++ atomsIn l (at + r) (n - r)
+
+-- one of them, at p with n words from it to the end: it is resolved, or its replacement is made behind it
+abbrev pub FrontStep : Option Replacement → Sig → List ℕ → List ℕ → ℕ → ℕ → ℕ → ℕ → Canonical → Type 0
+FrontStep none s l m p n to d r = (r .words ≡ length (resolveAt s l p)) × (r .binds ≡ d) × (m ≡ splice l to (resolveAt s l p))
+FrontStep (some q) s l m p n to d r = (r .words ≡ 0) × (r .binds ≡ d - 3) × (m ≡ wordsAfter (some q) l (p + 3) (n - 3) d)
+
+pub record FrontOneAsks (s : Sig) (l : List ℕ) (p n to d : ℕ) : Type 0 where
+  pub equality : getD l p 0 ≡ equalityWord
+  pub whole : 3 ≤ n
+  pub clear : p + n ≤ to
+  pub room : to + length (resolveAt s l p) ≤ length l
+  pub binds : p + n + 3 ≤ d
+  pub top : d ≤ length l
+
+pub record FrontOne (s : Sig) (l m : List ℕ) (p n to d : ℕ) (r : Canonical) : Type 0 where
+  pub step : FrontStep (askAt s l p) s l m p n to d r
+
+-- all of them: some atoms are written, and what is left is canonicalized as if the equalities had never been
+pub record Fronted (s : Sig) (xs ys : List Atom) (l m : List ℕ) (at e k to d : ℕ) (r : Canonical) : Type 0 where
+  pub written : List Tab
+  pub rs : List Replacement
+  pub rest : List Atom
+  pub heads : All IsTab ys → All IsTab rest
+  pub tabs : TabsAt written m to (r .words)
+  pub others : AtomsAt rest m (at + e) k
+  pub binds : At (bindingWords rs) m (r .binds)
+  pub count : r .binds + 3 * length rs ≡ d
+  pub room : to + r .words + weight rest + 3 * length rest + 3 ≤ r .binds
+  pub all-tabs : canonicalize s (xs ++ ys) [] .tabs ≡ written ++ canonicalize s rest [] .tabs
+  pub all-repls : canonicalize s (xs ++ ys) [] .repls ≡ canonicalize s rest [] .repls ++ rs
+  pub only : Only l m at d
+
+-- ---- the whole
+
+pub record CanonicalizeAsks (l : List ℕ) (at n to d : ℕ) : Type 0 where
+  pub atoms : AtomsAt (atomsIn l at n) l at n
+  pub clear : at + n ≤ to
+  pub room : to + weight (atomsIn l at n) + 3 * length (atomsIn l at n) + 3 ≤ d
+  pub top : d ≤ length l
+
+-- the atoms that are left stand at `to`, the bindings before d, and nothing changed but from `at` to d
+pub record CanonicalAt (s : Sig) (xs : List Atom) (l m : List ℕ) (at to d : ℕ) (r : Canonical) : Type 0 where
+  pub tabs : TabsAt (canonicalize s xs [] .tabs) m to (r .words)
+  pub binds : At (bindingWords (canonicalize s xs [] .repls)) m (r .binds)
+  pub count : r .binds + 3 * length (canonicalize s xs [] .repls) ≡ d
+  pub only : Only l m at d

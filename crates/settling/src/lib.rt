@@ -1,0 +1,67 @@
+// Settling a flat body whose words stand in a scratch: `canonicalize`, then merge passes until one gives no equality.
+//
+// For a body of n words at `at` the scratch holds
+//
+//     at          2n words   the body; later the equalities of a pass with the kept atoms behind them, canonicalized in place
+//     at + 2n     2n words   the atoms of the next pass
+//     at + 4n     2n words   the atoms that a pass keeps: here the settled atoms stand at the end
+//     at + 6n     n/2 words  the keys of a pass, one word an atom
+//     at + 8n + 3            the end of the bindings, three words each, which are written downward
+//
+// That this suffices is a law of the definitions: settling never makes a body and its replacements heavier.
+ghost use mathlib.Core.Path.{_≡_};
+ghost use mathlib.Core.List.{List};
+ghost use Rattle.octets.specs.Words.{words};
+ghost use Rattle.rules.specs.Signature.{Sig};
+ghost use Rattle.rules.specs.Flat.{Atom};
+ghost use Rattle.settling.specs.Terms.{GoodSign, Agrees};
+ghost use Rattle.settling.specs.Standing.{BodyAt};
+ghost use Rattle.settling.specs.Settle.{SettleAsks, SettledAt};
+
+pub mod atoms;
+pub mod canonicalize;
+pub mod keys;
+pub mod remove_dup_vars;
+pub mod terms;
+
+use crate::terms::Sign;
+
+// A settled body: where its atoms stand, in how many words, and how many they are; where its bindings stand, three words each, and how
+// many they are, one for each replacement; and the passes.
+pub struct Settled {
+    pub at: usize,
+    pub words: usize,
+    pub atoms: usize,
+    pub binds: usize,
+    pub replacements: usize,
+    pub passes: usize,
+}
+
+// Settles the atoms in the n words at `at`, with 8n + 3 words from there on to work in.
+pub fn settle(s: &mut [u8], at: usize, n: usize, q: Sign) -> Settled
+    requires { ⌜ GoodSign q ⌝ }
+    requires { ⌜ SettleAsks (words (now s)) at n ⌝ }
+    ensures { λ r. ⌜ ((g : Sig) (xs : List Atom) → Agrees q g → BodyAt xs (words (now (s .entry))) at n → SettledAt g xs (words (now (s .entry))) (words (now (s .exit))) at n r) ⌝ }
+{
+    let body = at + 2 * n;
+    let kept = at + 4 * n;
+    let keys = at + 6 * n;
+    let end = at + 8 * n + 3;
+    let mut c = canonicalize::canonicalize(s, at, n, body, end, q);
+    let mut passes = 0;
+    loop {
+        let t = remove_dup_vars::merge_pass(s, body, c.words, at, kept, keys);
+        passes += 1;
+        if t.eqs == 0 {
+            return Settled {
+                at: kept,
+                words: t.kept,
+                atoms: t.atoms,
+                binds: c.binds,
+                replacements: (end - c.binds) / 3,
+                passes,
+            };
+        }
+        c = remove_dup_vars::canonicalize_again(s, at, t.eqs, t.kept, kept, body, c.binds, q);
+    }
+}
