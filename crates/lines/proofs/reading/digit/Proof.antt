@@ -1,0 +1,28 @@
+-- `lines::reading::digit` meets its contract: the two ranges, and the three gaps around them. Assumes nothing.
+use mathlib.Core.Path.{sym}
+use Rattle.lines.proofs.Spelling.{digit-decimal, digit-letter, digit-below, digit-between, digit-above}
+use borrow.Author.Needs.{needs}
+use native.Mathlib.Omega.{arith}
+use Rattle.lines.proofs.reading.digit.Statement.{statement}
+use Rattle.lines.proofs.reading.digit.Tie as tie
+
+sub-result : tie.Need-sub-result
+sub-result c = search needs
+
+returns : tie.Need-returns
+returns c = (sym (digit-decimal (c .before .before .args .b) (c .before .if1 .left) (c .if2 .taken)), omega arith)
+
+returns-2 : tie.Need-returns-2
+returns-2 c = (sym (digit-letter (c .before .before .before .before .args .b) (c .before .if3 .left) (c .if4 .taken)), omega arith)
+
+returns-3 : tie.Need-returns-3
+returns-3 c = (sym (digit-below (c .before .args .b) (c .if1 .taken)), omega arith)
+
+returns-4 : tie.Need-returns-4
+returns-4 c = (sym (digit-between (c .before .before .before .args .b) (c .before .if2 .left) (c .if3 .taken)), omega arith)
+
+returns-5 : tie.Need-returns-5
+returns-5 c = (sym (digit-above (c .before .before .before .before .args .b) (c .if4 .left)), omega arith)
+
+pub digit-spec : {M : Type 1} → statement M
+digit-spec = tie.close (tie.spec sub-result returns returns-2 returns-3 returns-4 returns-5)
