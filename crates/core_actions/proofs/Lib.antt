@@ -1,0 +1,10 @@
+-- Laws that the proofs of this crate share with those above it, in reading order.
+pub mod Scopes
+pub mod Body
+pub mod Pieces
+pub mod Expressions
+pub mod Acting
+pub mod UnionAsSet
+pub mod ReadActions
+pub mod ByCode
+pub mod ActionRows

@@ -1,0 +1,137 @@
+-- Laws of the scan for a name, and of scopes that a walk leaves as they are. Assumes nothing.
+use mathlib.Core.Path.{_≡_, refl, sym, ap, _∙_}
+use mathlib.Core.List.{List, [], _∷_, _++_}
+use mathlib.Core.Bool.{Bool, true, false, cond, _||_, not}
+use Prim.Native.Nat.{ℕ, _+_, _*_, _≤_, _<_}
+use native.Mathlib.Omega.{arith}
+use lib.Dec.{eqb}
+use lib.ListN.{length, getD}
+use borrow.Author.Tests.{lt-leb, le-leb}
+use Rattle.octets.specs.Regions.{part}
+use Rattle.octets.proofs.Splice.{part-more, part-same}
+use Rattle.rules.specs.Words.{limit12, nameBase, freshBase}
+use Rattle.rules.specs.Signature.{Sig, elem, isVar}
+use Rattle.rules.specs.ToCoreActions.{readable}
+use Rattle.walks.specs.Steps.{Kept, Room}
+use Rattle.core_actions.specs.Scopes.{inScope, grown, ScopeFits, Scoped, ScopeRoom}
+use Rattle.core_actions.specs.declared.scope.Scope.{Scope}
+
+or-assoc : (a b c : Bool) → a || (b || c) ≡ (a || b) || c
+or-assoc true b c = refl
+or-assoc false b c = refl
+
+pub elem-append : (w : ℕ) (xs ys : List ℕ) → elem w (xs ++ ys) ≡ elem w xs || elem w ys
+elem-append w [] ys = refl
+elem-append w (x ∷ xs) ys = ap (λ (b : Bool). eqb w x || b) (elem-append w xs ys) ∙ or-assoc (eqb w x) (elem w xs) (elem w ys)
+
+-- a turn of the scan
+turn : (h w x : ℕ) (b : Bool) → eqb h 1 ≡ b → eqb (cond (eqb w x) 1 h) 1 ≡ b || (eqb w x || false)
+turn h w x b e = go (eqb w x) b e
+  where
+    go : (t b : Bool) → eqb h 1 ≡ b → eqb (cond t 1 h) 1 ≡ b || (t || false)
+    go true true e = refl
+    go true false e = refl
+    go false true e = e
+    go false false e = e
+
+pub scan-more : (s : List ℕ) (from i w h x : ℕ) → from + i < length s → x ≡ getD s (from + i) 0 → eqb h 1 ≡ elem w (part s from i)
+    → eqb (cond (eqb w x) 1 h) 1 ≡ elem w (part s from (i + 1))
+scan-more s from i w h x room ex e =
+    turn h w x (elem w (part s from i)) e
+    ∙ ap (λ (y : ℕ). elem w (part s from i) || (eqb w y || false)) ex
+    ∙ sym (elem-append w (part s from i) (getD s (from + i) 0 ∷ []))
+    ∙ ap (elem w) (sym (part-more s from i room))
+
+pub in-body : (s : List ℕ) (c : Scope) (w : ℕ) → elem w (part s 0 (c .body)) ≡ true → inScope s c w ≡ true
+unfolding inScope
+in-body s c w e = rw e
+
+pub in-names : (s : List ℕ) (c : Scope) (w : ℕ) → elem w (part s 0 (c .body)) ≡ false → inScope s c w ≡ elem w (part s (c .first) (c .names))
+unfolding inScope
+in-names s c w e = rw e
+
+-- a step that writes elsewhere leaves the scope as it is
+pub scoped-kept : {sig : Sig} {bound : List ℕ} {c : Scope} {to te sp se lg le log : ℕ} {s cs s′ cs′ : List ℕ} → Kept to te sp se lg le s cs s′ cs′ log
+    → c .body ≤ to → te ≤ c .first → c .first + c .names ≤ sp → Scoped sig bound s c → Scoped sig bound s′ c
+unfolding inScope
+scoped-kept {c = c} {s = s} {s′ = s′} k a b d x =
+    let e1 : part s′ 0 (c .body) ≡ part s 0 (c .body) = part-same s s′ 0 (c .body) (k .size) (λ i p q. k .below i (omega arith)) in
+    let e2 : part s′ (c .first) (c .names) ≡ part s (c .first) (c .names) = part-same s s′ (c .first) (c .names) (k .size) (λ i p q. k .between i (omega arith) (omega arith)) in
+    record {
+      globals = x .globals;
+      few = x .few;
+      variables = λ w p q. x .variables w p q ∙ sym (λ i. elem w (e1 i) || elem w (e2 i));
+      global = λ w p. x .global w p ∙ ap (elem w) (sym e2);
+    }
+
+pub scan-small : (w x h : ℕ) → h ≤ 1 → cond (eqb w x) 1 h ≤ 1
+scan-small w x h k = go (eqb w x)
+  where
+    go : (t : Bool) → cond t 1 h ≤ 1
+    go true = omega arith
+    go false = k
+
+pub is-var : (sig : Sig) (g w : ℕ) → g ≡ sig .globals → w < freshBase → nameBase + g ≤ w → isVar sig w ≡ true
+is-var sig g w e h k =
+    let j : nameBase + sig .globals ≤ w = omega arith in
+    rw (lt-leb freshBase w h, le-leb (nameBase + sig .globals) w j)
+
+pub is-not-var : (sig : Sig) (g w : ℕ) → g ≡ sig .globals → g ≤ limit12 → w < nameBase + g → isVar sig w ≡ false
+is-not-var sig g w e f k =
+    let h : w < freshBase = omega arith in
+    let j : w < nameBase + sig .globals = omega arith in
+    rw (lt-leb freshBase w h, lt-leb (nameBase + sig .globals) w j)
+
+-- the two tests, as the definition has them: a word below the first variable is read, and is bound only by a let
+pub reads-low : (sig : Sig) (bound s : List ℕ) (c : Scope) (w : ℕ) → Scoped sig bound s c → w < nameBase + c .globals → true ≡ readable sig bound w
+reads-low sig bound s c w x h = rw (is-not-var sig (c .globals) w (x .globals) (x .few) h)
+
+pub reads-high : (sig : Sig) (bound s : List ℕ) (c : Scope) (w : ℕ) → Scoped sig bound s c → w < freshBase → nameBase + c .globals ≤ w → inScope s c w ≡ readable sig bound w
+reads-high sig bound s c w x old h = rw (is-var sig (c .globals) w (x .globals) old h) (sym (x .variables w h old))
+
+turn-let : (t b n : Bool) → t || (b || n) ≡ b || (n || (t || false))
+turn-let true true n = refl
+turn-let true false true = refl
+turn-let true false false = refl
+turn-let false true n = refl
+turn-let false false true = refl
+turn-let false false false = refl
+
+turn-name : (t n : Bool) → t || n ≡ n || (t || false)
+turn-name true true = refl
+turn-name true false = refl
+turn-name false true = refl
+turn-name false false = refl
+
+-- a name more is let, behind the others
+pub scope-let : (sig : Sig) (bound s s′ : List ℕ) (c : Scope) (v : ℕ) → Scoped sig bound s c → length s′ ≡ length s → c .first + c .names < length s
+    → ((i : ℕ) → i < c .body → getD s′ i 0 ≡ getD s i 0) → ((i : ℕ) → c .first ≤ i → i < c .first + c .names → getD s′ i 0 ≡ getD s i 0)
+    → getD s′ (c .first + c .names) 0 ≡ v → Scoped sig (v ∷ bound) s′ (grown c 1)
+unfolding inScope
+scope-let sig bound s s′ c v x z room b n e =
+    let e1 : part s′ 0 (c .body) ≡ part s 0 (c .body) = part-same s s′ 0 (c .body) z (λ i p q. b i (omega arith)) in
+    let e2 : part s′ (c .first) (c .names) ≡ part s (c .first) (c .names) = part-same s s′ (c .first) (c .names) z n in
+    let e3 : part s′ (c .first) (c .names + 1) ≡ part s (c .first) (c .names) ++ (v ∷ []) = part-more s′ (c .first) (c .names) (omega arith) ∙ (λ i. e2 i ++ (e i ∷ [])) in
+    let names : (w : ℕ) → elem w (part s′ (c .first) (c .names + 1)) ≡ elem w (part s (c .first) (c .names)) || (eqb w v || false) =
+    λ w. ap (elem w) e3 ∙ elem-append w (part s (c .first) (c .names)) (v ∷ []) in
+    record {
+      globals = x .globals;
+      few = x .few;
+      variables =
+          λ w p q. ap (λ (t : Bool). eqb w v || t) (x .variables w p q)
+          ∙ turn-let (eqb w v) (elem w (part s 0 (c .body))) (elem w (part s (c .first) (c .names)))
+          ∙ sym (λ i. elem w (e1 i) || names w i);
+      global = λ w p. ap (λ (t : Bool). eqb w v || t) (x .global w p) ∙ turn-name (eqb w v) (elem w (part s (c .first) (c .names))) ∙ sym (names w);
+    }
+
+-- ---- room
+
+pub scope-fits : {n at to sp lg : ℕ} {s : List ℕ} {c : Scope} → ScopeRoom n at to sp c → Room n at to sp lg (length s) → at ≤ n → ScopeFits s c
+scope-fits x r h =
+    let b = x .body in
+    let m = x .names in
+    let t = x .top in
+    let r1 = r .words in
+    let r2 = r .stack in
+    let r3 = r .log in
+    record { few = x .few; body = omega arith; names = omega arith }

@@ -1,0 +1,430 @@
+-- Unions that become sets: passing over an expression, which unions these are, and what they are then. Assumes nothing.
+use mathlib.Core.Path.{_≡_, refl, sym, ap, _∙_, subst}
+use mathlib.Core.Bool.{Bool, true, false, cond, _&&_}
+use mathlib.Core.List.{List}
+use mathlib.Core.Option.{Option, none, some}
+use Prim.Native.Nat.{ℕ, zero, suc, _+_, _-_, _*_, _≤_, _<_}
+use native.Mathlib.Omega.{arith}
+use lib.Dec.{ltb, leb, eqb}
+use lib.ListN.{length, getD}
+use borrow.Author.Tests.{ltb-true, ltb-false, lt-ltb, le-ltb, le-leb, lt-leb}
+use Rattle.rules.specs.Words.{limit12, maxDepth, nameBase, literalBase, headBase, freshBase, actionWord, headOf, countOf}
+use Rattle.rules.specs.Refusals.{Res, ok, refuse, _>>=_, unfit, tooDeep}
+use Rattle.rules.specs.Signature.{Sig, heads, isConstructor, isName}
+use Rattle.rules.specs.Written.{Expr, Exprs, leaf, call, end, _then_, Shape, isLeaf, isCall, isBad, shapeAt, Read, Reader, readShape, readExpr, readMany}
+use Rattle.rules.specs.ToCoreActions.{Done, AsSet, optional, unionAsSet, lowerUnion, lowerSet}
+use Rattle.meaning.proofs.Results.{bind-ok, ok-inj, refuse-ok}
+use Rattle.walks.specs.Steps.{Piece, Walked, ReadAt, ExprAt, ExprsAt}
+use Rattle.walks.proofs.Read.{moved, expr-some, leaf-cases, call-cases, first-cases, none-cases}
+use Rattle.walks.proofs.Asks.{expr-inside}
+use Rattle.core_actions.specs.Acts.{ChangeAt, PairAt, NameCallAt, arityOf, setMode, changed, Gave, Acts}
+use Rattle.core_actions.specs.Scopes.{Scoped, ScopeRoom}
+use Rattle.core_actions.specs.declared.scope.Scope.{Scope}
+use Rattle.core_actions.specs.declared.actions.Acted.{Acted}
+use Rattle.core_actions.proofs.Acting.{acts-same}
+use Rattle.core_actions.specs.Lowered.{donePiece}
+use Rattle.core_actions.proofs.Pieces.{snoc, done-set-row, SameBound, same-set}
+
+-- ---- passing over an expression
+
+module _ (sig : Sig) (ws : List ℕ) where
+  -- n expressions from `at` on, which end at e
+  abbrev pub Forest : ℕ → ℕ → ℕ → Type 0
+  Forest zero at e = at ≡ e
+  Forest (suc n) at e = (d : ℕ) × (x : ExprAt sig ws d at) × Forest n (at + x .size) e
+
+  pub forest-in : (n at e : ℕ) → Forest n at e → at + n ≤ e
+  forest-in zero at e f = omega arith
+  forest-in (suc n) at e f = omega (arith, expr-some sig ws (f .0) at (f .1), forest-in n (at + f .1 .size) e (f .2))
+
+  pub forest-none : (n at e : ℕ) → Forest n at e → n ≡ 0 → at ≡ e
+  forest-none zero at e f z = f
+  forest-none (suc n) at e f z = absurd (omega arith)
+
+  -- expressions in front of others
+  front : (d n m at e : ℕ) (x : ExprsAt sig ws d n at) → Forest m (at + x .size) e → Forest (n + m) at e
+  front d zero m at e x f =
+      let same : m ≡ 0 + m = omega arith in
+      subst (λ (k : ℕ). Forest k at e) same (none-cases sig ws (λ es k. Forest m (at + k) e → Forest m at e) d zero at x refl (λ g. here g) f)
+    where
+      here : Forest m (at + 0) e → Forest m at e
+      here = let z : at + 0 ≡ at = omega arith in subst (λ (k : ℕ). Forest m k e) z
+  front d (suc n) m at e x f =
+      let same : suc (n + m) ≡ suc n + m = omega arith in
+      subst (λ (k : ℕ). Forest k at e) same
+      (first-cases sig ws (λ es k. Forest m (at + k) e → Forest (suc (n + m)) at e) d (suc n) at x (omega arith) (λ y ys g. next (λ a z h. front d n m a e z h) y ys g) f)
+    where
+      next : ((a : ℕ) (z : ExprsAt sig ws d n a) → Forest m (a + z .size) e → Forest (n + m) a e) → (y : ExprAt sig ws d at) (ys : ExprsAt sig ws d (suc n - 1) (at + y .size)) → Forest m (at + (y .size + ys .size)) e → Forest (suc (n + m)) at e
+      next again y ys g =
+          let less : suc n - 1 ≡ n = omega arith in
+          let there : at + (y .size + ys .size) ≡ at + y .size + ys .size = omega arith in
+          let zs : ExprsAt sig ws d n (at + y .size) =
+          record {
+            value = ys .value;
+            size = ys .size;
+            reads = subst (λ (k : ℕ). readMany (readExpr sig ws d) k (at + y .size) ≡ ok (record { value = ys .value; at = at + y .size + ys .size })) less (ys .reads);
+            inside = ys .inside;
+          } in
+          (d, y, again (at + y .size) zs (subst (λ (k : ℕ). Forest m k e) there g))
+
+  module _ (few : heads sig ≤ limit12) where
+    -- the first word of the next expression is passed
+    pub forest-step : (left at e w : ℕ) → Forest left at e → 0 < left → w ≡ getD ws at 0 → Forest (left - 1 + arityOf w) (at + 1) e
+    forest-step zero at e w f h is = absurd (omega arith)
+    forest-step (suc n) at e w f h is = go (ltb w literalBase) refl
+      where
+        go : (b : Bool) → ltb w literalBase ≡ b → Forest (suc n - 1 + cond b (countOf w) 0) (at + 1) e
+        go true t =
+            let count : countOf w + n ≡ suc n - 1 + countOf w = omega arith in
+            subst (λ (k : ℕ). Forest k (at + 1) e) count
+            (call-cases sig ws few (λ t k. Forest n (at + k) e → Forest (countOf w + n) (at + 1) e) (f .0) at w (f .1) is (ltb-true w literalBase t)
+            (λ es deep high hd g. inner es g) (f .2))
+          where
+            inner : (es : ExprsAt sig ws (f .0 - 1) (countOf w) (at + 1)) → Forest n (at + (1 + es .size)) e → Forest (countOf w + n) (at + 1) e
+            inner es g = let there : at + (1 + es .size) ≡ at + 1 + es .size = omega arith in front (f .0 - 1) (countOf w) n (at + 1) e es (subst (λ (k : ℕ). Forest n k e) there g)
+        go false t =
+            let count : n ≡ suc n - 1 + 0 = omega arith in
+            subst (λ (k : ℕ). Forest k (at + 1) e) count
+            (leaf-cases sig ws few (λ t k. Forest n (at + k) e → Forest n (at + 1) e) (f .0) at w (f .1) is (ltb-false w literalBase t) (λ i o g. g) (f .2))
+
+    -- where a word is wanted, there is one, and it begins an expression
+    pub forest-here : (left at e w : ℕ) → Forest left at e → 0 < left → w ≡ getD ws at 0 → (at < length ws) × (headBase ≤ w)
+    forest-here zero at e w f h is = absurd (omega arith)
+    forest-here (suc n) at e w f h is = (expr-inside sig ws (f .0) at (f .1), go (ltb w literalBase) refl)
+      where
+        go : (b : Bool) → ltb w literalBase ≡ b → headBase ≤ w
+        go true t = call-cases sig ws few (λ t k. headBase ≤ w) (f .0) at w (f .1) is (ltb-true w literalBase t) (λ es deep high hd. high)
+        go false t = omega (arith, ltb-false w literalBase t)
+
+-- ---- which unions become sets
+
+flag-off : (a b : Bool) (n : ℕ) → cond (a && false && b) n 0 ≡ 0
+flag-off true b n = refl
+flag-off false b n = refl
+
+kind-off : (a b : Bool) (n : ℕ) → cond (a && b && false) n 0 ≡ 0
+kind-off true true n = refl
+kind-off true false n = refl
+kind-off false b n = refl
+
+pub mode-off : (sig : Sig) (a b : Expr) → sig .flag ≡ false → 0 ≡ setMode sig a b
+mode-off sig (leaf p w) (leaf q v) off = refl
+mode-off sig (leaf p w) (call q h es) off = sym (rw off (flag-off (isName w) (isConstructor sig h) 2))
+mode-off sig (call q h es) (leaf p w) off = sym (rw off (flag-off (isName w) (isConstructor sig h) 1))
+mode-off sig (call p h es) (call q g fs) off = refl
+
+module _ (sig : Sig) (ws : List ℕ) (few : heads sig ≤ limit12) (at : ℕ) (x : PairAt sig ws at) (w : ℕ) (is : w ≡ getD ws (at + 1) 0) where
+  abbrev Mode : ℕ → Type 0
+  Mode r = r ≡ setMode sig (x .left .value) (x .right .value)
+
+  -- the left side is a call
+  module _ (low : w < literalBase) where
+    pub left-high : headBase ≤ w
+    left-high = call-cases sig ws few (λ t k. headBase ≤ w) maxDepth (at + 1) w (x .left) is low (λ es deep high h. high)
+
+    pub left-head : headOf w < heads sig
+    left-head = call-cases sig ws few (λ t k. headOf w < heads sig) maxDepth (at + 1) w (x .left) is low (λ es deep high h. h)
+
+    pub left-no : isConstructor sig (headOf w) ≡ false → Mode 0
+    left-no no′ = call-cases sig ws few (λ t k. 0 ≡ setMode sig t (x .right .value)) maxDepth (at + 1) w (x .left) is low (λ es deep high h. go (es .value) (x .right .value))
+      where
+        go : (es : Exprs) (b : Expr) → 0 ≡ setMode sig (call (at + 1) (headOf w) es) b
+        go es (leaf p v) = sym (rw no′ (kind-off (isName v) (sig .flag) 1))
+        go es (call p h fs) = refl
+
+    module _ (v : ℕ) (isv : v ≡ getD ws (at + 1 + x .left .size) 0) where
+      -- what follows is no name
+      pub left-low : v < nameBase → Mode 0
+      left-low small = call-cases sig ws few (λ t k. 0 ≡ setMode sig t (x .right .value)) maxDepth (at + 1) w (x .left) is low (λ es deep high h. right (es .value) (ltb v literalBase) refl)
+        where
+          right : (es : Exprs) (b : Bool) → ltb v literalBase ≡ b → 0 ≡ setMode sig (call (at + 1) (headOf w) es) (x .right .value)
+          right es true t =
+              call-cases sig ws few (λ t k. 0 ≡ setMode sig (call (at + 1) (headOf w) es) t) maxDepth (at + 1 + x .left .size) v (x .right) isv (ltb-true v literalBase t) (λ fs deep high h. refl)
+          right es false t =
+              leaf-cases sig ws few (λ t k. 0 ≡ setMode sig (call (at + 1) (headOf w) es) t) maxDepth (at + 1 + x .left .size) v (x .right) isv (ltb-false v literalBase t)
+              (λ i o. sym (rw (lt-leb nameBase v small)))
+
+      pub left-set : sig .flag ≡ true → isConstructor sig (headOf w) ≡ true → nameBase ≤ v → Mode 1
+      left-set on yes′ name =
+          call-cases sig ws few (λ t k. 1 ≡ setMode sig t (x .right .value)) maxDepth (at + 1) w (x .left) is low
+          (λ es deep high h. leaf-cases sig ws few (λ t k. 1 ≡ setMode sig (call (at + 1) (headOf w) (es .value)) t) maxDepth (at + 1 + x .left .size) v (x .right) isv (omega arith)
+          (λ i o. sym (rw (le-leb nameBase v name, on, yes′))))
+
+  -- the left side is a leaf
+  module _ (high : literalBase ≤ w) where
+    pub right-at : at + 1 + x .left .size ≡ at + 2
+    right-at = leaf-cases sig ws few (λ t k. at + 1 + k ≡ at + 2) maxDepth (at + 1) w (x .left) is high (λ i o. omega arith)
+
+    pub right-low : w < nameBase → Mode 0
+    right-low small = leaf-cases sig ws few (λ t k. 0 ≡ setMode sig t (x .right .value)) maxDepth (at + 1) w (x .left) is high (λ i o. go (x .right .value))
+      where
+        go : (b : Expr) → 0 ≡ setMode sig (leaf (at + 1) w) b
+        go (leaf p v) = refl
+        go (call p h es) = sym (rw (lt-leb nameBase w small))
+
+    module _ (v : ℕ) (isv : v ≡ getD ws (at + 2) 0) where
+      there : v ≡ getD ws (at + 1 + x .left .size) 0
+      there = isv ∙ ap (λ (i : ℕ). getD ws i 0) (sym right-at)
+
+      pub right-leaf : literalBase ≤ v → Mode 0
+      right-leaf big =
+          leaf-cases sig ws few (λ t k. 0 ≡ setMode sig t (x .right .value)) maxDepth (at + 1) w (x .left) is high
+          (λ i o. leaf-cases sig ws few (λ t k. 0 ≡ setMode sig (leaf (at + 1) w) t) maxDepth (at + 1 + x .left .size) v (x .right) there big (λ j u. refl))
+
+      module _ (small : v < literalBase) where
+        pub right-high : headBase ≤ v
+        right-high = call-cases sig ws few (λ t k. headBase ≤ v) maxDepth (at + 1 + x .left .size) v (x .right) there small (λ es deep high h. high)
+
+        pub right-head : headOf v < heads sig
+        right-head = call-cases sig ws few (λ t k. headOf v < heads sig) maxDepth (at + 1 + x .left .size) v (x .right) there small (λ es deep high h. h)
+
+        pub right-no : isConstructor sig (headOf v) ≡ false → Mode 0
+        right-no no′ =
+            leaf-cases sig ws few (λ t k. 0 ≡ setMode sig t (x .right .value)) maxDepth (at + 1) w (x .left) is high
+            (λ i o. call-cases sig ws few (λ t k. 0 ≡ setMode sig (leaf (at + 1) w) t) maxDepth (at + 1 + x .left .size) v (x .right) there small
+            (λ es deep high h. sym (rw no′ (kind-off (isName w) (sig .flag) 2))))
+
+        pub right-set : sig .flag ≡ true → isConstructor sig (headOf v) ≡ true → nameBase ≤ w → Mode 2
+        right-set on yes′ name =
+            leaf-cases sig ws few (λ t k. 2 ≡ setMode sig t (x .right .value)) maxDepth (at + 1) w (x .left) is high
+            (λ i o. call-cases sig ws few (λ t k. 2 ≡ setMode sig (leaf (at + 1) w) t) maxDepth (at + 1 + x .left .size) v (x .right) there small
+            (λ es deep high h. sym (rw (le-leb nameBase w name, on, yes′))))
+
+-- ---- what they are then
+
+-- a union that stays one
+pub stays : (sig : Sig) (a b : Expr) (r : ℕ) → r ≡ setMode sig a b → (r ≡ 1 → ⊥) → (r ≡ 2 → ⊥) → unionAsSet sig a b ≡ none
+stays sig (leaf p w) (leaf q v) r e one two = refl
+stays sig (leaf p w) (call q h es) r e one two = go (isName w && sig .flag && isConstructor sig h) e
+  where
+    go : (t : Bool) → r ≡ cond t 2 0 → optional {A = AsSet} t (record { place = q; head = h; args = es; value = leaf p w }) ≡ none
+    go true k = absurd (two k)
+    go false k = refl
+stays sig (call q h es) (leaf p w) r e one two = go (isName w && sig .flag && isConstructor sig h) e
+  where
+    go : (t : Bool) → r ≡ cond t 1 0 → optional {A = AsSet} t (record { place = q; head = h; args = es; value = leaf p w }) ≡ none
+    go true k = absurd (one k)
+    go false k = refl
+stays sig (call p h es) (call q g fs) r e one two = refl
+
+-- an expression that may be d deep may be deeper
+module _ (sig : Sig) (ws : List ℕ) where
+  many-deeper : (one two : Reader Expr) → ((p : ℕ) (r : Read Expr) → one p ≡ ok r → two p ≡ ok r) → (n p : ℕ) (r : Read Exprs) → readMany one n p ≡ ok r → readMany two n p ≡ ok r
+  many-deeper one two k zero p r e = e
+  many-deeper one two k (suc n) p r e =
+      let a = bind-ok (one p) _ r e in
+      let b = bind-ok (readMany one n (a .0 .at)) _ r (a .2) in
+      rw (k p (a .0) (a .1), many-deeper one two k n (a .0 .at) (b .0) (b .1)) (b .2)
+
+  shape-deeper : (sh : Shape) (w p : ℕ) (f g : ℕ → Reader Exprs) → ((n q : ℕ) (r : Read Exprs) → f n q ≡ ok r → g n q ≡ ok r) → (r : Read Expr) → readShape sh false f w p ≡ ok r → readShape sh false g w p ≡ ok r
+  shape-deeper isBad w p f g k r e = e
+  shape-deeper isLeaf w p f g k r e = e
+  shape-deeper isCall w p f g k r e =
+      let a = bind-ok (f (countOf w) (suc p)) _ r e in
+      rw (k (countOf w) (suc p) (a .0) (a .1)) (a .2)
+
+  none-deep : (sh : Shape) (w p : ℕ) (f : ℕ → Reader Exprs) (r : Read Expr) → readShape sh true f w p ≡ ok r → ⊥
+  none-deep isBad w p f r e = refuse-ok unfit p r e
+  none-deep isLeaf w p f r e = refuse-ok tooDeep p r e
+  none-deep isCall w p f r e = refuse-ok tooDeep p r e
+
+  pub deeper : (d p : ℕ) (r : Read Expr) → readExpr sig ws d p ≡ ok r → readExpr sig ws (suc d) p ≡ ok r
+  deeper zero p r e = absurd (none-deep (shapeAt sig ws p) (getD ws p 0) p (λ n q. refuse tooDeep q) r e)
+  deeper (suc d) p r e =
+      shape-deeper (shapeAt sig ws p) (getD ws p 0) p (λ n q. readMany (λ t. readExpr sig ws d t) n q) (λ n q. readMany (λ t. readExpr sig ws (suc d) t) n q)
+      (λ n q x. many-deeper (λ t. readExpr sig ws d t) (λ t. readExpr sig ws (suc d) t) (λ t y. deeper d t y) n q x) r e
+
+bind-to : {A B : Type 0} (m : Res A) (k : A → Res B) (a : A) (b : Res B) → m ≡ ok a → k a ≡ b → _>>=_ m k ≡ b
+bind-to m k a b e f = ap (λ x. _>>=_ x k) e ∙ f
+
+-- one expression more behind a row
+pub many-snoc : (one : Reader Expr) (n p : ℕ) (r : Read Exprs) (q : Read Expr) → readMany one n p ≡ ok r → one (r .at) ≡ ok q → readMany one (n + 1) p ≡ ok (record { value = snoc (r .value) (q .value); at = q .at })
+many-snoc one zero p r q e f =
+    let is : record { value = end; at = p } ≡ r = ok-inj _ _ e in
+    subst (λ (x : Read Exprs). one (x .at) ≡ ok q → readMany one 1 p ≡ ok (record { value = snoc (x .value) (q .value); at = q .at })) is (λ g. rw g) f
+many-snoc one (suc n) p r q e f =
+    let a = bind-ok (one p) _ r e in
+    let b = bind-ok (readMany one n (a .0 .at)) _ r (a .2) in
+    let is = ok-inj _ _ (b .2) in
+    let last : one (b .0 .at) ≡ ok q = subst (λ (x : Read Exprs). one (x .at) ≡ ok q) (sym is) f in
+    let rest = many-snoc one n (a .0 .at) (b .0) q (b .1) last in
+    let count : suc (n + 1) ≡ suc n + 1 = omega arith in
+    subst (λ (k : ℕ). readMany one k p ≡ ok (record { value = snoc (r .value) (q .value); at = q .at })) count
+    (subst (λ (x : Read Exprs). readMany one (suc (n + 1)) p ≡ ok (record { value = snoc (x .value) (q .value); at = q .at })) is
+    (bind-to (one p) _ (a .0) _ (a .1) (bind-to (readMany one (n + 1) (a .0 .at)) _ _ _ rest refl)))
+
+cond-true : (t : Bool) (n r : ℕ) → 0 < n → n ≡ cond t n 0 → t ≡ true
+cond-true true n r h e = refl
+cond-true false n r h e = absurd (omega arith)
+
+module _ (sig : Sig) (ws : List ℕ) (few : heads sig ≤ limit12) (at : ℕ) (x : PairAt sig ws at) where
+  -- with the call on the left: the name stands behind its arguments
+  pub record LeftSet : Type 0 where
+    pub change : ChangeAt sig ws 1 at
+    pub size : 2 + change .exprs .size ≡ 1 + (x .left .size + x .right .size)
+    pub piece : (bound cs : List ℕ)
+        → donePiece (lowerUnion sig bound (unionAsSet sig (x .left .value) (x .right .value)) (x .left .value) (x .right .value) cs)
+        ≡ changed sig bound (actionWord 2) 1 (at + 1) (headOf (getD ws (at + 1) 0)) (change .exprs .value) cs
+    pub same : (bound cs : List ℕ) → SameBound sig bound (lowerUnion sig bound (unionAsSet sig (x .left .value) (x .right .value)) (x .left .value) (x .right .value) cs)
+
+  pub left-is : 1 ≡ setMode sig (x .left .value) (x .right .value) → LeftSet
+  left-is e = go (ltb w literalBase) refl
+    where
+      w : ℕ
+      w = getD ws (at + 1) 0
+
+      v : ℕ
+      v = getD ws (at + 1 + x .left .size) 0
+
+      made : (es : ExprsAt sig ws (maxDepth - 1) (countOf w) (at + 1 + 1)) → headBase ≤ w → headOf w < heads sig → call (at + 1) (headOf w) (es .value) ≡ x .left .value → 1 + es .size ≡ x .left .size
+          → leaf (at + 1 + x .left .size) v ≡ x .right .value → 1 ≡ x .right .size → LeftSet
+      made es high hd le ls re rs =
+          let n : Expr = leaf (at + 1 + x .left .size) v in
+          let two : at + 1 + 1 ≡ at + 2 = omega arith in
+          let r1 : readMany (readExpr sig ws maxDepth) (countOf w) (at + 2) ≡ ok (record { value = es .value; at = at + 2 + es .size }) =
+          subst (λ (k : ℕ). readMany (readExpr sig ws maxDepth) (countOf w) k ≡ ok (record { value = es .value; at = k + es .size })) two
+          (many-deeper sig ws (readExpr sig ws (maxDepth - 1)) (readExpr sig ws maxDepth) (deeper sig ws (maxDepth - 1)) (countOf w) (at + 1 + 1) _ (es .reads)) in
+          let there : at + 1 + x .left .size ≡ at + 2 + es .size = omega arith in
+          let r2 : readExpr sig ws maxDepth (at + 2 + es .size) ≡ ok (record { value = x .right .value; at = at + 2 + es .size + x .right .size }) =
+          subst (λ (k : ℕ). readExpr sig ws maxDepth k ≡ ok (record { value = x .right .value; at = k + x .right .size })) there (x .right .reads) in
+          let r3 = many-snoc (readExpr sig ws maxDepth) (countOf w) (at + 2) _ _ r1 r2 in
+          let ends : at + 2 + es .size + x .right .size ≡ at + 2 + (es .size + x .right .size) = omega arith in
+          let u : AsSet = record { place = at + 1; head = headOf w; args = es .value; value = n } in
+          let test : (isName v && sig .flag && isConstructor sig (headOf w)) ≡ true =
+          cond-true (isName v && sig .flag && isConstructor sig (headOf w)) 1 0 (omega arith) (e ∙ (λ i. setMode sig (sym le i) (sym re i))) in
+          let some′ : unionAsSet sig (x .left .value) (x .right .value) ≡ some u = (λ i. unionAsSet sig (sym le i) (sym re i)) ∙ ap (λ (t : Bool). optional t u) test in
+          record {
+            change =
+                record {
+                  high = high;
+                  head = hd;
+                  exprs =
+                      record {
+                        value = snoc (es .value) (x .right .value);
+                        size = es .size + x .right .size;
+                        reads = r3 ∙ (λ i. ok (record { value = snoc (es .value) (x .right .value); at = ends i }));
+                        inside = omega (arith, x .right .inside);
+                      };
+                };
+            size = omega arith;
+            piece =
+                λ bound cs. (λ i. donePiece (lowerUnion sig bound (some′ i) (x .left .value) (x .right .value) cs)) ∙ done-set-row sig bound (at + 1) (headOf w) (es .value) n cs
+                ∙ (λ i. changed sig bound (actionWord 2) 1 (at + 1) (headOf w) (snoc (es .value) (re i)) cs);
+            same = λ bound cs. subst (λ (o : Option AsSet). SameBound sig bound (lowerUnion sig bound o (x .left .value) (x .right .value) cs)) (sym some′) (same-set sig bound (at + 1) (headOf w) (es .value) n cs);
+          }
+
+      right : (es : ExprsAt sig ws (maxDepth - 1) (countOf w) (at + 1 + 1)) → headBase ≤ w → headOf w < heads sig → call (at + 1) (headOf w) (es .value) ≡ x .left .value → 1 + es .size ≡ x .left .size
+          → (b : Bool) → ltb v literalBase ≡ b → LeftSet
+      right es high hd le ls true t =
+          call-cases sig ws few (λ f k. f ≡ x .right .value → LeftSet) maxDepth (at + 1 + x .left .size) v (x .right) refl (ltb-true v literalBase t)
+          (λ fs deep h2 hd2 re. absurd (let z : _≡_ {A = ℕ} 1 0 = e ∙ (λ i. setMode sig (sym le i) (sym re i)) in omega arith)) refl
+      right es high hd le ls false t =
+          leaf-cases sig ws few (λ f k. f ≡ x .right .value → k ≡ x .right .size → LeftSet) maxDepth (at + 1 + x .left .size) v (x .right) refl (ltb-false v literalBase t)
+          (λ i o re rs. made es high hd le ls re rs) refl refl
+
+      go : (b : Bool) → ltb w literalBase ≡ b → LeftSet
+      go true t =
+          call-cases sig ws few (λ f k. f ≡ x .left .value → k ≡ x .left .size → LeftSet) maxDepth (at + 1) w (x .left) refl (ltb-true w literalBase t)
+          (λ es deep high hd le ls. right es high hd le ls (ltb v literalBase) refl) refl refl
+      go false t =
+          leaf-cases sig ws few (λ f k. f ≡ x .left .value → LeftSet) maxDepth (at + 1) w (x .left) refl (ltb-false w literalBase t)
+          (λ i o le. absurd (not-one (x .right .value) (e ∙ ap (λ (f : Expr). setMode sig f (x .right .value)) (sym le)))) refl
+        where
+          not-one : (f : Expr) → 1 ≡ setMode sig (leaf (at + 1) w) f → ⊥
+          not-one (leaf p u) k = omega arith
+          not-one (call p h es) k = tested (isName w && sig .flag && isConstructor sig h) k
+            where
+              tested : (b : Bool) → _≡_ {A = ℕ} 1 (cond b 2 0) → ⊥
+              tested true k = let z : _≡_ {A = ℕ} 1 2 = k in omega arith
+              tested false k = let z : _≡_ {A = ℕ} 1 0 = k in omega arith
+
+  -- with the call on the right: it stands behind the name
+  pub record RightSet : Type 0 where
+    pub named : NameCallAt sig ws at
+    pub size : 3 + named .exprs .size ≡ 1 + (x .left .size + x .right .size)
+    pub is : (bound cs : List ℕ)
+        → lowerUnion sig bound (unionAsSet sig (x .left .value) (x .right .value)) (x .left .value) (x .right .value) cs
+        ≡ lowerSet sig bound (at + 2) (headOf (getD ws (at + 2) 0)) (named .exprs .value) (leaf (at + 1) (getD ws (at + 1) 0)) cs
+
+  pub right-is : 2 ≡ setMode sig (x .left .value) (x .right .value) → RightSet
+  right-is e = go (ltb w literalBase) refl
+    where
+      w : ℕ
+      w = getD ws (at + 1) 0
+
+      v : ℕ
+      v = getD ws (at + 2) 0
+
+      made : w < freshBase → leaf (at + 1) w ≡ x .left .value → 1 ≡ x .left .size → (es : ExprsAt sig ws (maxDepth - 1) (countOf v) (at + 2 + 1)) → headBase ≤ v → headOf v < heads sig
+          → call (at + 2) (headOf v) (es .value) ≡ x .right .value → 1 + es .size ≡ x .right .size → RightSet
+      made old le ls es high hd re rs =
+          let three : at + 2 + 1 ≡ at + 3 = omega arith in
+          let u : AsSet = record { place = at + 2; head = headOf v; args = es .value; value = leaf (at + 1) w } in
+          let test : (isName w && sig .flag && isConstructor sig (headOf v)) ≡ true =
+          cond-true (isName w && sig .flag && isConstructor sig (headOf v)) 2 0 (omega arith) (e ∙ (λ i. setMode sig (sym le i) (sym re i))) in
+          let some′ : unionAsSet sig (x .left .value) (x .right .value) ≡ some u = (λ i. unionAsSet sig (sym le i) (sym re i)) ∙ ap (λ (t : Bool). optional t u) test in
+          record {
+            named = record { old = old; high = high; head = hd; exprs = moved (readMany (readExpr sig ws (maxDepth - 1)) (countOf v)) ws (at + 2 + 1) (at + 3) three es };
+            size = omega arith;
+            is = λ bound cs i. lowerUnion sig bound (some′ i) (x .left .value) (x .right .value) cs;
+          }
+
+      right : w < freshBase → leaf (at + 1) w ≡ x .left .value → 1 ≡ x .left .size → (b : Bool) → ltb v literalBase ≡ b → RightSet
+      right old le ls b t = by b t
+        where
+          there : at + 1 + x .left .size ≡ at + 2
+          there = omega arith
+
+          y : ExprAt sig ws maxDepth (at + 2)
+          y = moved (readExpr sig ws maxDepth) ws (at + 1 + x .left .size) (at + 2) there (x .right)
+
+          by : (b : Bool) → ltb v literalBase ≡ b → RightSet
+          by true t =
+              call-cases sig ws few (λ f k. f ≡ x .right .value → k ≡ x .right .size → RightSet) maxDepth (at + 2) v y refl (ltb-true v literalBase t)
+              (λ es deep high hd re rs. made old le ls es high hd re rs) refl refl
+          by false t =
+              leaf-cases sig ws few (λ f k. f ≡ x .right .value → RightSet) maxDepth (at + 2) v y refl (ltb-false v literalBase t)
+              (λ i o re. absurd (let z : _≡_ {A = ℕ} 2 0 = e ∙ (λ i. setMode sig (sym le i) (sym re i)) in omega arith)) refl
+
+      go : (b : Bool) → ltb w literalBase ≡ b → RightSet
+      go false t =
+          leaf-cases sig ws few (λ f k. f ≡ x .left .value → k ≡ x .left .size → RightSet) maxDepth (at + 1) w (x .left) refl (ltb-false w literalBase t)
+          (λ i o le ls. right o le ls (ltb v literalBase) refl) refl refl
+      go true t =
+          call-cases sig ws few (λ f k. f ≡ x .left .value → RightSet) maxDepth (at + 1) w (x .left) refl (ltb-true w literalBase t)
+          (λ es deep high hd le. absurd (not-two (es .value) (x .right .value) (e ∙ ap (λ (f : Expr). setMode sig f (x .right .value)) (sym le)))) refl
+        where
+          not-two : (es : Exprs) (f : Expr) → 2 ≡ setMode sig (call (at + 1) (headOf w) es) f → ⊥
+          not-two es (call p h fs) k = omega arith
+          not-two es (leaf p u) k = tested (isName u && sig .flag && isConstructor sig (headOf w)) k
+            where
+              tested : (b : Bool) → _≡_ {A = ℕ} 2 (cond b 1 0) → ⊥
+              tested true k = let z : _≡_ {A = ℕ} 2 1 = k in omega arith
+              tested false k = let z : _≡_ {A = ℕ} 2 0 = k in omega arith
+
+-- ---- and what is left of the scratch
+
+module _ (sig : Sig) (bound ws : List ℕ) (few : heads sig ≤ limit12) (at to sp lg : ℕ) (c : Scope) (s cs s′ cs′ : List ℕ) (x : PairAt sig ws at) (r : Acted) where
+  abbrev UnionActs : Type 0
+  UnionActs = Acts (lowerUnion sig bound (unionAsSet sig (x .left .value) (x .right .value)) (x .left .value) (x .right .value) cs) sig c (1 + (x .left .size + x .right .size)) at to sp lg s cs s′ cs′ r
+
+  pub left-acts : (l : LeftSet sig ws few at x) → r .names ≡ 0 → ScopeRoom (length ws) at to sp c → Scoped sig bound s c
+      → Walked 0 (Gave r) (changed sig bound (actionWord 2) 1 (at + 1) (headOf (getD ws (at + 1) 0)) (l .change .exprs .value) cs) (2 + l .change .exprs .size) at to sp lg s cs s′ cs′ (r .walk) → UnionActs
+  left-acts l en sr sc w =
+      let u = lowerUnion sig bound (unionAsSet sig (x .left .value) (x .right .value)) (x .left .value) (x .right .value) cs in
+      let i = x .right .inside in
+      acts-same sig bound c (length ws) u (l .same bound cs) en sr (omega arith) sc
+      (subst (λ (k : ℕ). Walked 0 (Gave r) (donePiece u) k at to sp lg s cs s′ cs′ (r .walk)) (l .size)
+      (subst (λ (p : Res Piece). Walked 0 (Gave r) p (2 + l .change .exprs .size) at to sp lg s cs s′ cs′ (r .walk)) (sym (l .piece bound cs)) w))
+
+  pub right-acts : (l : RightSet sig ws few at x)
+      → Acts (lowerSet sig bound (at + 2) (headOf (getD ws (at + 2) 0)) (l .named .exprs .value) (leaf (at + 1) (getD ws (at + 1) 0)) cs) sig c (3 + l .named .exprs .size) at to sp lg s cs s′ cs′ r → UnionActs
+  right-acts l w =
+      let u = lowerUnion sig bound (unionAsSet sig (x .left .value) (x .right .value)) (x .left .value) (x .right .value) cs in
+      subst (λ (k : ℕ). Acts u sig c k at to sp lg s cs s′ cs′ r) (l .size)
+      (subst (λ (d : Res Done). Acts d sig c (3 + l .named .exprs .size) at to sp lg s cs s′ cs′ r) (sym (l .is bound cs)) w)
+
+  pub none-acts : unionAsSet sig (x .left .value) (x .right .value) ≡ none
+      → Acts (lowerUnion sig bound none (x .left .value) (x .right .value) cs) sig c (1 + (x .left .size + x .right .size)) at to sp lg s cs s′ cs′ r → UnionActs
+  none-acts e =
+      subst (λ (o : Option AsSet). Acts (lowerUnion sig bound o (x .left .value) (x .right .value) cs) sig c (1 + (x .left .size + x .right .size)) at to sp lg s cs s′ cs′ r) (sym e)

@@ -1,0 +1,83 @@
+use Prim.Native.Nat.{ℕ, _+_, _*_, _-_, _<_, _≤_}
+use mathlib.Core.Path.{_≡_, refl, sym, ap, _∙_}
+use mathlib.Core.List.{List}
+use native.Mathlib.Omega.{arith}
+use lib.ListN.{length, getD}
+use Rattle.octets.specs.Words.{words}
+use Rattle.octets.proofs.Words.{length-words, length-words-kept}
+use Rattle.rules.specs.Words.{maxDepth, headOf, countOf}
+use Rattle.rules.specs.Signature.{Sig}
+use Rattle.walks.specs.Steps.{Room, Under, Counted}
+use Rattle.walks.proofs.Asks.{counted-kept}
+use Rattle.core_actions.specs.Scopes.{Scoped, ScopeRoom, Names}
+use Rattle.core_actions.proofs.Scopes.{scope-fits}
+use Rattle.walks.proofs.Asks.{expr-inside}
+use Rattle.core_actions.proofs.Acting.{expression-acts}
+use borrow.Author.Needs.{needs}
+use Rattle.core_actions.proofs.actions.lower_expression.Statement.{statement}
+use Rattle.core_actions.proofs.actions.lower_expression.Tie as tie
+use Rattle.core_actions.proofs.actions.lower_expression.Reads as reads
+use Rattle.core_actions.proofs.actions.lower_expression.Lts as lts
+use Rattle.core_actions.proofs.exprs.lower.Reads as lower-reads
+
+-- src/actions.rt:104:25
+add-lower : tie.Need-add-lower
+add-lower c =
+    let a = c .before .before .before .args in
+    let ws = words (a .rule .now) in
+    let cs = words (a .counters .now) in
+    let s = words (a .scratch .now) in
+    let q = c .before .before .before .pre .0 in
+    let room = c .before .before .before .pre .1 .0 in
+    let sr = c .before .before .before .pre .1 .1 in
+    let i = expr-inside (q .sig) ws maxDepth (a .at + 1) (q .known .0) in
+    omega (arith, length-words (a .rule .now), c .before .before .before .good)
+
+-- src/actions.rt:104:9
+lower-requires : tie.Need-lower-requires
+lower-requires c κs =
+    let a = c .before .before .before .before .before .args in
+    let ws = words (a .rule .now) in
+    let cs = words (a .counters .now) in
+    let s = words (a .scratch .now) in
+    let q = c .before .before .before .before .before .pre .0 in
+    let room = c .before .before .before .before .before .pre .1 .0 in
+    let sr = c .before .before .before .before .before .pre .1 .1 in
+    (record { sig = q .sig; known = (q .known .0, q .known .1, q .known .2) }, (record { words = omega (arith, room .words); stack = omega (arith, room .stack); log = omega (arith, room .log) }, record { few = sr .few; body = sr .body; names = omega (arith, sr .names); top = sr .top }))
+
+-- src/actions.rt:105:39
+sub-t10 : tie.Need-sub-t10
+sub-t10 c =
+    let a = c .before .before .before .before .before .before .before .before .before .before .before .args in
+    let ws = words (a .rule .now) in
+    let cs = words (a .counters .now) in
+    let s = words (a .scratch .now) in
+    let q = c .before .before .before .before .before .before .before .before .before .before .before .pre .0 in
+    let room = c .before .before .before .before .before .before .before .before .before .before .before .pre .1 .0 in
+    let sr = c .before .before .before .before .before .before .before .before .before .before .before .pre .1 .1 in
+    omega (arith, c .before .before .before .before .before .lower .ensures (q .sig) (q .known .0) (q .known .2 .bound) (q .known .1) (q .known .2 .scoped) .kept .upTo)
+
+-- src/actions.rt:97:1
+same-length : tie.Need-same-length
+same-length c = search needs
+
+-- src/actions.rt:97:1
+same-length-2 : tie.Need-same-length-2
+same-length-2 c = search needs
+
+-- src/actions.rt:97:1
+returns : tie.Need-returns
+returns c =
+    let a = c .before .before .before .before .before .before .before .before .before .before .before .args in
+    let ws = words (a .rule .now) in
+    let cs = words (a .counters .now) in
+    let s = words (a .scratch .now) in
+    let q = c .before .before .before .before .before .before .before .before .before .before .before .pre .0 in
+    let room = c .before .before .before .before .before .before .before .before .before .before .before .pre .1 .0 in
+    let sr = c .before .before .before .before .before .before .before .before .before .before .before .pre .1 .1 in
+    let k = c .before .before .before .before .before .lower in
+    λ sig x bound n sc. expression-acts sig bound ws (a .at) (a .to) (a .sp) (a .log) (a .scope) s cs x _ _ (record { walk = k .result; names = 0; count = k .result .log - a .log }) (k .ensures sig x bound n sc) room sr sc refl refl
+
+pub lower-expression-spec : {M : Type 1} → statement M
+lower-expression-spec =
+    tie.close (tie.spec add-lower lower-requires sub-t10 same-length same-length-2 returns)

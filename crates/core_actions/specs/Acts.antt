@@ -1,0 +1,96 @@
+-- 01, "Lowering the head": where actions stand in a written rule, and what lowering one of them leaves.
+-- Assumes nothing: these are definitions.
+use mathlib.Core.Path.{_≡_}
+use mathlib.Core.Bool.{Bool, _&&_, cond}
+use mathlib.Core.List.{List, [], _∷_, _++_}
+use Prim.Native.Nat.{ℕ, _+_, _-_, _<_, _≤_}
+use lib.Dec.{eqb, ltb}
+use lib.ListN.{length, getD}
+use Rattle.rules.specs.Words.{maxDepth, literalBase, headBase, freshBase, signatureBase, headWord, headOf, countOf}
+use Rattle.rules.specs.Refusals.{Res, ok, refuse, _>>=_}
+use Rattle.rules.specs.Signature.{Sig, heads, isConstructor, isName}
+use Rattle.rules.specs.Written.{Expr, Exprs, leaf, call, readAction, readRow}
+use Rattle.rules.specs.ToQuery.{Fresh, fresh}
+use Rattle.rules.specs.ToCoreActions.{Done}
+use Rattle.walks.specs.Steps.{Piece, Walked, ReadAt, ExprAt, ExprsAt}
+use Rattle.core_actions.specs.Scopes.{Scoped, grown}
+use Rattle.core_actions.specs.Lowered.{donePiece, loweredAll}
+use Rattle.core_actions.specs.declared.scope.Scope.{Scope}
+use Rattle.core_actions.specs.declared.actions.Acted.{Acted}
+
+-- ---- where they stand; `at` is the place of the action word
+
+abbrev pub ActionAt : Sig → List ℕ → ℕ → Type 0
+ActionAt sig ws at = ReadAt (readAction sig ws) ws at
+
+abbrev pub ActionsAt : Sig → List ℕ → ℕ → ℕ → Type 0
+ActionsAt sig ws n at = ReadAt (readRow (readAction sig ws) n) ws at
+
+-- a let: its name, then its expression
+pub record LetAt (sig : Sig) (ws : List ℕ) (at : ℕ) : Type 0 where
+  pub old : getD ws (at + 1) 0 < freshBase
+  pub expr : ExprAt sig ws maxDepth (at + 2)
+
+-- set, delete and subsume: a kind 3 word, as many expressions as it counts, and `more` behind them
+pub record ChangeAt (sig : Sig) (ws : List ℕ) (more at : ℕ) : Type 0 where
+  pub high : headBase ≤ getD ws (at + 1) 0
+  pub head : headOf (getD ws (at + 1) 0) < heads sig
+  pub exprs : ExprsAt sig ws maxDepth (countOf (getD ws (at + 1) 0) + more) (at + 2)
+
+-- a union: two expressions
+pub record PairAt (sig : Sig) (ws : List ℕ) (at : ℕ) : Type 0 where
+  pub left : ExprAt sig ws maxDepth (at + 1)
+  pub right : ExprAt sig ws maxDepth (at + 1 + left .size)
+
+-- a name, and a call behind it
+pub record NameCallAt (sig : Sig) (ws : List ℕ) (at : ℕ) : Type 0 where
+  pub old : getD ws (at + 1) 0 < freshBase
+  pub high : headBase ≤ getD ws (at + 2) 0
+  pub head : headOf (getD ws (at + 2) 0) < heads sig
+  pub exprs : ExprsAt sig ws (maxDepth - 1) (countOf (getD ws (at + 2) 0)) (at + 3)
+
+-- ---- what is left
+
+-- an action of n terms, the last `more` of which its kind 3 word does not count
+abbrev pub changePiece : (code more h : ℕ) → Piece → Fresh → Piece
+changePiece code more h p f =
+    record { terms = []; words = p .words ++ code ∷ headWord h (length (p .terms) - more) ∷ p .terms; count = p .count + 1; next = f .next }
+
+-- expressions, then one use of the head's counter, then the action of their terms
+abbrev pub changed : Sig → List ℕ → (code more p h : ℕ) → Exprs → List ℕ → Res Piece
+changed sig bound code more p h es cs = do
+  q ← loweredAll sig bound es cs
+  f ← fresh p h (q .next)
+  ok (changePiece code more h q f)
+
+-- the answer says how many flat actions were given
+abbrev pub Gave : Acted → Piece → Type 0
+Gave r p = p .count ≡ r .count
+
+-- after an action that is done the scope has as many names more as the answer says, and these are the names bound
+abbrev pub ScopeAfter : Res Done → Sig → Scope → List ℕ → Acted → Type 0
+ScopeAfter (ok d) sig c s′ r = (r .names ≤ 1) × Scoped sig (d .bound) s′ (grown c (r .names))
+ScopeAfter (refuse n p) sig c s′ r = Unit {0}
+
+pub record Acts (x : Res Done) (sig : Sig) (c : Scope) (k at to sp lg : ℕ) (s cs s′ cs′ : List ℕ) (r : Acted) : Type 0 where
+  pub piece : Walked 0 (Gave r) (donePiece x) k at to sp lg s cs s′ cs′ (r .walk)
+  pub after : ScopeAfter x sig c s′ r
+
+-- ---- the union that becomes a set
+
+-- the words of a signature say it
+pub record Signed (sig : Sig) (gs : List ℕ) : Type 0 where
+  pub flag : sig .flag ≡ eqb (getD gs 3 0) (signatureBase + 1)
+  pub inside : 4 + heads sig ≤ length gs
+  pub kinds : (h : ℕ) → h < heads sig → isConstructor sig h ≡ eqb (getD gs (4 + h) 0) (signatureBase + 1)
+
+-- 1: its left side is the constructor call; 2: its right side is; 0: it stays a union
+abbrev pub setMode : Sig → Expr → Expr → ℕ
+setMode sig (leaf p w) (leaf q v) = 0
+setMode sig (leaf p w) (call q h es) = cond (isName w && sig .flag && isConstructor sig h) 2 0
+setMode sig (call q h es) (leaf p w) = cond (isName w && sig .flag && isConstructor sig h) 1 0
+setMode sig (call p h es) (call q g fs) = 0
+
+-- how many expressions stand under the first word of an expression
+abbrev pub arityOf : ℕ → ℕ
+arityOf w = cond (ltb w literalBase) (countOf w) 0

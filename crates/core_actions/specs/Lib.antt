@@ -1,0 +1,4 @@
+-- What contracts of this crate, and of those above it, cite.
+pub mod Scopes
+pub mod Lowered
+pub mod Acts

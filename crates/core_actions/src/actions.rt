@@ -1,0 +1,389 @@
+// The actions of the head, one by one. The names let so far lie at the bottom of the stack, so that the stack of an action starts where they
+// end. Each call below an action has used one counter and given one flat action, so that the log also counts the actions.
+use crate::exprs::lower;
+use crate::exprs::lower_all;
+use crate::scope::Scope;
+use crate::scope::may_read;
+use crate::scope::taken;
+use walks::Walk;
+ghost use mathlib.Core.Path.{_≡_};
+ghost use mathlib.Core.List.{List};
+ghost use mathlib.Core.Option.{none};
+ghost use Prim.Native.Nat.{ℕ, _+_, _-_, _<_, _≤_};
+ghost use lib.ListN.{length, getD};
+ghost use Rattle.octets.specs.Words.{words};
+ghost use Rattle.rules.specs.Words.{maxDepth, headOf, actionWord};
+ghost use Rattle.rules.specs.Signature.{Sig, elem};
+ghost use Rattle.rules.specs.Written.{leaf, panic′, expr′};
+ghost use Rattle.rules.specs.ToCoreActions.{lowerLet, lowerUnion, lowerSet, lowerAction};
+ghost use Rattle.walks.specs.Steps.{Walked, Room, Under, Counted, ExprAt};
+ghost use Rattle.core_actions.specs.Scopes.{Scoped, ScopeRoom, Names};
+ghost use Rattle.core_actions.specs.Acts.{LetAt, ChangeAt, PairAt, NameCallAt, changed, Gave, Acts};
+
+// The words of actions 1, 2, 5 and 6.
+const LET: u32 = 0x0200_0001;
+
+const SET: u32 = 0x0200_0002;
+
+const UNION: u32 = 0x0200_0005;
+
+const PANIC: u32 = 0x0200_0006;
+
+// The answer of an action: its walk, how many names it let, and how many flat actions it gave.
+pub struct Acted {
+    pub walk: Walk,
+    pub names: usize,
+    pub count: usize,
+}
+
+// A let, whose action word stands at `at`. Its name is tested before its expression, and bound behind it.
+pub fn lower_let(
+    rule: &[u8],
+    at: usize,
+    scope: Scope,
+    counters: &mut [u8],
+    scratch: &mut [u8],
+    to: usize,
+    sp: usize,
+    log: usize,
+) -> Acted
+    requires { ⌜ Under (λ sig. LetAt sig (words (now rule)) at × Counted sig (words (now counters)) × Names sig (words (now scratch)) scope) ⌝ }
+    requires { ⌜ Room (length (words (now rule))) at to sp log (length (words (now scratch))) ⌝ }
+    requires { ⌜ ScopeRoom (length (words (now rule))) at to sp scope ⌝ }
+    requires { ⌜ scope .first + scope .names ≡ sp ⌝ }
+    ensures { λ r. ⌜ ((sig : Sig) (x : LetAt sig (words (now (rule .entry))) at) (bound : List ℕ) → Counted sig (words (now (counters .entry))) → Scoped sig bound (words (now (scratch .entry))) scope
+        → Acts (lowerLet (elem (getD (words (now (rule .entry))) (at + 1) 0) bound) sig bound at (getD (words (now (rule .entry))) (at + 1) 0) (x .expr .value) (words (now (counters .entry)))) sig scope (2 + x .expr .size) at to sp log (words (now (scratch .entry))) (words (now (counters .entry))) (words (now (scratch .exit))) (words (now (counters .exit))) r) ⌝ }
+{
+    let name = octets::get(rule, at + 1);
+    if taken(scratch, scope, name) {
+        return Acted {
+            walk: Walk {
+                next: at,
+                to,
+                log,
+                term: 0,
+                refused: walks::ALREADY_DEFINED,
+            },
+            names: 0,
+            count: 0,
+        };
+    }
+    let e = lower(
+        rule,
+        at + 2,
+        walks::MAX_DEPTH,
+        scope,
+        counters,
+        scratch,
+        to,
+        sp,
+        log,
+    );
+    if e.refused != 0 {
+        return Acted {
+            walk: e,
+            names: 0,
+            count: 0,
+        };
+    }
+    let end = octets::rows::put_three(scratch, e.to, LET, name, e.term);
+    octets::put(scratch, sp, name);
+    Acted {
+        walk: Walk {
+            next: e.next,
+            to: end,
+            log: e.log,
+            term: 0,
+            refused: 0,
+        },
+        names: 1,
+        count: e.log - log + 1,
+    }
+}
+
+// Set, delete and subsume, and a union of a constructor call and a name: the expressions behind the kind 3 word at `at + 1`, `more` of which it
+// does not count, then one count of its head, then the action `code` of their terms.
+pub fn lower_change(
+    rule: &[u8],
+    at: usize,
+    code: u32,
+    more: usize,
+    scope: Scope,
+    counters: &mut [u8],
+    scratch: &mut [u8],
+    to: usize,
+    sp: usize,
+    log: usize,
+) -> Acted
+    requires { ⌜ Under (λ sig. ChangeAt sig (words (now rule)) more at × Counted sig (words (now counters)) × Names sig (words (now scratch)) scope) ⌝ }
+    requires { ⌜ Room (length (words (now rule))) at to sp log (length (words (now scratch))) ⌝ }
+    requires { ⌜ ScopeRoom (length (words (now rule))) at to sp scope ⌝ }
+    requires { ⌜ more ≤ 1 ⌝ }
+    ensures { λ r. ⌜ (r .names ≡ 0) × ((sig : Sig) (x : ChangeAt sig (words (now (rule .entry))) more at) (bound : List ℕ) → Counted sig (words (now (counters .entry))) → Scoped sig bound (words (now (scratch .entry))) scope
+        → Walked 0 (Gave r) (changed sig bound code more (at + 1) (headOf (getD (words (now (rule .entry))) (at + 1) 0)) (x .exprs .value) (words (now (counters .entry)))) (2 + x .exprs .size) at to sp log (words (now (scratch .entry))) (words (now (counters .entry))) (words (now (scratch .exit))) (words (now (counters .exit))) (r .walk)) ⌝ }
+{
+    let w = octets::get(rule, at + 1);
+    let h = (w - walks::HEAD) / walks::LIMIT_16;
+    let n = ((w - walks::HEAD) % walks::LIMIT_16) as usize + more;
+    let args = lower_all(
+        rule,
+        at + 2,
+        n,
+        walks::MAX_DEPTH,
+        scope,
+        counters,
+        scratch,
+        to,
+        sp,
+        log,
+    );
+    if args.refused != 0 {
+        return Acted {
+            walk: args,
+            names: 0,
+            count: 0,
+        };
+    }
+    let v = walks::take(counters, scratch, args.log, h);
+    if v == 0 {
+        return Acted {
+            walk: Walk {
+                next: at + 1,
+                to: args.to,
+                log: args.log,
+                term: 0,
+                refused: walks::USED_UP,
+            },
+            names: 0,
+            count: 0,
+        };
+    }
+    let end = octets::rows::put_terms(scratch, args.to, code, w, sp, n);
+    Acted {
+        walk: Walk {
+            next: args.next,
+            to: end,
+            log: args.log + 1,
+            term: 0,
+            refused: 0,
+        },
+        names: 0,
+        count: args.log - log + 1,
+    }
+}
+
+// A panic, whose action word stands at `at`, with its literal.
+pub fn lower_panic(
+    rule: &[u8],
+    at: usize,
+    scope: Scope,
+    counters: &mut [u8],
+    scratch: &mut [u8],
+    to: usize,
+    sp: usize,
+    log: usize,
+) -> Acted
+    requires { ⌜ at + 1 < length (words (now rule)) ⌝ }
+    requires { ⌜ Room (length (words (now rule))) at to sp log (length (words (now scratch))) ⌝ }
+    requires { ⌜ ScopeRoom (length (words (now rule))) at to sp scope ⌝ }
+    ensures { λ r. ⌜ ((sig : Sig) (bound : List ℕ) → Scoped sig bound (words (now (scratch .entry))) scope
+        → Acts (lowerAction sig bound (panic′ (getD (words (now (rule .entry))) (at + 1) 0)) (words (now (counters .entry)))) sig scope 2 at to sp log (words (now (scratch .entry))) (words (now (counters .entry))) (words (now (scratch .exit))) (words (now (counters .exit))) r) ⌝ }
+{
+    let l = octets::get(rule, at + 1);
+    let end = octets::rows::put_two(scratch, to, PANIC, l);
+    Acted {
+        walk: Walk {
+            next: at + 2,
+            to: end,
+            log,
+            term: 0,
+            refused: 0,
+        },
+        names: 0,
+        count: 1,
+    }
+}
+
+// An expression as an action, whose action word stands at `at`: only its calls are left.
+pub fn lower_expression(
+    rule: &[u8],
+    at: usize,
+    scope: Scope,
+    counters: &mut [u8],
+    scratch: &mut [u8],
+    to: usize,
+    sp: usize,
+    log: usize,
+) -> Acted
+    requires { ⌜ Under (λ sig. ExprAt sig (words (now rule)) maxDepth (at + 1) × Counted sig (words (now counters)) × Names sig (words (now scratch)) scope) ⌝ }
+    requires { ⌜ Room (length (words (now rule))) at to sp log (length (words (now scratch))) ⌝ }
+    requires { ⌜ ScopeRoom (length (words (now rule))) at to sp scope ⌝ }
+    ensures { λ r. ⌜ ((sig : Sig) (x : ExprAt sig (words (now (rule .entry))) maxDepth (at + 1)) (bound : List ℕ) → Counted sig (words (now (counters .entry))) → Scoped sig bound (words (now (scratch .entry))) scope
+        → Acts (lowerAction sig bound (expr′ (x .value)) (words (now (counters .entry)))) sig scope (1 + x .size) at to sp log (words (now (scratch .entry))) (words (now (counters .entry))) (words (now (scratch .exit))) (words (now (counters .exit))) r) ⌝ }
+{
+    let e = lower(
+        rule,
+        at + 1,
+        walks::MAX_DEPTH,
+        scope,
+        counters,
+        scratch,
+        to,
+        sp,
+        log,
+    );
+    Acted {
+        walk: e,
+        names: 0,
+        count: e.log - log,
+    }
+}
+
+// A union that stays one, whose action word stands at `at`: left, then right.
+pub fn unite(
+    rule: &[u8],
+    at: usize,
+    scope: Scope,
+    counters: &mut [u8],
+    scratch: &mut [u8],
+    to: usize,
+    sp: usize,
+    log: usize,
+) -> Acted
+    requires { ⌜ Under (λ sig. PairAt sig (words (now rule)) at × Counted sig (words (now counters)) × Names sig (words (now scratch)) scope) ⌝ }
+    requires { ⌜ Room (length (words (now rule))) at to sp log (length (words (now scratch))) ⌝ }
+    requires { ⌜ ScopeRoom (length (words (now rule))) at to sp scope ⌝ }
+    ensures { λ r. ⌜ ((sig : Sig) (x : PairAt sig (words (now (rule .entry))) at) (bound : List ℕ) → Counted sig (words (now (counters .entry))) → Scoped sig bound (words (now (scratch .entry))) scope
+        → Acts (lowerUnion sig bound none (x .left .value) (x .right .value) (words (now (counters .entry)))) sig scope (1 + (x .left .size + x .right .size)) at to sp log (words (now (scratch .entry))) (words (now (counters .entry))) (words (now (scratch .exit))) (words (now (counters .exit))) r) ⌝ }
+{
+    let left = lower(
+        rule,
+        at + 1,
+        walks::MAX_DEPTH,
+        scope,
+        counters,
+        scratch,
+        to,
+        sp,
+        log,
+    );
+    if left.refused != 0 {
+        return Acted {
+            walk: left,
+            names: 0,
+            count: 0,
+        };
+    }
+    let right = lower(
+        rule,
+        left.next,
+        walks::MAX_DEPTH,
+        scope,
+        counters,
+        scratch,
+        left.to,
+        sp,
+        left.log,
+    );
+    if right.refused != 0 {
+        return Acted {
+            walk: right,
+            names: 0,
+            count: 0,
+        };
+    }
+    let end = octets::rows::put_three(scratch, right.to, UNION, left.term, right.term);
+    Acted {
+        walk: Walk {
+            next: right.next,
+            to: end,
+            log: right.log,
+            term: 0,
+            refused: 0,
+        },
+        names: 0,
+        count: right.log - log + 1,
+    }
+}
+
+// A union of a name and a constructor call that becomes a set: the call's arguments, then the name.
+pub fn set_name(
+    rule: &[u8],
+    at: usize,
+    scope: Scope,
+    counters: &mut [u8],
+    scratch: &mut [u8],
+    to: usize,
+    sp: usize,
+    log: usize,
+) -> Acted
+    requires { ⌜ Under (λ sig. NameCallAt sig (words (now rule)) at × Counted sig (words (now counters)) × Names sig (words (now scratch)) scope) ⌝ }
+    requires { ⌜ Room (length (words (now rule))) at to sp log (length (words (now scratch))) ⌝ }
+    requires { ⌜ ScopeRoom (length (words (now rule))) at to sp scope ⌝ }
+    ensures { λ r. ⌜ ((sig : Sig) (x : NameCallAt sig (words (now (rule .entry))) at) (bound : List ℕ) → Counted sig (words (now (counters .entry))) → Scoped sig bound (words (now (scratch .entry))) scope
+        → Acts (lowerSet sig bound (at + 2) (headOf (getD (words (now (rule .entry))) (at + 2) 0)) (x .exprs .value) (leaf (at + 1) (getD (words (now (rule .entry))) (at + 1) 0)) (words (now (counters .entry)))) sig scope (3 + x .exprs .size) at to sp log (words (now (scratch .entry))) (words (now (counters .entry))) (words (now (scratch .exit))) (words (now (counters .exit))) r) ⌝ }
+{
+    let name = octets::get(rule, at + 1);
+    let w = octets::get(rule, at + 2);
+    let h = (w - walks::HEAD) / walks::LIMIT_16;
+    let n = ((w - walks::HEAD) % walks::LIMIT_16) as usize;
+    let args = lower_all(
+        rule,
+        at + 3,
+        n,
+        walks::MAX_DEPTH - 1,
+        scope,
+        counters,
+        scratch,
+        to,
+        sp,
+        log,
+    );
+    if args.refused != 0 {
+        return Acted {
+            walk: args,
+            names: 0,
+            count: 0,
+        };
+    }
+    if may_read(scratch, scope, name) {
+        octets::put(scratch, sp + n, name);
+        let v = walks::take(counters, scratch, args.log, h);
+        if v == 0 {
+            return Acted {
+                walk: Walk {
+                    next: at + 2,
+                    to: args.to,
+                    log: args.log,
+                    term: 0,
+                    refused: walks::USED_UP,
+                },
+                names: 0,
+                count: 0,
+            };
+        }
+        let end = octets::rows::put_terms(scratch, args.to, SET, w, sp, n + 1);
+        return Acted {
+            walk: Walk {
+                next: args.next,
+                to: end,
+                log: args.log + 1,
+                term: 0,
+                refused: 0,
+            },
+            names: 0,
+            count: args.log - log + 1,
+        };
+    }
+    Acted {
+        walk: Walk {
+            next: at + 1,
+            to: args.to,
+            log: args.log,
+            term: 0,
+            refused: walks::UNBOUND,
+        },
+        names: 0,
+        count: 0,
+    }
+}

@@ -1,0 +1,139 @@
+// Expressions of the head. A name must be bound or global; a call takes its fresh variable after its arguments, and becomes action 7.
+use crate::scope::Scope;
+use crate::scope::may_read;
+use walks::Walk;
+ghost use mathlib.Core.List.{List};
+ghost use Prim.Native.Nat.{ℕ, _+_};
+ghost use lib.ListN.{length};
+ghost use Rattle.octets.specs.Words.{words};
+ghost use Rattle.rules.specs.Signature.{Sig};
+ghost use Rattle.walks.specs.Steps.{Walked, InAnswer, OnStack, Room, Under, Counted, ExprAt, ExprsAt};
+ghost use Rattle.core_actions.specs.Scopes.{Scoped, ScopeRoom, Names};
+ghost use Rattle.core_actions.specs.Lowered.{lowered, loweredAll};
+
+// Action 7: a call whose answer is bound.
+const CALL: u32 = 0x0200_0007;
+
+// Lowers the expression at `at`, which is at most `depth` deep.
+pub fn lower(
+    rule: &[u8],
+    at: usize,
+    depth: u32,
+    scope: Scope,
+    counters: &mut [u8],
+    scratch: &mut [u8],
+    to: usize,
+    sp: usize,
+    log: usize,
+) -> Walk
+    requires { ⌜ Under (λ sig. ExprAt sig (words (now rule)) depth at × Counted sig (words (now counters)) × Names sig (words (now scratch)) scope) ⌝ }
+    requires { ⌜ Room (length (words (now rule))) at to sp log (length (words (now scratch))) ⌝ }
+    requires { ⌜ ScopeRoom (length (words (now rule))) at to sp scope ⌝ }
+    ensures { λ r. ⌜ ((sig : Sig) (x : ExprAt sig (words (now (rule .entry))) depth at) (bound : List ℕ) → Counted sig (words (now (counters .entry))) → Scoped sig bound (words (now (scratch .entry))) scope
+        → Walked 1 (InAnswer log r) (lowered sig bound (x .value) (words (now (counters .entry)))) (x .size) at to sp log (words (now (scratch .entry))) (words (now (counters .entry))) (words (now (scratch .exit))) (words (now (counters .exit))) r) ⌝ }
+{
+    let w = octets::get(rule, at);
+    if walks::LITERAL <= w {
+        if may_read(scratch, scope, w) {
+            return Walk {
+                next: at + 1,
+                to,
+                log,
+                term: w,
+                refused: 0,
+            };
+        }
+        return Walk {
+            next: at,
+            to,
+            log,
+            term: 0,
+            refused: walks::UNBOUND,
+        };
+    }
+    let h = (w - walks::HEAD) / walks::LIMIT_16;
+    let n = (w - walks::HEAD) % walks::LIMIT_16;
+    let args = lower_all(
+        rule,
+        at + 1,
+        n as usize,
+        depth - 1,
+        scope,
+        counters,
+        scratch,
+        to,
+        sp,
+        log,
+    );
+    if args.refused != 0 {
+        return args;
+    }
+    let v = walks::take(counters, scratch, args.log, h);
+    if v == 0 {
+        return Walk {
+            next: at,
+            to: args.to,
+            log: args.log,
+            term: 0,
+            refused: walks::USED_UP,
+        };
+    }
+    let end = octets::rows::put_call(scratch, args.to, CALL, v, w, sp, n as usize);
+    Walk {
+        next: args.next,
+        to: end,
+        log: args.log + 1,
+        term: v,
+        refused: 0,
+    }
+}
+
+// Lowers the n expressions from `at` on; their terms go onto the stack.
+pub fn lower_all(
+    rule: &[u8],
+    at: usize,
+    n: usize,
+    depth: u32,
+    scope: Scope,
+    counters: &mut [u8],
+    scratch: &mut [u8],
+    to: usize,
+    sp: usize,
+    log: usize,
+) -> Walk
+    requires { ⌜ Under (λ sig. ExprsAt sig (words (now rule)) depth n at × Counted sig (words (now counters)) × Names sig (words (now scratch)) scope) ⌝ }
+    requires { ⌜ Room (length (words (now rule))) at to sp log (length (words (now scratch))) ⌝ }
+    requires { ⌜ ScopeRoom (length (words (now rule))) at to sp scope ⌝ }
+    ensures { λ r. ⌜ ((sig : Sig) (x : ExprsAt sig (words (now (rule .entry))) depth n at) (bound : List ℕ) → Counted sig (words (now (counters .entry))) → Scoped sig bound (words (now (scratch .entry))) scope
+        → Walked n (OnStack sp n log (words (now (scratch .exit))) r) (loweredAll sig bound (x .value) (words (now (counters .entry)))) (x .size) at to sp log (words (now (scratch .entry))) (words (now (counters .entry))) (words (now (scratch .exit))) (words (now (counters .exit))) r) ⌝ }
+{
+    let mut left = n;
+    let mut top = sp;
+    let mut walk = Walk {
+        next: at,
+        to,
+        log,
+        term: 0,
+        refused: 0,
+    };
+    while 0 < left {
+        walk = lower(
+            rule,
+            walk.next,
+            depth,
+            scope,
+            counters,
+            scratch,
+            walk.to,
+            top,
+            walk.log,
+        );
+        if walk.refused != 0 {
+            return walk;
+        }
+        octets::put(scratch, top, walk.term);
+        top += 1;
+        left -= 1;
+    }
+    walk
+}

@@ -1,0 +1,132 @@
+// Lowering the head, the source's `to_core_actions`.
+//
+//     written  (set (f (g x)) 1)      flat  (call @g.0 (g x)) (set (f @g.0) 1), and one count of f is used up
+//
+// The walks work in one scratch: actions go to `to`, terms of arguments onto the stack at `sp`, uses of counters to `log`.
+pub mod scope; // scope.rt: which names are bound
+pub mod exprs; // exprs.rt: expressions
+pub mod actions; // actions.rt: each action
+pub mod unions; // unions.rt: unions, and those that become sets
+
+use crate::actions::Acted;
+use crate::actions::lower_change;
+use crate::actions::lower_expression;
+use crate::actions::lower_let;
+use crate::actions::lower_panic;
+use crate::scope::Scope;
+use crate::unions::lower_union;
+use walks::Walk;
+ghost use mathlib.Core.Path.{_≡_};
+ghost use mathlib.Core.List.{List};
+ghost use Prim.Native.Nat.{ℕ, _+_};
+ghost use lib.ListN.{length};
+ghost use Rattle.octets.specs.Words.{words};
+ghost use Rattle.rules.specs.Signature.{Sig};
+ghost use Rattle.rules.specs.ToCoreActions.{lowerAction, toCoreActions};
+ghost use Rattle.walks.specs.Steps.{Walked, Room, Under, Counted};
+ghost use Rattle.core_actions.specs.Scopes.{Scoped, ScopeRoom, Names};
+ghost use Rattle.core_actions.specs.Lowered.{donePiece};
+ghost use Rattle.core_actions.specs.Acts.{ActionAt, ActionsAt, Acts, Gave, Signed};
+
+// A word that does not fit.
+const UNFIT: u32 = 5;
+
+// Lowers the action at `at`, by its code.
+pub fn lower_action(
+    signature: &[u8],
+    rule: &[u8],
+    at: usize,
+    scope: Scope,
+    counters: &mut [u8],
+    scratch: &mut [u8],
+    to: usize,
+    sp: usize,
+    log: usize,
+) -> Acted
+    requires { ⌜ Under (λ sig. ActionAt sig (words (now rule)) at × Counted sig (words (now counters)) × Names sig (words (now scratch)) scope × Signed sig (words (now signature))) ⌝ }
+    requires { ⌜ Room (length (words (now rule))) at to sp log (length (words (now scratch))) ⌝ }
+    requires { ⌜ ScopeRoom (length (words (now rule))) at to sp scope ⌝ }
+    requires { ⌜ scope .first + scope .names ≡ sp ⌝ }
+    ensures { λ r. ⌜ ((sig : Sig) (x : ActionAt sig (words (now (rule .entry))) at) (bound : List ℕ) → Counted sig (words (now (counters .entry))) → Scoped sig bound (words (now (scratch .entry))) scope → Signed sig (words (now (signature .entry)))
+        → Acts (lowerAction sig bound (x .value) (words (now (counters .entry)))) sig scope (x .size) at to sp log (words (now (scratch .entry))) (words (now (counters .entry))) (words (now (scratch .exit))) (words (now (counters .exit))) r) ⌝ }
+{
+    let w = octets::get(rule, at);
+    let code = w - walks::ACTION;
+    match code {
+        1 => lower_let(rule, at, scope, counters, scratch, to, sp, log),
+        2 => lower_change(rule, at, w, 1, scope, counters, scratch, to, sp, log),
+        3 => lower_change(rule, at, w, 0, scope, counters, scratch, to, sp, log),
+        4 => lower_change(rule, at, w, 0, scope, counters, scratch, to, sp, log),
+        5 => lower_union(signature, rule, at, scope, counters, scratch, to, sp, log),
+        6 => lower_panic(rule, at, scope, counters, scratch, to, sp, log),
+        8 => lower_expression(rule, at, scope, counters, scratch, to, sp, log),
+        _ => Acted {
+            walk: Walk {
+                next: at,
+                to,
+                log,
+                term: 0,
+                refused: UNFIT,
+            },
+            names: 0,
+            count: 0,
+        },
+    }
+}
+
+// Lowers the n actions from `at` on. The names that they let lie behind those that the scope has, and the stack of each action behind these.
+pub fn to_core_actions(
+    signature: &[u8],
+    rule: &[u8],
+    at: usize,
+    n: usize,
+    scope: Scope,
+    counters: &mut [u8],
+    scratch: &mut [u8],
+    to: usize,
+    log: usize,
+) -> Acted
+    requires { ⌜ Under (λ sig. ActionsAt sig (words (now rule)) n at × Counted sig (words (now counters)) × Names sig (words (now scratch)) scope × Signed sig (words (now signature))) ⌝ }
+    requires { ⌜ Room (length (words (now rule))) at to (scope .first + scope .names) log (length (words (now scratch))) ⌝ }
+    requires { ⌜ ScopeRoom (length (words (now rule))) at to (scope .first + scope .names) scope ⌝ }
+    ensures { λ r. ⌜ ((sig : Sig) (x : ActionsAt sig (words (now (rule .entry))) n at) (bound : List ℕ) → Counted sig (words (now (counters .entry))) → Scoped sig bound (words (now (scratch .entry))) scope → Signed sig (words (now (signature .entry)))
+        → Walked 0 (Gave r) (donePiece (toCoreActions sig bound (x .value) (words (now (counters .entry))))) (x .size) at to (scope .first + scope .names) log (words (now (scratch .entry))) (words (now (counters .entry))) (words (now (scratch .exit))) (words (now (counters .exit))) (r .walk)) ⌝ }
+{
+    let mut left = n;
+    let mut names = scope.names;
+    let mut count = 0;
+    let mut walk = Walk {
+        next: at,
+        to,
+        log,
+        term: 0,
+        refused: 0,
+    };
+    while 0 < left {
+        let wider = Scope {
+            globals: scope.globals,
+            body: scope.body,
+            first: scope.first,
+            names,
+        };
+        let one = lower_action(
+            signature,
+            rule,
+            walk.next,
+            wider,
+            counters,
+            scratch,
+            walk.to,
+            scope.first + names,
+            walk.log,
+        );
+        walk = one.walk;
+        if walk.refused != 0 {
+            return Acted { walk, names, count };
+        }
+        names += one.names;
+        count += one.count;
+        left -= 1;
+    }
+    Acted { walk, names, count }
+}

@@ -1,0 +1,4 @@
+-- Laws that the proofs of this crate share with those above it, in reading order.
+pub mod Pieces
+pub mod Exprs
+pub mod Facts

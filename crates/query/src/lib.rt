@@ -1,0 +1,214 @@
+// Flattening the body, the source's `to_query`.
+//
+//     written  (= x (f (g y)))      flat  (g y @g.0) (f @g.0 @f.0) (= x @f.0)
+//
+// The walks work in one scratch: atoms go to `to`, terms of arguments onto the stack at `sp`, uses of counters to `log`.
+use walks::Walk;
+ghost use Prim.Native.Nat.{_+_};
+ghost use lib.ListN.{length};
+ghost use Rattle.octets.specs.Words.{words};
+ghost use Rattle.rules.specs.Signature.{Sig};
+ghost use Rattle.walks.specs.Steps.{Walked, InAnswer, OnStack, NoTerms, Room, Under, Counted, ExprAt, ExprsAt};
+ghost use Rattle.query.specs.Flattened.{flattened, flattenedAll, flattenedFact, query, FactAt, FactsAt};
+
+// The equality of two.
+const EQUALITY: u32 = 0x0800_0002;
+
+// Flattens the expression at `at`, which is at most `depth` deep. A call takes its fresh variable before its arguments are walked; its own atom
+// comes behind theirs.
+pub fn flatten(
+    rule: &[u8],
+    at: usize,
+    depth: u32,
+    counters: &mut [u8],
+    scratch: &mut [u8],
+    to: usize,
+    sp: usize,
+    log: usize,
+) -> Walk
+    requires { ⌜ Under (λ sig. ExprAt sig (words (now rule)) depth at × Counted sig (words (now counters))) ⌝ }
+    requires { ⌜ Room (length (words (now rule))) at to sp log (length (words (now scratch))) ⌝ }
+    ensures { λ r. ⌜ ((sig : Sig) (x : ExprAt sig (words (now (rule .entry))) depth at) → Counted sig (words (now (counters .entry)))
+        → Walked 1 (InAnswer log r) (flattened (x .value) (words (now (counters .entry)))) (x .size) at to sp log (words (now (scratch .entry))) (words (now (counters .entry))) (words (now (scratch .exit))) (words (now (counters .exit))) r) ⌝ }
+{
+    let w = octets::get(rule, at);
+    if walks::LITERAL <= w {
+        return Walk {
+            next: at + 1,
+            to,
+            log,
+            term: w,
+            refused: 0,
+        };
+    }
+    let h = (w - walks::HEAD) / walks::LIMIT_16;
+    let n = (w - walks::HEAD) % walks::LIMIT_16;
+    let v = walks::take(counters, scratch, log, h);
+    if v == 0 {
+        return Walk {
+            next: at,
+            to,
+            log,
+            term: 0,
+            refused: walks::USED_UP,
+        };
+    }
+    let args = flatten_all(
+        rule,
+        at + 1,
+        n as usize,
+        depth - 1,
+        counters,
+        scratch,
+        to,
+        sp,
+        log + 1,
+    );
+    if args.refused != 0 {
+        return args;
+    }
+    let end = octets::rows::put_atom(scratch, args.to, w + 1, sp, n as usize, v);
+    Walk {
+        next: args.next,
+        to: end,
+        log: args.log,
+        term: v,
+        refused: 0,
+    }
+}
+
+// Flattens the n expressions from `at` on; their terms go onto the stack.
+pub fn flatten_all(
+    rule: &[u8],
+    at: usize,
+    n: usize,
+    depth: u32,
+    counters: &mut [u8],
+    scratch: &mut [u8],
+    to: usize,
+    sp: usize,
+    log: usize,
+) -> Walk
+    requires { ⌜ Under (λ sig. ExprsAt sig (words (now rule)) depth n at × Counted sig (words (now counters))) ⌝ }
+    requires { ⌜ Room (length (words (now rule))) at to sp log (length (words (now scratch))) ⌝ }
+    ensures { λ r. ⌜ ((sig : Sig) (x : ExprsAt sig (words (now (rule .entry))) depth n at) → Counted sig (words (now (counters .entry)))
+        → Walked n (OnStack sp n log (words (now (scratch .exit))) r) (flattenedAll (x .value) (words (now (counters .entry)))) (x .size) at to sp log (words (now (scratch .entry))) (words (now (counters .entry))) (words (now (scratch .exit))) (words (now (counters .exit))) r) ⌝ }
+{
+    let mut left = n;
+    let mut top = sp;
+    let mut walk = Walk {
+        next: at,
+        to,
+        log,
+        term: 0,
+        refused: 0,
+    };
+    while 0 < left {
+        walk = flatten(
+            rule,
+            walk.next,
+            depth,
+            counters,
+            scratch,
+            walk.to,
+            top,
+            walk.log,
+        );
+        if walk.refused != 0 {
+            return walk;
+        }
+        octets::put(scratch, top, walk.term);
+        top += 1;
+        left -= 1;
+    }
+    walk
+}
+
+// Flattens the fact at `at`. The atom of an equality comes behind those of its left and of its right side; a bare name or literal has none.
+pub fn flatten_fact(
+    rule: &[u8],
+    at: usize,
+    counters: &mut [u8],
+    scratch: &mut [u8],
+    to: usize,
+    sp: usize,
+    log: usize,
+) -> Walk
+    requires { ⌜ Under (λ sig. FactAt sig (words (now rule)) at × Counted sig (words (now counters))) ⌝ }
+    requires { ⌜ Room (length (words (now rule))) at to sp log (length (words (now scratch))) ⌝ }
+    ensures { λ r. ⌜ ((sig : Sig) (x : FactAt sig (words (now (rule .entry))) at) → Counted sig (words (now (counters .entry)))
+        → Walked 0 NoTerms (flattenedFact (x .value) (words (now (counters .entry)))) (x .size) at to sp log (words (now (scratch .entry))) (words (now (counters .entry))) (words (now (scratch .exit))) (words (now (counters .exit))) r) ⌝ }
+{
+    let w = octets::get(rule, at);
+    if w != EQUALITY {
+        return flatten(rule, at, walks::MAX_DEPTH, counters, scratch, to, sp, log);
+    }
+    let left = flatten(
+        rule,
+        at + 1,
+        walks::MAX_DEPTH,
+        counters,
+        scratch,
+        to,
+        sp,
+        log,
+    );
+    if left.refused != 0 {
+        return left;
+    }
+    let right = flatten(
+        rule,
+        left.next,
+        walks::MAX_DEPTH,
+        counters,
+        scratch,
+        left.to,
+        sp,
+        left.log,
+    );
+    if right.refused != 0 {
+        return right;
+    }
+    let end = octets::rows::put_three(scratch, right.to, EQUALITY, left.term, right.term);
+    Walk {
+        next: right.next,
+        to: end,
+        log: right.log,
+        term: 0,
+        refused: 0,
+    }
+}
+
+// Flattens the n facts from `at` on.
+pub fn to_query(
+    rule: &[u8],
+    at: usize,
+    n: usize,
+    counters: &mut [u8],
+    scratch: &mut [u8],
+    to: usize,
+    sp: usize,
+    log: usize,
+) -> Walk
+    requires { ⌜ Under (λ sig. FactsAt sig (words (now rule)) n at × Counted sig (words (now counters))) ⌝ }
+    requires { ⌜ Room (length (words (now rule))) at to sp log (length (words (now scratch))) ⌝ }
+    ensures { λ r. ⌜ ((sig : Sig) (x : FactsAt sig (words (now (rule .entry))) n at) → Counted sig (words (now (counters .entry)))
+        → Walked 0 NoTerms (query (x .value) (words (now (counters .entry)))) (x .size) at to sp log (words (now (scratch .entry))) (words (now (counters .entry))) (words (now (scratch .exit))) (words (now (counters .exit))) r) ⌝ }
+{
+    let mut left = n;
+    let mut walk = Walk {
+        next: at,
+        to,
+        log,
+        term: 0,
+        refused: 0,
+    };
+    while 0 < left {
+        walk = flatten_fact(rule, walk.next, counters, scratch, walk.to, sp, walk.log);
+        if walk.refused != 0 {
+            return walk;
+        }
+        left -= 1;
+    }
+    walk
+}

@@ -1,0 +1,75 @@
+// What the two walks of lowering share: fresh variables are taken from the counters in place, and each use is logged, so that a refusal can
+// put the counters back.
+ghost use mathlib.Core.Path.{_≡_};
+ghost use Prim.Native.Nat.{ℕ, _+_, _<_, _≤_};
+ghost use lib.ListN.{length};
+ghost use Rattle.octets.specs.Words.{words};
+ghost use Rattle.octets.specs.Regions.{part};
+ghost use Rattle.rules.specs.Words.{limit12};
+ghost use Rattle.rules.specs.ToQuery.{fresh};
+ghost use Rattle.walks.specs.Log.{Taken, undone};
+
+// Counts and literals are numbered below LIMIT_16.
+pub const LIMIT_16: u32 = 65536;
+
+// The first words of their kinds.
+pub const FRESH: u32 = 0x8000_0000;
+
+pub const NAME: u32 = 0x4000_0000;
+
+pub const LITERAL: u32 = 0x2000_0000;
+
+pub const HEAD: u32 = 0x1000_0000;
+
+pub const ACTION: u32 = 0x0200_0000;
+
+// An expression holds expressions up to 32 deep, itself counted.
+pub const MAX_DEPTH: u32 = 32;
+
+// The refusals that a walk can meet.
+pub const UNBOUND: u32 = 7;
+
+pub const ALREADY_DEFINED: u32 = 8;
+
+pub const USED_UP: u32 = 9;
+
+// The answer of a walk. Where `refused` is 0: the places behind what was read, behind what was written and behind what was logged, and the
+// term. Else `refused` is the refusal's number and `next` its place.
+pub struct Walk {
+    pub next: usize,
+    pub to: usize,
+    pub log: usize,
+    pub term: u32,
+    pub refused: u32,
+}
+
+// The next fresh variable of the head h, logged at `log`; 0 where its counter is used up.
+pub fn take(counters: &mut [u8], scratch: &mut [u8], log: usize, h: u32) -> u32
+    requires { ⌜ (h < limit12) × (h < length (words (now counters))) × (log < length (words (now scratch))) ⌝ }
+    ensures { λ r. ⌜ ((p : ℕ) → Taken (fresh p h (words (now (counters .entry)))) p log (words (now (scratch .entry))) (words (now (counters .entry))) (words (now (scratch .exit))) (words (now (counters .exit))) r) ⌝ }
+{
+    let c = octets::get(counters, h as usize);
+    if LIMIT_16 <= c {
+        return 0;
+    }
+    let v = FRESH + h * LIMIT_16 + c;
+    octets::put(counters, h as usize, c + 1);
+    octets::put(scratch, log, v);
+    v
+}
+
+// Takes back the n uses that are logged from `from` on. The last one goes first, since a head may have been used more than once.
+pub fn restore(counters: &mut [u8], scratch: &[u8], from: usize, n: usize)
+    requires { ⌜ from + n ≤ length (words (now scratch)) ⌝ }
+    ensures { λ _. ⌜ words (now (counters .exit)) ≡ undone (part (words (now (scratch .entry))) from n) (words (now (counters .entry))) ⌝ }
+{
+    let mut k = n;
+    while 0 < k {
+        k -= 1;
+        let v = octets::get(scratch, from + k);
+        let h = (v / LIMIT_16 % 32768) as usize;
+        if h < octets::count(counters) {
+            octets::put(counters, h, v % LIMIT_16);
+        }
+    }
+}
