@@ -1,3 +1,5 @@
 pub mod Slices
 pub mod Fronts
+pub mod Ends
 pub mod FreeVars
+pub mod Emitting

@@ -1,5 +1,7 @@
 // The calls of the key service, over byte slices: four bytes a word, the lowest first. Each runs its tests in the order of 01, "Turned back", and leaves
 // output and counters as they were on a refusal.
+pub mod emit;
+
 use records::signature::Signature;
 ghost use mathlib.Core.Path.{_≡_};
 ghost use Prim.Native.Nat.{_%_};
