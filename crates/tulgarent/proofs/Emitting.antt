@@ -6,7 +6,7 @@ use mathlib.Core.List.{List, [], _∷_, _++_, append-assoc}
 use lib.ListN.{length, set, length-append}
 use Rattle.octets.specs.Words.{words}
 use Rattle.octets.specs.Regions.{splice, part, At}
-use Rattle.octets.proofs.Splice.{splice-one, splice-then, length-part}
+use Rattle.octets.proofs.Splice.{splice-one, splice-then}
 use Rattle.rules.specs.Words.{limit12, headerWord}
 use Rattle.rules.specs.Flat.{CoreAction, tabWords, actionWords, wordsOf, encode}
 use Rattle.rules.specs.Canonicalize.{bindings}
@@ -68,7 +68,7 @@ module _ (b : rules.Settled) (xs : List CoreAction) (scratch : List ℕ) (body :
         atoms = omega (arith, x, p .words);
         binds = omega (arith, y, bound);
         actions = omega (arith, z, p .rest);
-        room = h
+        room = h;
       }
 
   -- a header counts no more than it can
@@ -84,7 +84,7 @@ module _ (b : rules.Settled) (xs : List CoreAction) (scratch : List ℕ) (body :
   no-room l h = record {
     needed = needed;
     fits = λ k. absurd (nothing k);
-    short = λ _. refl
+    short = λ _. refl;
   }
     where
       nothing : length (encode (b .tabs) (bindings (b .repls) ++ xs)) ≤ length (words l) → ⊥
@@ -97,7 +97,7 @@ module _ (b : rules.Settled) (xs : List CoreAction) (scratch : List ℕ) (body :
   in-room l m e r w = record {
     needed = needed;
     fits = λ _. w ∙ ap (splice (words l) 0) (encoded e);
-    short = λ k. absurd (nothing k)
+    short = λ k. absurd (nothing k);
   }
     where
       nothing : length (words l) < length (encode (b .tabs) (bindings (b .repls) ++ xs)) → ⊥

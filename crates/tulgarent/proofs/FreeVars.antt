@@ -1,22 +1,19 @@
 -- What `tulgarent_free_vars` answers and leaves, by how far it came. Assumes nothing.
-use Prim.Native.Nat.{ℕ, _+_, _*_, _/_, _%_, _≤_, _<_}
+use Prim.Native.Nat.{ℕ, _/_, _%_, _≤_, _<_}
 use native.Mathlib.Omega.{arith}
 use mathlib.Core.Path.{_≡_, refl, sym, _∙_, ap, subst}
 use mathlib.Core.Bool.{Bool, true, false}
-use mathlib.Core.List.{List, [], _∷_, _++_}
-use lib.ListN.{length, getD, drop}
-use lib.Dec.{leb, eqb}
-use borrow.Author.Tests.{le-leb, lt-leb, eqb-true}
-use Rattle.octets.specs.Words.{words, bytesOf}
-use Rattle.octets.specs.Regions.{splice}
-use Rattle.octets.proofs.Words.{length-words, written-front}
-use Rattle.octets.proofs.Splice.{splice-front}
+use mathlib.Core.List.{List, [], _∷_}
+use lib.ListN.{length, getD}
+use lib.Dec.{eqb}
+use borrow.Author.Tests.{eqb-true}
+use Rattle.octets.specs.Words.{words}
 use Rattle.rules.specs.Words.{maxFlat, scratchWords}
 use Rattle.rules.specs.Refusals.{Res, ok, refuse, _>>=_, demand, shortOutput, ragged}
 use Rattle.rules.specs.Signature.{Sig, readSignature}
 use Rattle.rules.specs.Flat.{FlatRule, readFlat}
 use Rattle.rules.specs.FreeVars.{getFreeVars}
-use Rattle.rules.specs.Calls.{Result, lengthFits, outputFits, freeVarsWords, wholeWords, slicesWhole, freeVarsRes, outcomeOf, freeVars}
+use Rattle.rules.specs.Calls.{Result, lengthFits, outputFits, freeVarsWords, freeVarsRes, outcomeOf, freeVars}
 use Rattle.records.specs.Signature.{signOf}
 use Rattle.records.specs.declared.signature.Signature.{Signature}
 use Rattle.free_vars.specs.Head.{Good, GoodUnder, Wrote}
@@ -27,6 +24,7 @@ use Rattle.tulgarent.specs.declared.Answer.{Answer}
 use Rattle.tulgarent.specs.Answers.{refusedWith, wholeThree, answerOf, Gives}
 use Rattle.tulgarent.specs.Fronts.{flatFront}
 use Rattle.tulgarent.proofs.Fronts.{sign-known, front-some}
+use Rattle.tulgarent.proofs.Ends.{ends-short, ends-written}
 
 -- what is to be written
 abbrev result : Sig → FlatRule → Result
@@ -126,24 +124,14 @@ module _ (sb rb ob : List ℕ) where
             written : Wrote vars n ob m
             written = wrote (passed .0) (way .rule) globals-are good
 
-            room-is : length (words ob) ≡ length ob / 4
-            room-is = length-words ob
-
             pub too-short : {r : Answer} → length (words ob) < n → r ≡ refusedWith shortOutput n → Gives (freeVars sb rb ob) r m
             too-short l a =
-                let e = written .needed in
-                let z : length ob / 4 < length vars = omega (arith, room-is) in
-                gives-of (refuse shortOutput (length vars))
-                (whole-is ∙ way .gives ∙ ap (λ (c : Bool). demand c shortOutput (length vars) (result (passed .0) (way .rule))) (lt-leb (length vars) (length ob / 4) z))
-                (a ∙ ap (refusedWith shortOutput) e) (written .short (omega (arith, room-is)))
+                let e = ends-short (result (passed .0) (way .rule)) n ob m written l in
+                gives-of (refuse shortOutput n) (whole-is ∙ way .gives ∙ e .0) a (e .1)
 
             pub all-written : {r : Answer} → n ≤ length (words ob) → length m ≡ length ob → ((i : ℕ) → getD ob i 0 < 256) → ((i : ℕ) → getD m i 0 < 256)
                 → r ≡ record { number = 0; place = 0; words = n; replacements = 0; passes = 0 } → Gives (freeVars sb rb ob) r m
             all-written l same low high a =
-                let e = written .needed in
-                let z : length vars ≤ length ob / 4 = omega (arith, room-is) in
-                let w = written .fits (omega (arith, room-is)) in
-                gives-of (ok (result (passed .0) (way .rule)))
-                (whole-is ∙ way .gives ∙ ap (λ (c : Bool). demand c shortOutput (length vars) (result (passed .0) (way .rule))) (le-leb (length vars) (length ob / 4) z))
-                (a ∙ ap (λ (k : ℕ). record { number = 0; place = 0; words = k; replacements = 0; passes = 0 }) e)
-                (written-front ob m vars low high whole-output same (w ∙ splice-front (words ob) vars))
+                let e = ends-written (result (passed .0) (way .rule)) n ob m written l whole-output same low high in
+                gives-of (ok (result (passed .0) (way .rule))) (whole-is ∙ way .gives ∙ e .0)
+                (a ∙ ap (λ (k : ℕ). record { number = 0; place = 0; words = k; replacements = 0; passes = 0 }) (written .needed)) (e .1)

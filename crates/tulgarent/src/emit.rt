@@ -18,7 +18,15 @@ const HEADER: usize = 0x0400_0000;
 const LIMIT_12: usize = 4096;
 
 // Copies the three runs behind the header.
-fn emit(output: &mut [u8], header: u32, scratch: &[u8], body: Settled, source: &[u8], from: usize, rest: usize)
+fn emit(
+    output: &mut [u8],
+    header: u32,
+    scratch: &[u8],
+    body: Settled,
+    source: &[u8],
+    from: usize,
+    rest: usize,
+)
     requires { ⌜ Fits body from rest (length (words (now output))) (length (words (now scratch))) (length (words (now source))) ⌝ }
     ensures { λ _. ⌜ words (now (output .exit)) ≡ splice (words (now (output .entry))) 0 (emitted header (words (now (scratch .entry))) body (words (now (source .entry))) from rest) ⌝ }
 {
@@ -34,7 +42,15 @@ fn emit(output: &mut [u8], header: u32, scratch: &[u8], body: Settled, source: &
 
 // Writes a settled body with `actions` actions, which stand in the `rest` words of `source` from `from` on, and answers how many words that takes. If the
 // output has fewer, it is left as it is.
-pub fn finish(output: &mut [u8], scratch: &[u8], body: Settled, actions: usize, source: &[u8], from: usize, rest: usize) -> usize
+pub fn finish(
+    output: &mut [u8],
+    scratch: &[u8],
+    body: Settled,
+    actions: usize,
+    source: &[u8],
+    from: usize,
+    rest: usize,
+) -> usize
     requires { ⌜ Stand (words (now scratch)) body actions (words (now source)) from rest ⌝ }
     ensures { λ r. ⌜ ((b : rules.Settled) (head : List CoreAction) → Parts b head (words (now (scratch .entry))) body actions (words (now (source .entry))) from rest
         → Wrote (encode (b .tabs) (bindings (b .repls) ++ head)) r (now (output .entry)) (now (output .exit))) ⌝ }
