@@ -3,25 +3,25 @@ use mathlib.Core.Path.{_≡_, refl, sym, ap, _∙_, subst}
 use mathlib.Core.Bool.{Bool, true, false}
 use mathlib.Core.List.{List, [], _∷_, _++_}
 use mathlib.Core.Option.{none}
-use Prim.Native.Nat.{ℕ, suc, _+_, _-_, _*_, _≤_, _<_}
+use Prim.Native.Nat.{ℕ, _+_, _-_, _*_, _≤_, _<_}
 use native.Mathlib.Omega.{arith}
-use lib.ListN.{length, getD, set, length-set}
+use lib.ListN.{length, getD, set}
 use lib.Seq.{getD-set-same}
 use Rattle.octets.specs.Regions.{splice, part}
-use Rattle.octets.proofs.Splice.{length-part, length-splice}
-use Rattle.rules.specs.Words.{maxDepth, limit12, headBase, freshBase, headWord, actionWord, headOf, countOf}
-use Rattle.rules.specs.Refusals.{Res, ok, refuse, _>>=_, demand, unbound, alreadyDefined, usedUp}
-use Rattle.rules.specs.Signature.{Sig, heads, elem}
-use Rattle.rules.specs.Written.{Expr, Exprs, leaf, panic′, expr′, readExpr}
+use Rattle.octets.proofs.Splice.{length-part}
+use Rattle.rules.specs.Words.{maxDepth, headBase, freshBase, headWord, actionWord, headOf, countOf}
+use Rattle.rules.specs.Refusals.{Res, ok, refuse, _>>=_, unbound, alreadyDefined, usedUp}
+use Rattle.rules.specs.Signature.{Sig, elem}
+use Rattle.rules.specs.Written.{leaf, panic′, expr′, readExpr}
 use Rattle.rules.specs.Flat.{Let}
 use Rattle.rules.specs.ToQuery.{Fresh, fresh}
 use Rattle.rules.specs.ToCoreActions.{readable, Low, Done, lowerExpr, lowerSet, lowerLet, lowerUnion, lowerAction}
 use Rattle.walks.specs.Log.{Taken}
-use Rattle.walks.specs.Steps.{Piece, nothing, both, andThen, Kept, Walked, InAnswer, OnStack, Room, Counted, ExprAt, ExprsAt}
+use Rattle.walks.specs.Steps.{Piece, nothing, both, andThen, Kept, Walked, InAnswer, OnStack, Room, ExprAt, ExprsAt}
 use Rattle.walks.specs.declared.Walk.{Walk}
 use Rattle.walks.proofs.Frames.{kept-none, kept-wide}
-use Rattle.walks.proofs.Steps.{Went, went, stop, with-terms, none-walked, walk-then, placed, stored, pushed, stacked, Own, written, full-last, last-done}
-use Rattle.walks.proofs.Read.{moved, expr-some, exprs-many, recount}
+use Rattle.walks.proofs.Steps.{went, stop, none-walked, walk-then, placed, stored, pushed, stacked, Own, written, full-last, last-done}
+use Rattle.walks.proofs.Read.{moved, exprs-many, recount}
 use Rattle.walks.proofs.Asks.{There, right-there}
 use Rattle.walks.proofs.Words.{head-word}
 use Rattle.core_actions.specs.Scopes.{Scoped, ScopeRoom, grown}
@@ -30,7 +30,7 @@ use Rattle.core_actions.specs.Acts.{LetAt, ChangeAt, PairAt, NameCallAt,
 use Rattle.core_actions.specs.declared.scope.Scope.{Scope}
 use Rattle.core_actions.specs.declared.actions.Acted.{Acted}
 use Rattle.core_actions.proofs.Scopes.{scoped-kept, scope-let}
-use Rattle.core_actions.proofs.Pieces.{silent, letPiece, unionPiece, lowered-leaf, leafPiece, done-set, done-let, done-union, done-expression, SameBound, same-set, same-union, same-expression}
+use Rattle.core_actions.proofs.Pieces.{silent, letPiece, unionPiece, lowered-leaf, done-set, done-let, done-union, done-expression, SameBound, same-set, same-union, same-expression}
 
 -- ---- from a walk to what an action leaves
 

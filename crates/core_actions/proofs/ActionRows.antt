@@ -1,24 +1,24 @@
 -- A row of actions, over plain lists: each action is lowered under the names that those before it bound. Assumes nothing.
-use mathlib.Core.Path.{_≡_, refl, sym, ap, _∙_, subst}
+use mathlib.Core.Path.{_≡_, refl, sym, subst}
 use mathlib.Core.List.{List, [], _∷_, _++_}
-use Prim.Native.Nat.{ℕ, suc, _+_, _-_, _*_, _≤_, _<_}
+use Prim.Native.Nat.{ℕ, _+_, _-_, _*_, _≤_, _<_}
 use native.Mathlib.Omega.{arith}
 use lib.ListN.{length, length-append}
 use Rattle.rules.specs.Refusals.{Res, ok, refuse, _>>=_}
 use Rattle.rules.specs.Signature.{Sig}
-use Rattle.rules.specs.Written.{Action, readAction, readRow}
+use Rattle.rules.specs.Written.{readAction, readRow}
 use Rattle.rules.specs.Flat.{CoreAction, Let, Set, Delete, Subsume, Union, Panic, Call, actionWords, wordsOf}
 use Rattle.rules.specs.ToCoreActions.{Done, lowerAction, toCoreActions}
-use Rattle.walks.specs.Steps.{Piece, both, andThen, Walked, Room}
+use Rattle.walks.specs.Steps.{Piece, both, Walked, Room}
 use Rattle.walks.specs.declared.Walk.{Walk}
 use Rattle.walks.proofs.Frames.{kept-wide}
 use Rattle.walks.proofs.Steps.{went, none-walked, walk-then, retold}
 use Rattle.walks.proofs.Read.{moved, row-cases, no-row-cases}
 use Rattle.walks.proofs.Rows.{Going, going-next}
 use Rattle.walks.proofs.Words.{words-append}
-use Rattle.core_actions.specs.Scopes.{Scoped, ScopeRoom}
+use Rattle.core_actions.specs.Scopes.{Scoped}
 use Rattle.core_actions.specs.Lowered.{donePiece}
-use Rattle.core_actions.specs.Acts.{ActionAt, ActionsAt, Gave, Acts}
+use Rattle.core_actions.specs.Acts.{ActionAt, ActionsAt, Acts}
 use Rattle.core_actions.specs.declared.scope.Scope.{Scope}
 use Rattle.core_actions.specs.declared.actions.Acted.{Acted}
 use Rattle.core_actions.proofs.ReadActions.{action-on, action-some}

@@ -2,7 +2,7 @@
 use mathlib.Core.Path.{_≡_, refl, sym, ap, _∙_}
 use mathlib.Core.List.{List, [], _∷_, _++_}
 use mathlib.Core.Bool.{Bool, true, false, cond, _||_}
-use Prim.Native.Nat.{ℕ, suc, _+_, _≤_, _<_}
+use Prim.Native.Nat.{ℕ, suc, _≤_, _<_}
 use native.Mathlib.Omega.{arith}
 use lib.Dec.{eqb}
 use lib.ListN.{length}
@@ -13,7 +13,6 @@ use Rattle.rules.specs.Signature.{Sig, elem, isVar}
 use Rattle.rules.specs.Flat.{Atom, eqn, tab, atomWords, wordsOf}
 use Rattle.rules.specs.ToQuery.{varsOf, termsOf, bodyVars}
 use Rattle.core_actions.specs.Scopes.{inScope, Scoped}
-use Rattle.core_actions.specs.declared.scope.Scope.{Scope}
 use Rattle.core_actions.proofs.Scopes.{elem-append, is-var, is-not-var}
 
 -- a variable is among the variables of a list of terms where it is among the terms

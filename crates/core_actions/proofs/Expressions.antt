@@ -1,20 +1,19 @@
 -- Each way out of lowering an expression, over plain lists. Assumes nothing.
-use mathlib.Core.Path.{_≡_, refl, sym, ap, _∙_, subst}
+use mathlib.Core.Path.{_≡_, refl, sym}
 use mathlib.Core.Bool.{Bool, true, false}
 use mathlib.Core.List.{List, [], _∷_, _++_}
-use Prim.Native.Nat.{ℕ, suc, _+_, _-_, _*_, _≤_, _<_}
+use Prim.Native.Nat.{ℕ, _+_, _-_, _*_, _≤_, _<_}
 use native.Mathlib.Omega.{arith}
 use lib.ListN.{length, getD}
 use Rattle.octets.specs.Regions.{splice, part}
 use Rattle.octets.proofs.Splice.{length-part}
 use Rattle.rules.specs.Words.{literalBase, headBase, freshBase, headWord, actionWord, headOf, countOf}
-use Rattle.rules.specs.Refusals.{ok, refuse, _>>=_, demand, unbound, usedUp}
-use Rattle.rules.specs.Signature.{Sig, heads}
-use Rattle.rules.specs.Written.{Expr, leaf, call}
+use Rattle.rules.specs.Refusals.{ok, _>>=_, unbound, usedUp}
+use Rattle.rules.specs.Signature.{Sig}
 use Rattle.rules.specs.ToQuery.{Fresh, fresh}
 use Rattle.rules.specs.ToCoreActions.{readable}
 use Rattle.walks.specs.Log.{Taken}
-use Rattle.walks.specs.Steps.{Piece, Walked, InAnswer, OnStack, Room, Counted, ReadAt, ExprAt, ExprsAt}
+use Rattle.walks.specs.Steps.{Piece, Walked, InAnswer, OnStack, Room, Counted, ExprAt, ExprsAt}
 use Rattle.walks.specs.declared.Walk.{Walk}
 use Rattle.walks.proofs.Frames.{kept-none}
 use Rattle.walks.proofs.Steps.{went, stop, Own, full-last, last-done}
@@ -25,7 +24,7 @@ use Rattle.core_actions.specs.Scopes.{Scoped, ScopeRoom}
 use Rattle.core_actions.specs.Lowered.{lowered, loweredAll}
 use Rattle.core_actions.specs.declared.scope.Scope.{Scope}
 use Rattle.core_actions.proofs.Scopes.{scoped-kept}
-use Rattle.core_actions.proofs.Pieces.{leafPiece, callPiece, lowered-leaf, lowered-call}
+use Rattle.core_actions.proofs.Pieces.{callPiece, lowered-leaf, lowered-call}
 
 -- ---- the scope on the way through a row
 

@@ -2,20 +2,20 @@
 use mathlib.Core.Path.{_≡_, refl, sym, ap, _∙_, subst}
 use mathlib.Core.Bool.{Bool, true, false, cond, _&&_}
 use mathlib.Core.List.{List}
-use Prim.Native.Nat.{ℕ, zero, suc, _+_, _-_, _*_, _≤_, _<_}
+use Prim.Native.Nat.{ℕ, suc, _+_, _-_, _*_, _≤_, _<_}
 use native.Mathlib.Numerals.{add-one}
 use native.Mathlib.Omega.{arith}
 use lib.Dec.{ltb, eqb}
 use lib.ListN.{length, getD}
 use borrow.Author.Tests.{ltb-true, ltb-false, lt-ltb, ne-eqb}
-use Rattle.rules.specs.Words.{limit12, limit16, maxDepth, nameBase, literalBase, headBase, freshBase, actionBase, actionWord, headOf, countOf, isNameWord, isLiteralWord, isHeadWord, Code, aLet, aSet, aDelete, aSubsume, aUnion, aPanic, aCall, anExpression, noCode, codeOf}
-use Rattle.rules.specs.Refusals.{Res, ok, unfit}
+use Rattle.rules.specs.Words.{limit12, limit16, maxDepth, nameBase, headBase, actionBase, actionWord, headOf, countOf, isNameWord, isLiteralWord, isHeadWord, Code, aLet, aSet, aDelete, aSubsume, aUnion, aPanic, aCall, anExpression, noCode, codeOf}
+use Rattle.rules.specs.Refusals.{ok, unfit}
 use Rattle.rules.specs.Signature.{Sig, heads}
-use Rattle.rules.specs.Written.{Expr, Exprs, Action, let′, set′, delete′, subsume′, union′, panic′, expr′, Read, Reader, Target, readWord, readMany, readExpr, readTarget, readCode, codeAt, readAction}
+use Rattle.rules.specs.Written.{Expr, Exprs, Action, let′, set′, delete′, subsume′, union′, panic′, expr′, Read, Target, readWord, readMany, readExpr, readTarget, readCode, codeAt, readAction}
 use Rattle.meaning.proofs.Results.{bind-ok, ok-inj, refuse-ok, demand-ok}
 use Rattle.meaning.proofs.Lists.{and-left, and-right}
 use Rattle.meaning.proofs.Reading.{within-low, within-high, head-below, expr-reads}
-use Rattle.walks.specs.Steps.{ReadAt, ExprAt, ExprsAt}
+use Rattle.walks.specs.Steps.{ExprAt}
 use Rattle.walks.proofs.Read.{expr-at, exprs-at, exprs-on, many-inside}
 use Rattle.core_actions.specs.Acts.{ActionAt, LetAt, ChangeAt, PairAt}
 use Rattle.core_actions.proofs.Pieces.{snoc}

@@ -3,18 +3,18 @@ use mathlib.Core.Path.{_≡_, refl, sym, ap, _∙_, subst}
 use mathlib.Core.Bool.{Bool, true, false, cond, _&&_}
 use mathlib.Core.List.{List}
 use mathlib.Core.Option.{Option, none, some}
-use Prim.Native.Nat.{ℕ, zero, suc, _+_, _-_, _*_, _≤_, _<_}
+use Prim.Native.Nat.{ℕ, zero, suc, _+_, _-_, _≤_, _<_}
 use native.Mathlib.Omega.{arith}
-use lib.Dec.{ltb, leb, eqb}
+use lib.Dec.{ltb}
 use lib.ListN.{length, getD}
-use borrow.Author.Tests.{ltb-true, ltb-false, lt-ltb, le-ltb, le-leb, lt-leb}
+use borrow.Author.Tests.{ltb-true, ltb-false, le-leb, lt-leb}
 use Rattle.rules.specs.Words.{limit12, maxDepth, nameBase, literalBase, headBase, freshBase, actionWord, headOf, countOf}
 use Rattle.rules.specs.Refusals.{Res, ok, refuse, _>>=_, unfit, tooDeep}
 use Rattle.rules.specs.Signature.{Sig, heads, isConstructor, isName}
-use Rattle.rules.specs.Written.{Expr, Exprs, leaf, call, end, _then_, Shape, isLeaf, isCall, isBad, shapeAt, Read, Reader, readShape, readExpr, readMany}
+use Rattle.rules.specs.Written.{Expr, Exprs, leaf, call, end, Shape, isLeaf, isCall, isBad, shapeAt, Read, Reader, readShape, readExpr, readMany}
 use Rattle.rules.specs.ToCoreActions.{Done, AsSet, optional, unionAsSet, lowerUnion, lowerSet}
 use Rattle.meaning.proofs.Results.{bind-ok, ok-inj, refuse-ok}
-use Rattle.walks.specs.Steps.{Piece, Walked, ReadAt, ExprAt, ExprsAt}
+use Rattle.walks.specs.Steps.{Piece, Walked, ExprAt, ExprsAt}
 use Rattle.walks.proofs.Read.{moved, expr-some, leaf-cases, call-cases, first-cases, none-cases}
 use Rattle.walks.proofs.Asks.{expr-inside}
 use Rattle.core_actions.specs.Acts.{ChangeAt, PairAt, NameCallAt, arityOf, setMode, changed, Gave, Acts}

@@ -12,7 +12,7 @@ ghost use mathlib.Core.Option.{none};
 ghost use Prim.Native.Nat.{ℕ, _+_, _-_, _<_, _≤_};
 ghost use lib.ListN.{length, getD};
 ghost use Rattle.octets.specs.Words.{words};
-ghost use Rattle.rules.specs.Words.{maxDepth, headOf, actionWord};
+ghost use Rattle.rules.specs.Words.{maxDepth, headOf};
 ghost use Rattle.rules.specs.Signature.{Sig, elem};
 ghost use Rattle.rules.specs.Written.{leaf, panic′, expr′};
 ghost use Rattle.rules.specs.ToCoreActions.{lowerLet, lowerUnion, lowerSet, lowerAction};
@@ -23,7 +23,7 @@ ghost use Rattle.core_actions.specs.Acts.{LetAt, ChangeAt, PairAt, NameC
 // The words of actions 1, 2, 5 and 6.
 const LET: u32 = 0x0200_0001;
 
-const SET: u32 = 0x0200_0002;
+pub const SET: u32 = 0x0200_0002;
 
 const UNION: u32 = 0x0200_0005;
 
@@ -348,8 +348,8 @@ pub fn set_name(
     }
     if may_read(scratch, scope, name) {
         octets::put(scratch, sp + n, name);
-        let v = walks::take(counters, scratch, args.log, h);
-        if v == 0 {
+        let used = walks::take(counters, scratch, args.log, h);
+        if used == 0 {
             return Acted {
                 walk: Walk {
                     next: at + 2,

@@ -1,5 +1,6 @@
 // Unions. With the flag on, a union of a name and a constructor call, in either order, becomes a set; any other stays one.
 use crate::actions::Acted;
+use crate::actions::SET;
 use crate::actions::lower_change;
 use crate::actions::set_name;
 use crate::actions::unite;
@@ -16,9 +17,6 @@ ghost use Rattle.rules.specs.ToCoreActions.{lowerUnion, unionAsSet};
 ghost use Rattle.walks.specs.Steps.{Room, Under, Counted, ExprAt};
 ghost use Rattle.core_actions.specs.Scopes.{Scoped, ScopeRoom, Names};
 ghost use Rattle.core_actions.specs.Acts.{PairAt, Acts, Signed, setMode, arityOf};
-
-// The word of action 2.
-const SET: u32 = 0x0200_0002;
 
 // The word of a signature that says 1: the flag is on, a head is a constructor.
 const ONE: u32 = 0x0100_0001;

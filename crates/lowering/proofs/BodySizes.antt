@@ -1,6 +1,6 @@
 -- How large a flat body is, by the words of its facts: at most three for each. And its head words lie below the names, so that a scan for a name
 -- passes them over. Assumes nothing.
-use mathlib.Core.Path.{_≡_, refl, sym, ap, _∙_, subst}
+use mathlib.Core.Path.{_≡_, refl, ap, subst}
 use mathlib.Core.Bool.{Bool, true, false}
 use mathlib.Core.List.{List, [], _∷_, _++_}
 use Prim.Native.Nat.{ℕ, zero, suc, _+_, _-_, _*_, _≤_, _<_}
@@ -8,14 +8,14 @@ use native.Mathlib.Omega.{arith}
 use lib.Dec.{ltb, eqb}
 use lib.ListN.{length, getD, length-append}
 use borrow.Author.Tests.{ltb-true, ltb-false, eqb-true, eqb-false}
-use Rattle.rules.specs.Words.{limit12, limit16, maxDepth, nameBase, literalBase, headWord, headOf, countOf, equalityWord}
-use Rattle.rules.specs.Refusals.{ok, _>>=_}
+use Rattle.rules.specs.Words.{limit12, maxDepth, nameBase, literalBase, headWord, headOf, countOf, equalityWord}
+use Rattle.rules.specs.Refusals.{ok}
 use Rattle.rules.specs.Signature.{Sig, heads}
-use Rattle.rules.specs.Written.{Expr, Exprs, leaf, call, end, _then_, Fact, holds, equal, readFact, readRow}
+use Rattle.rules.specs.Written.{call, _then_, holds, equal, readFact, readRow}
 use Rattle.rules.specs.Flat.{Atom, eqn, tab, atomWords, wordsOf}
-use Rattle.rules.specs.ToQuery.{Fresh, fresh, Flat, Flats, Query, flatten, flattenAll, flattenFact, toQuery}
+use Rattle.rules.specs.ToQuery.{fresh, Flat, Flats, Query, flatten, flattenAll, flattenFact, toQuery}
 use Rattle.meaning.proofs.Results.{bind-ok, ok-inj}
-use Rattle.walks.specs.Steps.{ReadAt, ExprAt, ExprsAt}
+use Rattle.walks.specs.Steps.{ExprAt, ExprsAt}
 use Rattle.walks.proofs.Read.{recount, leaf-cases, call-cases, first-cases, none-cases, row-cases, no-row-cases}
 use Rattle.walks.proofs.Words.{words-append, words-one}
 use Rattle.query.specs.Flattened.{FactAt, FactsAt}

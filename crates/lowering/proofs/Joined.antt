@@ -1,21 +1,21 @@
 -- Both walks over one rule: what the second asks after the first, and each way out. Assumes nothing.
 use mathlib.Core.Path.{_≡_, refl, sym, ap, _∙_, subst}
-use mathlib.Core.List.{List, [], _∷_}
-use Prim.Native.Nat.{ℕ, _+_, _-_, _*_, _≤_, _<_}
+use mathlib.Core.List.{List}
+use Prim.Native.Nat.{ℕ, _+_, _-_, _*_, _≤_}
 use native.Mathlib.Omega.{arith}
 use lib.ListN.{length, getD}
-use Rattle.octets.specs.Regions.{part, At}
+use Rattle.octets.specs.Regions.{part}
 use Rattle.octets.proofs.Splice.{part-same}
-use Rattle.rules.specs.Words.{limit12, signatureBase, factsOf, actionsOf}
+use Rattle.rules.specs.Words.{signatureBase, factsOf, actionsOf}
 use Rattle.rules.specs.Refusals.{Res, ok, refuse, _>>=_}
 use Rattle.rules.specs.Signature.{Sig, heads, readSignature}
 use Rattle.rules.specs.Written.{Rule, readAction, readRow, readWritten}
-use Rattle.rules.specs.Flat.{atomWords, actionWords, wordsOf}
+use Rattle.rules.specs.Flat.{atomWords, wordsOf}
 use Rattle.rules.specs.ToQuery.{Query, toQuery, bodyVars}
 use Rattle.rules.specs.ToCoreActions.{Done, CoreRule, toCoreActions, toCoreRule}
 use Rattle.meaning.proofs.Results.{ok-inj}
 use Rattle.walks.specs.Log.{undone}
-use Rattle.walks.specs.Steps.{Piece, Kept, Walked, NoTerms, Room, Counted}
+use Rattle.walks.specs.Steps.{Kept, Walked, NoTerms, Room, Counted}
 use Rattle.walks.specs.declared.Walk.{Walk}
 use Rattle.walks.proofs.Frames.{kept-wide, kept-then, restored}
 use Rattle.walks.proofs.Steps.{Went, went}
@@ -27,11 +27,11 @@ use Rattle.core_actions.specs.Acts.{ActionsAt, Gave}
 use Rattle.core_actions.specs.declared.scope.Scope.{Scope}
 use Rattle.core_actions.specs.declared.actions.Acted.{Acted}
 use Rattle.core_actions.proofs.Body.{scope-first}
-use Rattle.lowering.specs.Lowered.{Good, Made, Back, Lowers}
+use Rattle.lowering.specs.Lowered.{Good, Lowers}
 use Rattle.lowering.specs.declared.Lowering.{Lowering}
 use Rattle.lowering.proofs.SignatureWords.{SignatureWords}
 use Rattle.lowering.proofs.RuleWords.{RuleWords}
-use Rattle.lowering.proofs.BodySizes.{Small, query-small}
+use Rattle.lowering.proofs.BodySizes.{query-small}
 
 module _ (sig : Sig) (gs ws : List ℕ) (r : Rule) (cs s : List ℕ) (n w : ℕ) (en : n ≡ length ws) (rw′ : RuleWords sig ws r w) (sw : SignatureWords sig gs) (fits : heads sig ≤ length cs) (roomy : 31 * length ws ≤ length s) where
   pub counted : Counted sig cs

@@ -1,17 +1,15 @@
 -- What the words of a rule that was read say: its facts stand behind the header, and its actions behind them. Assumes nothing.
-use mathlib.Core.Path.{_≡_, refl, sym, ap, _∙_, subst}
-use mathlib.Core.Bool.{Bool, true, false, _&&_}
+use mathlib.Core.Path.{_≡_, ap, _∙_}
 use mathlib.Core.List.{List}
-use Prim.Native.Nat.{ℕ, zero, suc, _+_, _-_, _*_, _≤_, _<_}
+use Prim.Native.Nat.{ℕ, _+_, _*_, _≤_, _<_}
 use native.Mathlib.Omega.{arith}
 use lib.Dec.{leb}
 use lib.ListN.{length, getD}
-use borrow.Author.Tests.{leb-true}
 use Rattle.rules.specs.Words.{limit12, headerBase, isHeaderWord, factsOf, actionsOf}
 use Rattle.rules.specs.Refusals.{ok, unfit}
-use Rattle.rules.specs.Signature.{Sig, heads}
+use Rattle.rules.specs.Signature.{Sig}
 use Rattle.rules.specs.Written.{Fact, Action, Rule, Read, readWord, readRow, readFact, readAction, readWritten}
-use Rattle.meaning.proofs.Results.{bind-ok, ok-inj, demand-ok}
+use Rattle.meaning.proofs.Results.{bind-ok, demand-ok}
 use Rattle.meaning.proofs.Reading.{within-low}
 use Rattle.walks.proofs.Read.{row-at, row-on, row-inside}
 use Rattle.query.specs.Flattened.{FactsAt}

@@ -1,15 +1,15 @@
 -- What the words of a signature that was read say. Assumes nothing.
 use mathlib.Core.Path.{_≡_, refl, sym, ap, _∙_, subst}
 use mathlib.Core.Bool.{Bool, true, false, _&&_}
-use mathlib.Core.List.{List, [], _∷_}
-use Prim.Native.Nat.{ℕ, zero, suc, _+_, _-_, _≤_, _<_}
+use mathlib.Core.List.{List, _∷_}
+use Prim.Native.Nat.{ℕ, zero, suc, _+_, _≤_, _<_}
 use native.Mathlib.Omega.{arith}
 use lib.Dec.{ltb, eqb}
 use lib.ListN.{length, getD}
 use borrow.Author.Tests.{ltb-true, eqb-true, eq-eqb, ne-eqb}
 use Rattle.rules.specs.Words.{limit12, signatureBase, within}
 use Rattle.rules.specs.Refusals.{ok, badSignature}
-use Rattle.rules.specs.Signature.{Sig, heads, isConstructor, payloadAt, kindsAt, readSignature}
+use Rattle.rules.specs.Signature.{Sig, heads, payloadAt, kindsAt, readSignature}
 use Rattle.meaning.proofs.Results.{bind-ok, ok-inj, demand-ok}
 use Rattle.meaning.proofs.Lists.{and-left, and-right}
 use Rattle.meaning.proofs.Reading.{within-low, within-high}

@@ -3,7 +3,7 @@
 -- Assumes nothing: these are definitions.
 use mathlib.Core.Path.{_≡_}
 use mathlib.Core.List.{List}
-use Prim.Native.Nat.{ℕ, _+_, _*_, _<_, _≤_}
+use Prim.Native.Nat.{ℕ, _*_, _<_, _≤_}
 use lib.ListN.{length}
 use Rattle.octets.specs.Regions.{part, At}
 use Rattle.rules.specs.Refusals.{Res, ok, refuse}

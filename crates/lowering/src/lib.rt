@@ -19,13 +19,13 @@ const SIGNATURE: u32 = 0x0100_0000;
 // Facts and actions are numbered below LIMIT_12.
 const LIMIT_12: u32 = 4096;
 
-// Where a rule of n words has its parts in the scratch, in n words each: the body starts at 0, and three times its words, eight fold, is what
-// settling takes.
-const HEAD: usize = 24;
+// Where the parts of a rule of n words start in the scratch, in steps of n words. The body starts at 0 and has at most 3 n words; settling takes
+// 8 words for each of them, so that the head comes 24 n words behind.
+const HEAD_AT: usize = 24;
 
-const STACK: usize = 28;
+const STACK_AT: usize = 28;
 
-const LOG: usize = 30;
+const LOG_AT: usize = 30;
 
 // The answer. Where `refused` is 0: the words of the body and of the head, how many actions these are, and how many uses are logged. Else
 // `refused` is the refusal's number and `place` its place.
@@ -50,7 +50,7 @@ pub fn to_core_rule(
         → Lowers (toCoreRule sig rl (words (now (counters .entry)))) (length (words (now (rule .entry)))) (words (now (counters .entry))) (words (now (scratch .exit))) (words (now (counters .exit))) r) ⌝ }
 {
     let n = octets::count(rule);
-    let log = LOG * n;
+    let log = LOG_AT * n;
     let counts = octets::get(rule, 0) - HEADER;
     let body = query::to_query(
         rule,
@@ -59,7 +59,7 @@ pub fn to_core_rule(
         counters,
         scratch,
         0,
-        STACK * n,
+        STACK_AT * n,
         log,
     );
     if body.refused != 0 {
@@ -76,7 +76,7 @@ pub fn to_core_rule(
     let scope = Scope {
         globals: octets::get(signature, 1) - SIGNATURE,
         body: body.to,
-        first: STACK * n,
+        first: STACK_AT * n,
         names: 0,
     };
     let head = core_actions::to_core_actions(
@@ -87,7 +87,7 @@ pub fn to_core_rule(
         scope,
         counters,
         scratch,
-        HEAD * n,
+        HEAD_AT * n,
         body.log,
     );
     if head.walk.refused != 0 {
@@ -105,7 +105,7 @@ pub fn to_core_rule(
         refused: 0,
         place: 0,
         body: body.to,
-        head: head.walk.to - HEAD * n,
+        head: head.walk.to - HEAD_AT * n,
         actions: head.count,
         log: head.walk.log - log,
     }

@@ -1,5 +1,5 @@
 -- Each way out of flattening an expression, over plain lists. Assumes nothing.
-use mathlib.Core.Path.{_≡_, refl, sym, ap, _∙_}
+use mathlib.Core.Path.{_≡_, refl, sym}
 use mathlib.Core.List.{List, [], _∷_, _++_}
 use Prim.Native.Nat.{ℕ, suc, _+_, _-_, _*_, _≤_, _<_}
 use native.Mathlib.Omega.{arith}
@@ -8,18 +8,17 @@ use Rattle.octets.specs.Regions.{splice, part}
 use Rattle.octets.proofs.Splice.{length-part}
 use Rattle.rules.specs.Words.{literalBase, headBase, headWord, headOf, countOf}
 use Rattle.rules.specs.Refusals.{ok, _>>=_, usedUp}
-use Rattle.rules.specs.Signature.{Sig, heads}
-use Rattle.rules.specs.Written.{Expr, leaf, call}
+use Rattle.rules.specs.Signature.{Sig}
 use Rattle.rules.specs.ToQuery.{Fresh, fresh}
 use Rattle.walks.specs.Log.{Taken}
-use Rattle.walks.specs.Steps.{Piece, Walked, InAnswer, OnStack, Room, Counted, ReadAt, ExprAt, ExprsAt}
+use Rattle.walks.specs.Steps.{Piece, Walked, InAnswer, OnStack, Room, Counted, ExprAt, ExprsAt}
 use Rattle.walks.specs.declared.Walk.{Walk}
 use Rattle.walks.proofs.Frames.{kept-none}
 use Rattle.walks.proofs.Steps.{went, Own, full-first, first-stop, first-done}
 use Rattle.walks.proofs.Read.{leaf-cases, call-cases, exprs-many}
 use Rattle.walks.proofs.Words.{head-word}
 use Rattle.query.specs.Flattened.{flattened, flattenedAll}
-use Rattle.query.proofs.Pieces.{callPiece, ownAtom, flattened-leaf, flattened-call}
+use Rattle.query.proofs.Pieces.{callPiece, flattened-leaf, flattened-call}
 
 module _ (sig : Sig) (ws : List ℕ) (d at to sp lg : ℕ) (s cs : List ℕ) (x : ExprAt sig ws d at) (c : Counted sig cs) (w : ℕ) (is : w ≡ getD ws at 0) where
   pub leaf-way : literalBase ≤ w

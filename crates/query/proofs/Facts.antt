@@ -2,24 +2,24 @@
 use mathlib.Core.Path.{_≡_, refl, sym, ap, _∙_, subst}
 use mathlib.Core.Bool.{Bool, true, false, cond, _&&_}
 use mathlib.Core.List.{List, [], _∷_, _++_}
-use Prim.Native.Nat.{ℕ, suc, _+_, _-_, _*_, _≤_, _<_}
+use Prim.Native.Nat.{ℕ, suc, _+_, _-_, _≤_, _<_}
 use native.Mathlib.Numerals.{add-one}
 use native.Mathlib.Omega.{arith}
 use lib.Dec.{ltb, eqb}
 use lib.ListN.{length, getD}
-use borrow.Author.Tests.{ltb-true, lt-ltb, eqb-true, eq-eqb, ne-eqb}
+use borrow.Author.Tests.{lt-ltb, eqb-true, eq-eqb}
 use Rattle.octets.specs.Regions.{splice}
 use Rattle.rules.specs.Words.{maxDepth, equalityWord}
 use Rattle.rules.specs.Refusals.{ok, _>>=_}
 use Rattle.rules.specs.Signature.{Sig}
-use Rattle.rules.specs.Written.{Expr, Fact, holds, equal, Read, readExpr, readEqual, readHolds, readFact, readRow}
+use Rattle.rules.specs.Written.{Fact, holds, equal, Read, readExpr, readEqual, readHolds, readFact, readRow}
 use Rattle.meaning.proofs.Results.{bind-ok, ok-inj}
-use Rattle.meaning.proofs.Lists.{and-left, and-right}
+use Rattle.meaning.proofs.Lists.{and-right}
 use Rattle.meaning.proofs.Reading.{expr-reads}
-use Rattle.walks.specs.Steps.{Piece, both, andThen, Walked, InAnswer, NoTerms, Room, Counted, ReadAt, ExprAt}
+use Rattle.walks.specs.Steps.{Piece, both, andThen, Walked, InAnswer, NoTerms, Room, Counted, ExprAt}
 use Rattle.walks.specs.declared.Walk.{Walk}
 use Rattle.walks.proofs.Steps.{went, stop, with-terms, none-walked, walk-then, Own, written}
-use Rattle.walks.proofs.Read.{at-read, moved, expr-at, expr-some, row-cases, no-row-cases}
+use Rattle.walks.proofs.Read.{moved, expr-at, row-cases, no-row-cases}
 use Rattle.walks.proofs.Rows.{Going, going-next}
 use Rattle.walks.proofs.Asks.{There, right-there}
 use Rattle.query.specs.Flattened.{flattened, flattenedFact, query, FactAt, FactsAt}

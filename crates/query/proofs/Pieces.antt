@@ -1,12 +1,12 @@
 -- The pieces of flattening, clause by clause: each is the walks' own steps. Assumes nothing.
-use mathlib.Core.Path.{_≡_, refl, sym, ap, _∙_}
-use mathlib.Core.List.{List, [], _∷_, _++_, append-assoc, append-nil}
+use mathlib.Core.Path.{_≡_, refl, ap, _∙_}
+use mathlib.Core.List.{List, [], _∷_, _++_}
 use Prim.Native.Nat.{ℕ, suc, _+_}
 use lib.ListN.{length, length-append}
 use Rattle.rules.specs.Words.{headWord, equalityWord}
 use Rattle.rules.specs.Refusals.{Res, ok, refuse, _>>=_}
-use Rattle.rules.specs.Written.{Expr, Exprs, leaf, call, end, _then_, Fact, holds, equal}
-use Rattle.rules.specs.Flat.{Atom, eqn, tab, atomWords, wordsOf}
+use Rattle.rules.specs.Written.{Expr, Exprs, leaf, call, Fact, holds, equal}
+use Rattle.rules.specs.Flat.{eqn, tab, atomWords, wordsOf}
 use Rattle.rules.specs.ToQuery.{Fresh, fresh, Flat, Flats, Query, flatten, flattenAll, flattenFact, toQuery}
 use Rattle.walks.specs.Steps.{Piece, nothing, both, andThen}
 use Rattle.walks.proofs.Rows.{Rowed}

@@ -3,3 +3,5 @@ pub mod Fronts
 pub mod Ends
 pub mod FreeVars
 pub mod Emitting
+pub mod SettleGood
+pub mod Settled

@@ -1,3 +1,4 @@
 pub mod Answers
 pub mod Fronts
 pub mod Emit
+pub mod Settle

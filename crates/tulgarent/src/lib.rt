@@ -1,6 +1,7 @@
 // The calls of the key service, over byte slices: four bytes a word, the lowest first. Each runs its tests in the order of 01, "Turned back", and leaves
 // output and counters as they were on a refusal.
 pub mod emit;
+pub mod settle;
 
 use records::signature::Signature;
 ghost use mathlib.Core.Path.{_≡_};
@@ -19,9 +20,9 @@ const SMALL_SCRATCH: u32 = 3;
 
 const BAD_LENGTH: u32 = 4;
 
-const SHORT_OUTPUT: u32 = 10;
+pub const SHORT_OUTPUT: u32 = 10;
 
-const RAGGED: u32 = 14;
+pub const RAGGED: u32 = 14;
 
 // The words of scratch that settling and lowering ask for.
 const SCRATCH_WORDS: usize = 16384;
@@ -36,7 +37,7 @@ pub struct Answer {
     pub passes: u64,
 }
 
-fn refused(number: u32, place: usize) -> Answer
+pub fn refused(number: u32, place: usize) -> Answer
     ensures { λ r. ⌜ r ≡ refusedWith number place ⌝ }
 {
     Answer {
@@ -49,14 +50,14 @@ fn refused(number: u32, place: usize) -> Answer
 }
 
 // A slice is whole words.
-fn whole(slice: &[u8]) -> bool
+pub fn whole(slice: &[u8]) -> bool
     ensures { λ r. ⌜ r ≡ eqb (length (now (slice .entry)) % 4) 0 ⌝ }
 {
     slice.len() % 4 == 0
 }
 
 // Three slices are whole words, and so is the rest.
-fn all_whole(a: &[u8], b: &[u8], c: &[u8], rest: bool) -> bool
+pub fn all_whole(a: &[u8], b: &[u8], c: &[u8], rest: bool) -> bool
     ensures { λ r. ⌜ r ≡ wholeThree (length (now (a .entry))) (length (now (b .entry))) (length (now (c .entry))) rest ⌝ }
 {
     if !whole(a) {
@@ -86,7 +87,7 @@ fn turned_back(number: u32, place: usize) -> Signature
 }
 
 // The tests in front of settling and of free variables: signature, scratch, length, record.
-fn flat_front(signature: &[u8], rule: &[u8], scratch: usize) -> Signature
+pub fn flat_front(signature: &[u8], rule: &[u8], scratch: usize) -> Signature
     ensures { λ r. ⌜ r ≡ signOf (flatFront (words (now (signature .entry))) (words (now (rule .entry))) scratch) ⌝ }
 {
     let sign = records::signature::read(signature);

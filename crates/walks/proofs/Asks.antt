@@ -1,13 +1,13 @@
 -- What a walk's calls ask, from what the walk itself asks. Assumes nothing.
-use mathlib.Core.Path.{_≡_, sym, subst}
+use mathlib.Core.Path.{_≡_, sym}
 use mathlib.Core.List.{List}
-use Prim.Native.Nat.{ℕ, _+_, _-_, _*_, _≤_, _<_}
+use Prim.Native.Nat.{ℕ, _+_, _-_, _≤_, _<_}
 use native.Mathlib.Omega.{arith}
 use lib.ListN.{length, getD}
-use Rattle.rules.specs.Words.{limit12, limit16, literalBase, headBase, headOf, countOf}
+use Rattle.rules.specs.Words.{limit12, literalBase, headBase, headOf, countOf}
 use Rattle.rules.specs.Signature.{Sig, heads}
-use Rattle.rules.specs.Written.{Expr, Exprs, readExpr}
-use Rattle.walks.specs.Steps.{Room, Under, Counted, ExprAt, ExprsAt}
+use Rattle.rules.specs.Written.{readExpr}
+use Rattle.walks.specs.Steps.{Room, Counted, ExprAt, ExprsAt}
 use Rattle.walks.specs.declared.Walk.{Walk}
 use Rattle.walks.proofs.Steps.{Went}
 use Rattle.walks.proofs.Read.{moved, expr-some, call-cases, first-cases}

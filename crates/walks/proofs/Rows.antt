@@ -1,14 +1,14 @@
 -- A walk on its way through a row, and the loop over the arguments of a call. What is left of the row is walked from where the walk stands, and
 -- whatever that leaves is what walking the whole row leaves: so each turn is one law, and no law needs a row's front. Assumes nothing.
-use mathlib.Core.Path.{_≡_, refl, sym, ap, _∙_, subst}
+use mathlib.Core.Path.{_≡_, refl, sym}
 use mathlib.Core.List.{List}
 use Prim.Native.Nat.{ℕ, _+_, _-_, _*_, _≤_, _<_}
 use native.Mathlib.Omega.{arith}
-use lib.ListN.{length, set, length-set}
-use Rattle.rules.specs.Refusals.{Res, ok, refuse, _>>=_}
+use lib.ListN.{length, set}
+use Rattle.rules.specs.Refusals.{Res, ok, _>>=_}
 use Rattle.rules.specs.Signature.{Sig}
 use Rattle.rules.specs.Written.{Expr, Exprs, end, _then_, readExpr, readMany}
-use Rattle.walks.specs.Steps.{Piece, nothing, both, andThen, Kept, Walked, InAnswer, OnStack, Room, ReadAt, ExprAt, ExprsAt}
+use Rattle.walks.specs.Steps.{Piece, nothing, both, andThen, Kept, Walked, InAnswer, OnStack, Room, ExprAt, ExprsAt}
 use Rattle.walks.specs.declared.Walk.{Walk}
 use Rattle.walks.proofs.Frames.{kept-none, kept-wide, kept-then}
 use Rattle.walks.proofs.Steps.{Went, went, stop, none-walked, walk-then, pushed, stacked}

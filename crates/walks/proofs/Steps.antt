@@ -1,7 +1,7 @@
 -- Laws of walks, whatever they make: a refusal is handed on, one walk follows another, terms go onto the stack, words are written behind, and
 -- a fresh variable is taken before or after. Both walks of lowering are built of these. Assumes nothing.
 use mathlib.Core.Path.{_≡_, refl, sym, ap, _∙_, subst}
-use mathlib.Core.List.{List, [], _∷_, _++_}
+use mathlib.Core.List.{List, _++_}
 use Prim.Native.Nat.{ℕ, _+_, _*_, _≤_, _<_}
 use native.Mathlib.Omega.{arith}
 use lib.ListN.{length, getD, set, length-append, length-set}
@@ -11,7 +11,7 @@ use Rattle.octets.proofs.Splice.{part-same, part-join, part-one}
 use Rattle.rules.specs.Refusals.{Res, ok, refuse, _>>=_, usedUp}
 use Rattle.rules.specs.ToQuery.{Fresh, fresh}
 use Rattle.walks.specs.Log.{Taken}
-use Rattle.walks.specs.Steps.{Piece, nothing, both, andThen, Kept, Wrote, Stopped, Ended, Walked, InAnswer, OnStack}
+use Rattle.walks.specs.Steps.{Piece, nothing, both, andThen, Kept, Wrote, Walked, InAnswer, OnStack}
 use Rattle.walks.specs.declared.Walk.{Walk}
 use Rattle.walks.proofs.Frames.{kept-none, kept-wide, kept-then, kept-log, kept-push, kept-put, joined, spliced}
 

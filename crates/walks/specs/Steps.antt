@@ -9,7 +9,7 @@ use Rattle.octets.specs.Regions.{part}
 use Rattle.rules.specs.Words.{limit12}
 use Rattle.rules.specs.Refusals.{Res, ok, refuse, _>>=_}
 use Rattle.rules.specs.Signature.{Sig, heads}
-use Rattle.rules.specs.Written.{Expr, Exprs, Read, Reader, readExpr, readMany}
+use Rattle.rules.specs.Written.{Reader, readExpr, readMany}
 use Rattle.walks.specs.Log.{undone}
 use Rattle.walks.specs.declared.Walk.{Walk}
 

@@ -1,11 +1,9 @@
-use Prim.Native.Nat.{ℕ, _+_, _-_, _<_, _≤_}
-use mathlib.Core.Path.{_≡_, refl, sym, ap, _∙_}
-use mathlib.Core.List.{List}
+use Prim.Native.Nat.{_+_, _<_}
+use mathlib.Core.Path.{_≡_, sym, _∙_}
 use native.Mathlib.Omega.{arith}
 use lib.ListN.{length, getD}
 use Rattle.octets.specs.Words.{words}
 use Rattle.rules.specs.Words.{maxDepth, actionWord}
-use Rattle.rules.specs.Signature.{Sig}
 use Rattle.rules.specs.ToCoreActions.{lowerAction}
 use Rattle.walks.specs.Steps.{ExprAt}
 use Rattle.core_actions.specs.Acts.{LetAt, ChangeAt, PairAt, Acts}
@@ -23,7 +21,6 @@ use Rattle.core_actions.proofs.actions.lower_panic.Reads as lower-panic
 use Rattle.core_actions.proofs.unions.lower_union.Reads as lower-union-reads
 use Rattle.octets.proofs.get.Reads as get-reads
 
--- src/lib.rt:43:9
 get-requires : tie.Need-get-requires
 get-requires c κs =
     let a = c .before .before .before .before .args in
@@ -37,7 +34,6 @@ get-requires c κs =
     let x0 = q .known .0 in
     action-inside (q .sig) ws (a .at) x0
 
--- src/lib.rt:44:16
 sub-code : tie.Need-sub-code
 sub-code c =
     let a = c .before .before .before .before .before .args in
@@ -54,7 +50,6 @@ sub-code c =
     let high = action-high (q .sig) ws (a .at) x0 in
     omega arith
 
--- src/lib.rt:46:14
 lower-let-requires : tie.Need-lower-let-requires
 lower-let-requires c κs =
     let a = c .before .before .before .before .before .before .before .before .args in
@@ -73,7 +68,6 @@ lower-let-requires c κs =
     let here : getD ws (a .at) 0 ≡ actionWord 1 = sym is ∙ code in
     (record { sig = q .sig; known = (let-cases (q .sig) ws (a .at) x0 (λ y k. LetAt (q .sig) ws (a .at)) here (λ y. y), q .known .1, q .known .2) }, (room, (sr, top)))
 
--- src/lib.rt:47:14
 lower-change-requires : tie.Need-lower-change-requires
 lower-change-requires c κs =
     let a = c .before .before .before .before .before .before .before .before .args in
@@ -92,7 +86,6 @@ lower-change-requires c κs =
     let here : getD ws (a .at) 0 ≡ actionWord 2 = sym is ∙ code in
     (record { sig = q .sig; known = (set-cases (q .sig) ws (a .at) x0 (λ y k. ChangeAt (q .sig) ws 1 (a .at)) here (λ y es e r. y), q .known .1, q .known .2) }, (room, (sr, omega arith)))
 
--- src/lib.rt:48:14
 lower-change-requires-2 : tie.Need-lower-change-requires-2
 lower-change-requires-2 c κs =
     let a = c .before .before .before .before .before .before .before .before .args in
@@ -111,7 +104,6 @@ lower-change-requires-2 c κs =
     let here : getD ws (a .at) 0 ≡ actionWord 3 = sym is ∙ code in
     (record { sig = q .sig; known = (delete-cases (q .sig) ws (a .at) x0 (λ y k. ChangeAt (q .sig) ws 0 (a .at)) here (λ y. y), q .known .1, q .known .2) }, (room, (sr, omega arith)))
 
--- src/lib.rt:49:14
 lower-change-requires-3 : tie.Need-lower-change-requires-3
 lower-change-requires-3 c κs =
     let a = c .before .before .before .before .before .before .before .before .args in
@@ -130,7 +122,6 @@ lower-change-requires-3 c κs =
     let here : getD ws (a .at) 0 ≡ actionWord 4 = sym is ∙ code in
     (record { sig = q .sig; known = (subsume-cases (q .sig) ws (a .at) x0 (λ y k. ChangeAt (q .sig) ws 0 (a .at)) here (λ y. y), q .known .1, q .known .2) }, (room, (sr, omega arith)))
 
--- src/lib.rt:50:14
 lower-union-requires : tie.Need-lower-union-requires
 lower-union-requires c κs =
     let a = c .before .before .before .before .before .before .before .before .args in
@@ -149,7 +140,6 @@ lower-union-requires c κs =
     let here : getD ws (a .at) 0 ≡ actionWord 5 = sym is ∙ code in
     (record { sig = q .sig; known = (union-cases (q .sig) ws (a .at) x0 (λ y k. PairAt (q .sig) ws (a .at)) here (λ y. y), q .known .1, q .known .2, q .known .3) }, (room, sr))
 
--- src/lib.rt:51:14
 lower-panic-requires : tie.Need-lower-panic-requires
 lower-panic-requires c κs =
     let a = c .before .before .before .before .before .before .before .before .args in
@@ -168,7 +158,6 @@ lower-panic-requires c κs =
     let here : getD ws (a .at) 0 ≡ actionWord 6 = sym is ∙ code in
     (panic-cases (q .sig) ws (a .at) x0 (λ y k. a .at + 1 < length ws) here (λ i. i), (room, sr))
 
--- src/lib.rt:52:14
 lower-expression-requires : tie.Need-lower-expression-requires
 lower-expression-requires c κs =
     let a = c .before .before .before .before .before .before .before .before .args in
@@ -187,15 +176,12 @@ lower-expression-requires c κs =
     let here : getD ws (a .at) 0 ≡ actionWord 8 = sym is ∙ code in
     (record { sig = q .sig; known = (expression-cases (q .sig) ws (a .at) x0 (λ y k. ExprAt (q .sig) ws maxDepth (a .at + 1)) here (λ y. y), q .known .1, q .known .2) }, (room, sr))
 
--- src/lib.rt:35:1
 same-length : tie.Need-same-length
 same-length c = search needs
 
--- src/lib.rt:35:1
 same-length-2 : tie.Need-same-length-2
 same-length-2 c = search needs
 
--- src/lib.rt:35:1
 returns : tie.Need-returns
 returns c =
     let a = c .before .before .before .before .before .before .before .before .before .before .before .before .before .args in
@@ -215,15 +201,12 @@ returns c =
     let k = c .before .before .before .before .lower-let in
     λ sig x bound n sc sg. let-cases sig ws (a .at) x (λ y k′. Acts (lowerAction sig bound y cs) sig (a .scope) k′ (a .at) (a .to) (a .sp) (a .log) s cs (words (k .last .1 .1 .1 .1 .0)) (words (k .last .1 .1 .1 .0)) (k .result)) here (λ y. k .ensures sig y bound n sc)
 
--- src/lib.rt:35:1
 same-length-3 : tie.Need-same-length-3
 same-length-3 c = search needs
 
--- src/lib.rt:35:1
 same-length-4 : tie.Need-same-length-4
 same-length-4 c = search needs
 
--- src/lib.rt:35:1
 returns-2 : tie.Need-returns-2
 returns-2 c =
     let a = c .before .before .before .before .before .before .before .before .before .before .before .before .before .args in
@@ -243,15 +226,12 @@ returns-2 c =
     let k = c .before .before .before .before .lower-change in
     λ sig x bound n sc sg. set-cases sig ws (a .at) x (λ y k′. Acts (lowerAction sig bound y cs) sig (a .scope) k′ (a .at) (a .to) (a .sp) (a .log) s cs (words (k .last .1 .1 .1 .1 .1 .1 .0)) (words (k .last .1 .1 .1 .1 .1 .0)) (k .result)) here (λ y es e r. set-acts sig bound ws (a .at) (a .to) (a .sp) (a .log) (a .scope) s cs (words (k .last .1 .1 .1 .1 .1 .1 .0)) (words (k .last .1 .1 .1 .1 .1 .0)) (k .result) w (k .ensures .0) sr sc y es e r code (k .ensures .1 sig y bound n sc))
 
--- src/lib.rt:35:1
 same-length-5 : tie.Need-same-length-5
 same-length-5 c = search needs
 
--- src/lib.rt:35:1
 same-length-6 : tie.Need-same-length-6
 same-length-6 c = search needs
 
--- src/lib.rt:35:1
 returns-3 : tie.Need-returns-3
 returns-3 c =
     let a = c .before .before .before .before .before .before .before .before .before .before .before .before .before .args in
@@ -271,15 +251,12 @@ returns-3 c =
     let k = c .before .before .before .before .lower-change2 in
     λ sig x bound n sc sg. delete-cases sig ws (a .at) x (λ y k′. Acts (lowerAction sig bound y cs) sig (a .scope) k′ (a .at) (a .to) (a .sp) (a .log) s cs (words (k .last .1 .1 .1 .1 .1 .1 .0)) (words (k .last .1 .1 .1 .1 .1 .0)) (k .result)) here (λ y. delete-acts sig bound ws (a .at) (a .to) (a .sp) (a .log) (a .scope) s cs (words (k .last .1 .1 .1 .1 .1 .1 .0)) (words (k .last .1 .1 .1 .1 .1 .0)) (k .result) w (k .ensures .0) sr sc y code (k .ensures .1 sig y bound n sc))
 
--- src/lib.rt:35:1
 same-length-7 : tie.Need-same-length-7
 same-length-7 c = search needs
 
--- src/lib.rt:35:1
 same-length-8 : tie.Need-same-length-8
 same-length-8 c = search needs
 
--- src/lib.rt:35:1
 returns-4 : tie.Need-returns-4
 returns-4 c =
     let a = c .before .before .before .before .before .before .before .before .before .before .before .before .before .args in
@@ -299,15 +276,12 @@ returns-4 c =
     let k = c .before .before .before .before .lower-change3 in
     λ sig x bound n sc sg. subsume-cases sig ws (a .at) x (λ y k′. Acts (lowerAction sig bound y cs) sig (a .scope) k′ (a .at) (a .to) (a .sp) (a .log) s cs (words (k .last .1 .1 .1 .1 .1 .1 .0)) (words (k .last .1 .1 .1 .1 .1 .0)) (k .result)) here (λ y. subsume-acts sig bound ws (a .at) (a .to) (a .sp) (a .log) (a .scope) s cs (words (k .last .1 .1 .1 .1 .1 .1 .0)) (words (k .last .1 .1 .1 .1 .1 .0)) (k .result) w (k .ensures .0) sr sc y code (k .ensures .1 sig y bound n sc))
 
--- src/lib.rt:35:1
 same-length-9 : tie.Need-same-length-9
 same-length-9 c = search needs
 
--- src/lib.rt:35:1
 same-length-10 : tie.Need-same-length-10
 same-length-10 c = search needs
 
--- src/lib.rt:35:1
 returns-5 : tie.Need-returns-5
 returns-5 c =
     let a = c .before .before .before .before .before .before .before .before .before .before .before .before .before .args in
@@ -327,15 +301,12 @@ returns-5 c =
     let k = c .before .before .before .before .lower-union in
     λ sig x bound n sc sg. union-cases sig ws (a .at) x (λ y k′. Acts (lowerAction sig bound y cs) sig (a .scope) k′ (a .at) (a .to) (a .sp) (a .log) s cs (words (k .last .1 .1 .1 .1 .1 .0)) (words (k .last .1 .1 .1 .1 .0)) (k .result)) here (λ y. k .ensures sig y bound n sc sg)
 
--- src/lib.rt:35:1
 same-length-11 : tie.Need-same-length-11
 same-length-11 c = search needs
 
--- src/lib.rt:35:1
 same-length-12 : tie.Need-same-length-12
 same-length-12 c = search needs
 
--- src/lib.rt:35:1
 returns-6 : tie.Need-returns-6
 returns-6 c =
     let a = c .before .before .before .before .before .before .before .before .before .before .before .before .before .args in
@@ -355,15 +326,12 @@ returns-6 c =
     let k = c .before .before .before .before .lower-panic in
     λ sig x bound n sc sg. panic-cases sig ws (a .at) x (λ y k′. Acts (lowerAction sig bound y cs) sig (a .scope) k′ (a .at) (a .to) (a .sp) (a .log) s cs (words (k .last .1 .1 .1 .1 .0)) (words (k .last .1 .1 .1 .0)) (k .result)) here (λ i. k .ensures sig bound sc)
 
--- src/lib.rt:35:1
 same-length-13 : tie.Need-same-length-13
 same-length-13 c = search needs
 
--- src/lib.rt:35:1
 same-length-14 : tie.Need-same-length-14
 same-length-14 c = search needs
 
--- src/lib.rt:35:1
 returns-7 : tie.Need-returns-7
 returns-7 c =
     let a = c .before .before .before .before .before .before .before .before .before .before .before .before .before .args in
@@ -383,7 +351,6 @@ returns-7 c =
     let k = c .before .before .before .before .lower-expression in
     λ sig x bound n sc sg. expression-cases sig ws (a .at) x (λ y k′. Acts (lowerAction sig bound y cs) sig (a .scope) k′ (a .at) (a .to) (a .sp) (a .log) s cs (words (k .last .1 .1 .1 .1 .0)) (words (k .last .1 .1 .1 .0)) (k .result)) here (λ y. k .ensures sig y bound n sc)
 
--- src/lib.rt:35:1
 returns-8 : tie.Need-returns-8
 returns-8 c =
     let a = c .before .before .before .before .before .before .args in

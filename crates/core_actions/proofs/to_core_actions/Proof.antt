@@ -1,5 +1,5 @@
-use Prim.Native.Nat.{ℕ, _+_, _*_, _-_, _<_, _≤_}
-use mathlib.Core.Path.{_≡_, refl, sym, ap, _∙_}
+use Prim.Native.Nat.{ℕ, _+_, _≤_}
+use mathlib.Core.Path.{_≡_, refl, _∙_}
 use mathlib.Core.List.{List}
 use native.Mathlib.Omega.{arith}
 use lib.ListN.{length}
@@ -33,7 +33,6 @@ Inv-loop signature rule at n scope counters₀ scratch₀ to log left₀ names�
 abbrev μ-loop : tie.MeasureT-loop
 μ-loop signature rule at n scope counters₀ scratch₀ to log left₀ names₀ count₀ walk₀ counters scratch left names count walk = left
 
--- src/lib.rt:69:5
 loop-holds : tie.Need-loop-holds Inv-loop μ-loop
 loop-holds c =
     let a = c .before .before .before .before .args in
@@ -51,7 +50,6 @@ loop-holds c =
       λ sig x bound n sc sg. left-all sig bound ws (a .n) (a .at) (a .to) (a .log) (a .scope) s cs x 0 sc,
     )
 
--- src/lib.rt:71:95
 add-lower-action : tie.Need-add-lower-action Inv-loop μ-loop
 add-lower-action c =
     let a = c .before .before .before .before .before .before .before .before .before .args in
@@ -76,7 +74,6 @@ add-lower-action c =
     let fi = f .inside in
     omega (arith, now .stack, now .log, inside, hs, length-words (a .scratch .now), c .before .before .before .before .before .before .before .before .before .good)
 
--- src/lib.rt:71:13
 lower-action-requires : tie.Need-lower-action-requires Inv-loop μ-loop
 lower-action-requires c κs =
     let a = c .before .before .before .before .before .before .before .before .before .args in
@@ -104,15 +101,12 @@ lower-action-requires c κs =
     record { few = sr .few; body = omega (arith, sr .body, g .words); names = omega (arith, sr .names, g .wordsTo); top = omega arith } in
     (record { sig = q .sig; known = (f, counted-kept (q .known .1) hc, record { bound = lt .now; scoped = lt .scoped }, q .known .3) }, (now, (sr1, refl)))
 
--- src/lib.rt:74:13
 same-length : tie.Need-same-length Inv-loop μ-loop
 same-length c = c .before .before .before .before .before .before .before .lower-action .kept .1 .1 .1 .1 .0 ∙ c .before .before .before .before .before .before .before .before .before .before .before .before .loop .inv .0
 
--- src/lib.rt:74:13
 same-length-2 : tie.Need-same-length-2 Inv-loop μ-loop
 same-length-2 c = c .before .before .before .before .before .before .before .lower-action .kept .1 .1 .1 .1 .1 .0 ∙ c .before .before .before .before .before .before .before .before .before .before .before .before .loop .inv .1
 
--- src/lib.rt:74:13
 returns : tie.Need-returns Inv-loop μ-loop
 returns c =
     let a = c .before .before .before .before .before .before .before .before .before .before .before .before .before .before .before .before .before .args in
@@ -140,7 +134,6 @@ returns c =
     let cs2 = words (k .last .1 .1 .1 .1 .0) in
     λ sig x bound n sc sg. left-stop sig bound ws (a .n) (a .at) (a .to) (a .log) (a .scope) s cs x (l .left) (l .names) (l .count) s1 cs1 (l .walk) (i .4 sig x bound n sc sg) (c .before .before .before .before .before .before .before .before .before .before .before .loop-test .taken) now s2 cs2 (k .result) (λ y. k .ensures sig y ((i .4 sig x bound n sc sg) .now) (counted-kept n hc) ((i .4 sig x bound n sc sg) .scoped) sg) (c .if1 .taken)
 
--- src/lib.rt:76:9
 add-names : tie.Need-add-names Inv-loop μ-loop
 add-names c =
     let a = c .before .before .before .before .before .before .before .before .before .before .before .before .before .before .before .before .before .before .args in
@@ -169,7 +162,6 @@ add-names c =
     let few = acts-few (lowerAction (q .sig) (lt .now) (f .value) cs1) (k .ensures (q .sig) f (lt .now) (counted-kept (q .known .1) hc) (lt .scoped) (q .known .3)) (c .before .if1 .left) in
     omega (arith, few .0, now .stack, now .log, inside, hs, length-words (a .scratch .now), c .before .before .before .before .before .before .before .before .before .before .before .before .before .before .before .before .before .before .good)
 
--- src/lib.rt:77:9
 add-count : tie.Need-add-count Inv-loop μ-loop
 add-count c =
     let a = c .before .before .before .before .before .before .before .before .before .before .before .before .before .before .before .before .before .before .before .args in
@@ -202,15 +194,12 @@ add-count c =
     let w2 = went (donePiece (lowerAction (q .sig) (lt .now) (f .value) cs1)) (k .ensures (q .sig) f (lt .now) (counted-kept (q .known .1) hc) (lt .scoped) (q .known .3) .piece) (c .before .before .if1 .left) in
     omega (arith, few .1, i .3, w2 .upTo, now .words, now .stack, now .log, hs, length-words (a .scratch .now), c .before .before .before .before .before .before .before .before .before .before .before .before .before .before .before .before .before .before .before .good)
 
--- src/lib.rt:78:9
 sub-left : tie.Need-sub-left Inv-loop μ-loop
 sub-left c = omega (arith, c .before .before .before .before .before .before .before .before .before .before .before .before .before .loop-test .taken)
 
--- src/lib.rt:69:5
 loop-less : tie.Need-loop-less Inv-loop μ-loop
 loop-less c = omega (arith, c .before .before .before .before .before .before .before .before .before .before .before .before .before .loop-test .taken)
 
--- src/lib.rt:69:5
 loop-again : tie.Need-loop-again Inv-loop μ-loop
 loop-again c =
     let a = c .before .before .before .before .before .before .before .before .before .before .before .before .before .before .before .before .before .before .before .args in
@@ -244,15 +233,12 @@ loop-again c =
       λ sig x bound n sc sg. left-next sig bound ws (a .n) (a .at) (a .to) (a .log) (a .scope) s cs x (l .left) (l .names) (l .count) s1 cs1 (l .walk) (i .4 sig x bound n sc sg) (c .before .before .before .before .before .before .before .before .before .before .before .before .before .loop-test .taken) now s2 cs2 (k .result) (λ y. k .ensures sig y ((i .4 sig x bound n sc sg) .now) (counted-kept n hc) ((i .4 sig x bound n sc sg) .scoped) sg) (c .before .before .if1 .left),
     )
 
--- src/lib.rt:58:1
 same-length-3 : tie.Need-same-length-3 Inv-loop μ-loop
 same-length-3 c = c .before .loop .inv .0
 
--- src/lib.rt:58:1
 same-length-4 : tie.Need-same-length-4 Inv-loop μ-loop
 same-length-4 c = c .before .loop .inv .1
 
--- src/lib.rt:58:1
 returns-2 : tie.Need-returns-2 Inv-loop μ-loop
 returns-2 c =
     let a = c .before .before .before .before .before .before .args in

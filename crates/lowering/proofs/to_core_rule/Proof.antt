@@ -1,6 +1,5 @@
-use Prim.Native.Nat.{ℕ, _+_, _*_, _-_, _<_, _≤_}
+use Prim.Native.Nat.{ℕ, _*_, _-_}
 use mathlib.Core.Path.{_≡_, refl, sym, ap, _∙_, subst}
-use mathlib.Core.List.{List}
 use native.Mathlib.Omega.{arith}
 use lib.ListN.{length, getD}
 use Rattle.octets.specs.Words.{words}
@@ -8,7 +7,7 @@ use Rattle.octets.proofs.Words.{length-words, length-words-kept}
 use Rattle.rules.specs.Words.{signatureBase}
 use Rattle.rules.specs.ToCoreActions.{toCoreRule}
 use Rattle.walks.proofs.Asks.{counted-kept}
-use Rattle.lowering.specs.Lowered.{Good, Lowers}
+use Rattle.lowering.specs.Lowered.{Lowers}
 use Rattle.lowering.specs.declared.Lowering.{Lowering}
 use Rattle.lowering.proofs.SignatureWords.{signature-words}
 use Rattle.lowering.proofs.RuleWords.{RuleWords, rule-words}
@@ -24,11 +23,9 @@ use Rattle.octets.proofs.get.Reads as get-reads
 use Rattle.query.proofs.to_query.Reads as to-query-reads
 use Rattle.walks.proofs.restore.Reads as restore-reads
 
--- src/lib.rt:44:9
 count-requires : tie.Need-count-requires
 count-requires c κs = search needs
 
--- src/lib.rt:45:15
 mul-log : tie.Need-mul-log
 mul-log c =
     let a = c .before .before .before .before .before .args in
@@ -42,7 +39,6 @@ mul-log c =
     let en : n ≡ length ws = c .count .ensures in
     omega (arith, g .scratch, en, length-words (a .scratch .now), c .before .before .before .before .before .good)
 
--- src/lib.rt:46:18
 get-requires : tie.Need-get-requires
 get-requires c κs =
     let a = c .before .before .before .before .before .args in
@@ -54,7 +50,6 @@ get-requires c κs =
     let rd = rule-words (g .sig) ws (g .rule) (g .written) in
     rd .some
 
--- src/lib.rt:46:18
 sub-counts : tie.Need-sub-counts
 sub-counts c =
     let a = c .before .before .before .before .before .before .args in
@@ -72,11 +67,9 @@ sub-counts c =
     let sw = signature-words (g .sig) gs (g .signed) in
     omega (arith, rw′ .header)
 
--- src/lib.rt:47:41
 cast-to-query : tie.Need-cast-to-query
 cast-to-query c = search needs
 
--- src/lib.rt:47:93
 mul-to-query : tie.Need-mul-to-query
 mul-to-query c =
     let a = c .before .before .before .before .before .before .before .before .args in
@@ -90,7 +83,6 @@ mul-to-query c =
     let en : n ≡ length ws = c .before .before .before .count .ensures in
     omega (arith, g .scratch, en, length-words (a .scratch .now), c .before .before .before .before .before .before .before .before .good)
 
--- src/lib.rt:47:9
 to-query-requires : tie.Need-to-query-requires
 to-query-requires c κs =
     let a = c .before .before .before .before .before .before .before .before .args in
@@ -108,7 +100,6 @@ to-query-requires c κs =
     let sw = signature-words (g .sig) gs (g .signed) in
     (record { sig = g .sig; known = (rw′ .facts, counted (g .sig) gs ws (g .rule) cs s n w en rw′ sw (g .counters) (g .scratch)) }, body-room (g .sig) gs ws (g .rule) cs s n w en rw′ sw (g .counters) (g .scratch))
 
--- src/lib.rt:49:48
 sub-restore : tie.Need-sub-restore
 sub-restore c =
     let a = c .before .before .before .before .before .before .before .before .before .before .before .before .before .before .before .before .before .before .args in
@@ -134,7 +125,6 @@ sub-restore c =
     let walk = k .ensures (g .sig) (rw′ .facts) cnt in
     body-log (g .sig) gs ws (g .rule) cs s n w en rw′ sw (g .counters) (g .scratch) s1 cs1 b walk .0
 
--- src/lib.rt:49:9
 restore-requires : tie.Need-restore-requires
 restore-requires c κs =
     let a = c .before .before .before .before .before .before .before .before .before .before .before .before .before .before .before .before .before .before .args in
@@ -160,15 +150,12 @@ restore-requires c κs =
     let walk = k .ensures (g .sig) (rw′ .facts) cnt in
     omega (arith, body-log (g .sig) gs ws (g .rule) cs s n w en rw′ sw (g .counters) (g .scratch) s1 cs1 b walk .0, body-log (g .sig) gs ws (g .rule) cs s n w en rw′ sw (g .counters) (g .scratch) s1 cs1 b walk .1, g .scratch, en, hs)
 
--- src/lib.rt:50:9
 same-length : tie.Need-same-length
 same-length c = c .before .before .restore .kept .0 ∙ c .before .before .before .before .before .before .before .before .before .before .before .before .to-query .kept .1 .1 .1 .0
 
--- src/lib.rt:50:9
 same-length-2 : tie.Need-same-length-2
 same-length-2 c = search needs
 
--- src/lib.rt:50:9
 returns : tie.Need-returns
 returns c =
     let a = c .before .before .before .before .before .before .before .before .before .before .before .before .before .before .before .before .before .before .before .before .before .args in
@@ -196,7 +183,6 @@ returns c =
     λ sig rl es er. same-read (λ x y. Lowers (toCoreRule x y cs) (length ws) cs s1 (words (c .before .before .restore .last .0)) res) g sig rl es er
     (subst (λ (i : ℕ). Lowers (toCoreRule (g .sig) (g .rule) cs) i cs s1 (words (c .before .before .restore .last .0)) res) en (body-back (g .sig) gs ws (g .rule) cs s n w en rw′ sw (g .counters) (g .scratch) s1 cs1 b walk (words (c .before .before .restore .last .0)) res (c .before .before .before .before .before .before .if1 .taken) (c .before .before .restore .ensures) refl refl))
 
--- src/lib.rt:52:34
 get-requires-2 : tie.Need-get-requires-2
 get-requires-2 c κs =
     let a = c .before .before .before .before .before .before .before .before .before .before .before .before .before .before .before .args in
@@ -214,7 +200,6 @@ get-requires-2 c κs =
     let sw = signature-words (g .sig) gs (g .signed) in
     omega (arith, sw .signed .inside)
 
--- src/lib.rt:52:34
 sub-t25 : tie.Need-sub-t25
 sub-t25 c =
     let a = c .before .before .before .before .before .before .before .before .before .before .before .before .before .before .before .before .args in
@@ -232,7 +217,6 @@ sub-t25 c =
     let sw = signature-words (g .sig) gs (g .signed) in
     omega (arith, sw .globals, c .get2 .ensures .is)
 
--- src/lib.rt:52:95
 mul-to-core-actions : tie.Need-mul-to-core-actions
 mul-to-core-actions c =
     let a = c .before .before .before .before .before .before .before .before .before .before .before .before .before .before .before .before .args in
@@ -246,11 +230,9 @@ mul-to-core-actions c =
     let en : n ≡ length ws = c .before .before .before .before .before .before .before .before .before .before .before .count .ensures in
     omega (arith, g .scratch, en, length-words (a .scratch .now), c .before .before .before .before .before .before .before .before .before .before .before .before .before .before .before .before .good)
 
--- src/lib.rt:53:74
 cast-to-core-actions : tie.Need-cast-to-core-actions
 cast-to-core-actions c = search needs
 
--- src/lib.rt:53:130
 mul-to-core-actions-2 : tie.Need-mul-to-core-actions-2
 mul-to-core-actions-2 c =
     let a = c .before .before .before .before .before .before .before .before .before .before .before .before .before .before .before .before .before .before .args in
@@ -264,7 +246,6 @@ mul-to-core-actions-2 c =
     let en : n ≡ length ws = c .before .before .before .before .before .before .before .before .before .before .before .before .before .count .ensures in
     omega (arith, g .scratch, en, length-words (a .scratch .now), c .before .before .before .before .before .before .before .before .before .before .before .before .before .before .before .before .before .before .good)
 
--- src/lib.rt:53:9
 to-core-actions-requires : tie.Need-to-core-actions-requires
 to-core-actions-requires c κs =
     let a = c .before .before .before .before .before .before .before .before .before .before .before .before .before .before .before .before .before .before .args in
@@ -292,7 +273,6 @@ to-core-actions-requires c κs =
     let eg : gl ≡ getD gs 1 0 - signatureBase = ap (λ (u : ℕ). u - signatureBase) (c .before .before .get2 .ensures .is) in
     (record { sig = g .sig; known = (actions-at (g .sig) gs ws (g .rule) cs s n w en rw′ sw (g .counters) (g .scratch) s1 cs1 b walk (c .before .before .before .if1 .left) gl eg, counted-kept cnt hc, names-at (g .sig) gs ws (g .rule) cs s n w en rw′ sw (g .counters) (g .scratch) s1 cs1 b walk (c .before .before .before .if1 .left) gl eg, sw .signed) }, (head-room (g .sig) gs ws (g .rule) cs s n w en rw′ sw (g .counters) (g .scratch) s1 cs1 b walk (c .before .before .before .if1 .left) gl eg (length s1) hs, head-scope-room (g .sig) gs ws (g .rule) cs s n w en rw′ sw (g .counters) (g .scratch) s1 cs1 b walk (c .before .before .before .if1 .left) gl eg))
 
--- src/lib.rt:55:48
 sub-restore-2 : tie.Need-sub-restore-2
 sub-restore-2 c =
     let a = c .before .before .before .before .before .before .before .before .before .before .before .before .before .before .before .before .before .before .before .before .before .before .before .before .before .before .before .before .args in
@@ -325,7 +305,6 @@ sub-restore-2 c =
     let hs2 : length s2 ≡ length s = length-words-kept (m .last .1 .1 .1 .1 .1 .1 .0) (k .last .1 .1 .1 .1 .0) (m .kept .1 .1 .1 .1 .1 .1 .0) ∙ hs in
     head-log (g .sig) gs ws (g .rule) cs s n w en rw′ sw (g .counters) (g .scratch) s1 cs1 b walk (c .before .before .before .before .before .before .before .before .before .before .before .before .before .if1 .left) gl eg s2 cs2 h (λ x bound sc. m .ensures (g .sig) x bound (counted-kept cnt hc) sc (sw .signed)) .0
 
--- src/lib.rt:55:9
 restore-requires-2 : tie.Need-restore-requires-2
 restore-requires-2 c κs =
     let a = c .before .before .before .before .before .before .before .before .before .before .before .before .before .before .before .before .before .before .before .before .before .before .before .before .before .before .before .before .args in
@@ -358,15 +337,12 @@ restore-requires-2 c κs =
     let hs2 : length s2 ≡ length s = length-words-kept (m .last .1 .1 .1 .1 .1 .1 .0) (k .last .1 .1 .1 .1 .0) (m .kept .1 .1 .1 .1 .1 .1 .0) ∙ hs in
     omega (arith, head-log (g .sig) gs ws (g .rule) cs s n w en rw′ sw (g .counters) (g .scratch) s1 cs1 b walk (c .before .before .before .before .before .before .before .before .before .before .before .before .before .if1 .left) gl eg s2 cs2 h (λ x bound sc. m .ensures (g .sig) x bound (counted-kept cnt hc) sc (sw .signed)) .0, head-log (g .sig) gs ws (g .rule) cs s n w en rw′ sw (g .counters) (g .scratch) s1 cs1 b walk (c .before .before .before .before .before .before .before .before .before .before .before .before .before .if1 .left) gl eg s2 cs2 h (λ x bound sc. m .ensures (g .sig) x bound (counted-kept cnt hc) sc (sw .signed)) .1, g .scratch, en, hs2)
 
--- src/lib.rt:56:9
 same-length-3 : tie.Need-same-length-3
 same-length-3 c = c .before .before .restore2 .kept .0 ∙ c .before .before .before .before .before .before .before .before .before .before .before .before .to-core-actions .kept .1 .1 .1 .1 .1 .0 ∙ c .before .before .before .before .before .before .before .before .before .before .before .before .before .before .before .before .before .before .before .before .before .before .to-query .kept .1 .1 .1 .0
 
--- src/lib.rt:56:9
 same-length-4 : tie.Need-same-length-4
 same-length-4 c = c .before .before .before .before .before .before .before .before .before .before .before .before .to-core-actions .kept .1 .1 .1 .1 .1 .1 .0 ∙ c .before .before .before .before .before .before .before .before .before .before .before .before .before .before .before .before .before .before .before .before .before .before .to-query .kept .1 .1 .1 .1 .0
 
--- src/lib.rt:56:9
 returns-2 : tie.Need-returns-2
 returns-2 c =
     let a = c .before .before .before .before .before .before .before .before .before .before .before .before .before .before .before .before .before .before .before .before .before .before .before .before .before .before .before .before .before .before .before .args in
@@ -401,7 +377,6 @@ returns-2 c =
     λ sig rl es er. same-read (λ x y. Lowers (toCoreRule x y cs) (length ws) cs s2 (words (c .before .before .restore2 .last .0)) res) g sig rl es er
     (subst (λ (i : ℕ). Lowers (toCoreRule (g .sig) (g .rule) cs) i cs s2 (words (c .before .before .restore2 .last .0)) res) en (head-back (g .sig) gs ws (g .rule) cs s n w en rw′ sw (g .counters) (g .scratch) s1 cs1 b walk (c .before .before .before .before .before .before .before .before .before .before .before .before .before .before .before .before .if1 .left) gl eg s2 cs2 h (λ x bound sc. m .ensures (g .sig) x bound (counted-kept cnt hc) sc (sw .signed)) (words (c .before .before .restore2 .last .0)) res (c .before .before .before .before .before .before .if2 .taken) (c .before .before .restore2 .ensures) refl refl))
 
--- src/lib.rt:58:74
 mul-t12 : tie.Need-mul-t12
 mul-t12 c =
     let a = c .before .before .before .before .before .before .before .before .before .before .before .before .before .before .before .before .before .before .before .before .before .before .before .before .before .args in
@@ -415,7 +390,6 @@ mul-t12 c =
     let en : n ≡ length ws = c .before .before .before .before .before .before .before .before .before .before .before .before .before .before .before .before .before .before .before .before .count .ensures in
     omega (arith, g .scratch, en, length-words (a .scratch .now), c .before .before .before .before .before .before .before .before .before .before .before .before .before .before .before .before .before .before .before .before .before .before .before .before .before .good)
 
--- src/lib.rt:58:59
 sub-t17 : tie.Need-sub-t17
 sub-t17 c =
     let a = c .before .before .before .before .before .before .before .before .before .before .before .before .before .before .before .before .before .before .before .before .before .before .before .before .before .before .args in
@@ -448,7 +422,6 @@ sub-t17 c =
     let hs2 : length s2 ≡ length s = length-words-kept (m .last .1 .1 .1 .1 .1 .1 .0) (k .last .1 .1 .1 .1 .0) (m .kept .1 .1 .1 .1 .1 .1 .0) ∙ hs in
     head-ends (g .sig) gs ws (g .rule) cs s n w en rw′ sw (g .counters) (g .scratch) s1 cs1 b walk (c .before .before .before .before .before .before .before .before .before .before .before .if1 .left) gl eg s2 cs2 h (λ x bound sc. m .ensures (g .sig) x bound (counted-kept cnt hc) sc (sw .signed)) (c .before .if2 .left)
 
--- src/lib.rt:58:110
 sub-t36 : tie.Need-sub-t36
 sub-t36 c =
     let a = c .before .before .before .before .before .before .before .before .before .before .before .before .before .before .before .before .before .before .before .before .before .before .before .before .before .before .before .args in
@@ -481,15 +454,12 @@ sub-t36 c =
     let hs2 : length s2 ≡ length s = length-words-kept (m .last .1 .1 .1 .1 .1 .1 .0) (k .last .1 .1 .1 .1 .0) (m .kept .1 .1 .1 .1 .1 .1 .0) ∙ hs in
     head-log (g .sig) gs ws (g .rule) cs s n w en rw′ sw (g .counters) (g .scratch) s1 cs1 b walk (c .before .before .before .before .before .before .before .before .before .before .before .before .if1 .left) gl eg s2 cs2 h (λ x bound sc. m .ensures (g .sig) x bound (counted-kept cnt hc) sc (sw .signed)) .0
 
--- src/lib.rt:39:1
 same-length-5 : tie.Need-same-length-5
 same-length-5 c = c .before .before .before .before .before .before .before .before .to-core-actions .kept .1 .1 .1 .1 .1 .0 ∙ c .before .before .before .before .before .before .before .before .before .before .before .before .before .before .before .before .before .before .to-query .kept .1 .1 .1 .0
 
--- src/lib.rt:39:1
 same-length-6 : tie.Need-same-length-6
 same-length-6 c = c .before .before .before .before .before .before .before .before .to-core-actions .kept .1 .1 .1 .1 .1 .1 .0 ∙ c .before .before .before .before .before .before .before .before .before .before .before .before .before .before .before .before .before .before .to-query .kept .1 .1 .1 .1 .0
 
--- src/lib.rt:39:1
 returns-3 : tie.Need-returns-3
 returns-3 c =
     let a = c .before .before .before .before .before .before .before .before .before .before .before .before .before .before .before .before .before .before .before .before .before .before .before .before .before .before .before .args in

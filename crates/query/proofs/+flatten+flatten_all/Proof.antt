@@ -1,12 +1,11 @@
-use Prim.Native.Nat.{ℕ, _+_, _*_, _-_, _/_, _%_, _<_, _≤_}
-use mathlib.Core.Path.{_≡_, refl, sym, ap, _∙_, subst}
+use Prim.Native.Nat.{ℕ, _+_, _*_, _-_, _<_}
+use mathlib.Core.Path.{_≡_, refl, _∙_}
 use native.Mathlib.Omega.{arith}
 use lib.ListN.{length, getD}
 use Rattle.octets.specs.Words.{words}
 use Rattle.octets.proofs.Words.{length-words, length-words-kept}
-use Rattle.rules.specs.Words.{headOf, countOf}
 use Rattle.rules.specs.Signature.{Sig}
-use Rattle.walks.specs.Steps.{Room, Under, Counted, ExprAt, ExprsAt}
+use Rattle.walks.specs.Steps.{Counted, ExprsAt}
 use Rattle.walks.proofs.Asks.{expr-inside, counted-kept, first-at, room-in, call-facts}
 use Rattle.walks.proofs.Rows.{Going, going-start, going-room, Left, left-all, left-none, left-stop, left-next, left-going}
 use Rattle.query.specs.Flattened.{flattened, flattenedAll}
@@ -49,7 +48,6 @@ abbrev flatten-all-below : ℕ → In 3 flatten-all-kinds.ps
 flatten-all-below t =
     and 3 flatten-all-kinds.ps (falls 3 flatten-all-kinds.ps _<_ μ-flatten-all t) flatten-all.Pre
 
--- src/lib.rt:25:9
 flatten-get-requires : (t : ℕ) → flatten-lts.Need-get-requires (
   get-reads.Asked,
   get-reads.Learnt,
@@ -69,7 +67,6 @@ flatten-get-requires t c κs =
     let room = c .before .before .before .pre .1 .1 in
     expr-inside (q .sig) ws (a .depth) (a .at) (q .known .0)
 
--- src/lib.rt:27:29
 flatten-add-t16 : (t : ℕ) → flatten-lts.Need-add-t16 (
   get-reads.Asked,
   get-reads.Learnt,
@@ -89,7 +86,6 @@ flatten-add-t16 t c =
     let room = c .before .before .before .before .before .pre .1 .1 in
     omega (arith, expr-inside (q .sig) ws (a .depth) (a .at) (q .known .0), length-words (a .rule .now))
 
--- src/lib.rt:27:9
 flatten-returns : (t : ℕ) → flatten-lts.Need-returns (
   get-reads.Asked,
   get-reads.Learnt,
@@ -111,7 +107,6 @@ flatten-returns t c =
     let is : w ≡ getD ws (a .at) 0 = c .before .get .ensures .is in
     λ sig x n. leaf-way sig ws (a .depth) (a .at) (a .to) (a .sp) (a .log) s cs x n w is (c .if1 .taken)
 
--- src/lib.rt:29:14
 flatten-sub-h : (t : ℕ) → flatten-lts.Need-sub-h (
   get-reads.Asked,
   get-reads.Learnt,
@@ -134,7 +129,6 @@ flatten-sub-h t c =
     let f = call-facts (q .sig) ws (a .depth) (a .at) cs w (q .known .0) (q .known .1) is (c .if1 .left) in
     omega (arith, f .high)
 
--- src/lib.rt:30:14
 flatten-sub-n : (t : ℕ) → flatten-lts.Need-sub-n (
   get-reads.Asked,
   get-reads.Learnt,
@@ -157,7 +151,6 @@ flatten-sub-n t c =
     let f = call-facts (q .sig) ws (a .depth) (a .at) cs w (q .known .0) (q .known .1) is (c .if1 .left) in
     omega (arith, f .high)
 
--- src/lib.rt:31:9
 flatten-take-requires : (t : ℕ) → flatten-lts.Need-take-requires (
   get-reads.Asked,
   get-reads.Learnt,
@@ -180,7 +173,6 @@ flatten-take-requires t c κs =
     let f = call-facts (q .sig) ws (a .depth) (a .at) cs w (q .known .0) (q .known .1) is (c .before .before .if1 .left) in
     (f .small, f .low, omega (arith, room .log, f .inside))
 
--- src/lib.rt:33:9
 flatten-same-length : (t : ℕ) → flatten-lts.Need-same-length (
   get-reads.Asked,
   get-reads.Learnt,
@@ -193,7 +185,6 @@ flatten-same-length : (t : ℕ) → flatten-lts.Need-same-length (
 ) (flatten-at t) flatten.Post
 flatten-same-length t c = search needs
 
--- src/lib.rt:33:9
 flatten-same-length-2 : (t : ℕ) → flatten-lts.Need-same-length-2 (
   get-reads.Asked,
   get-reads.Learnt,
@@ -206,7 +197,6 @@ flatten-same-length-2 : (t : ℕ) → flatten-lts.Need-same-length-2 (
 ) (flatten-at t) flatten.Post
 flatten-same-length-2 t c = search needs
 
--- src/lib.rt:33:9
 flatten-returns-2 : (t : ℕ) → flatten-lts.Need-returns-2 (
   get-reads.Asked,
   get-reads.Learnt,
@@ -229,7 +219,6 @@ flatten-returns-2 t c =
     let t = c .before .before .before .before .before .take in
     λ sig x n. full-way sig ws (a .depth) (a .at) (a .to) (a .sp) (a .log) s cs x n w is (c .before .before .before .before .before .before .before .before .if1 .left) (t .result) _ _ (t .ensures) (c .if2 .taken)
 
--- src/lib.rt:35:34
 flatten-add-flatten-all : (t : ℕ) → flatten-lts.Need-add-flatten-all (
   get-reads.Asked,
   get-reads.Learnt,
@@ -252,7 +241,6 @@ flatten-add-flatten-all t c =
     let f = call-facts (q .sig) ws (a .depth) (a .at) cs w (q .known .0) (q .known .1) is (c .before .before .before .before .before .before .before .before .if1 .left) in
     omega (arith, f .inside, length-words (a .rule .now))
 
--- src/lib.rt:35:42
 flatten-cast-flatten-all : (t : ℕ) → flatten-lts.Need-cast-flatten-all (
   get-reads.Asked,
   get-reads.Learnt,
@@ -265,7 +253,6 @@ flatten-cast-flatten-all : (t : ℕ) → flatten-lts.Need-cast-flatten-all (
 ) (flatten-at t) flatten.Post
 flatten-cast-flatten-all t c = search needs
 
--- src/lib.rt:35:54
 flatten-sub-flatten-all : (t : ℕ) → flatten-lts.Need-sub-flatten-all (
   get-reads.Asked,
   get-reads.Learnt,
@@ -288,7 +275,6 @@ flatten-sub-flatten-all t c =
     let f = call-facts (q .sig) ws (a .depth) (a .at) cs w (q .known .0) (q .known .1) is (c .before .before .before .before .before .before .before .before .if1 .left) in
     omega (arith, f .deep)
 
--- src/lib.rt:35:92
 flatten-add-flatten-all-2 : (t : ℕ) → flatten-lts.Need-add-flatten-all-2 (
   get-reads.Asked,
   get-reads.Learnt,
@@ -311,7 +297,6 @@ flatten-add-flatten-all-2 t c =
     let f = call-facts (q .sig) ws (a .depth) (a .at) cs w (q .known .0) (q .known .1) is (c .before .before .before .before .before .before .before .before .before .before .if1 .left) in
     omega (arith, room .log, f .inside, length-words (a .scratch .now))
 
--- src/lib.rt:35:9
 flatten-flatten-all-requires : (t : ℕ) → flatten-lts.Need-flatten-all-requires (
   get-reads.Asked,
   get-reads.Learnt,
@@ -339,7 +324,6 @@ flatten-flatten-all-requires t c κs =
     let hs : length s1 ≡ length s = length-words-kept (t .last .1 .0) (a .scratch .now) (t .kept .1 .0) in
     (omega (arith, c .before .before .before .before .before .before .before .before .before .before .before .before .before .before .before .pre .0, f .inside, f .deep), (record { sig = q .sig; known = (f .args, counted-kept (q .known .1) hc) }, room-in 1 _ room (omega arith) hs))
 
--- src/lib.rt:37:9
 flatten-same-length-3 : (t : ℕ) → flatten-lts.Need-same-length-3 (
   get-reads.Asked,
   get-reads.Learnt,
@@ -352,7 +336,6 @@ flatten-same-length-3 : (t : ℕ) → flatten-lts.Need-same-length-3 (
 ) (flatten-at t) flatten.Post
 flatten-same-length-3 t c = c .before .before .before .before .before .before .flatten-all .kept .1 .1 .1 .1 .0 ∙ c .before .before .before .before .before .before .before .before .before .before .before .before .before .before .take .kept .0
 
--- src/lib.rt:37:9
 flatten-same-length-4 : (t : ℕ) → flatten-lts.Need-same-length-4 (
   get-reads.Asked,
   get-reads.Learnt,
@@ -365,7 +348,6 @@ flatten-same-length-4 : (t : ℕ) → flatten-lts.Need-same-length-4 (
 ) (flatten-at t) flatten.Post
 flatten-same-length-4 t c = c .before .before .before .before .before .before .flatten-all .kept .1 .1 .1 .1 .1 .0 ∙ c .before .before .before .before .before .before .before .before .before .before .before .before .before .before .take .kept .1 .0
 
--- src/lib.rt:37:9
 flatten-returns-3 : (t : ℕ) → flatten-lts.Need-returns-3 (
   get-reads.Asked,
   get-reads.Learnt,
@@ -397,7 +379,6 @@ flatten-returns-3 t c =
     let hs2 : length s2 ≡ length s = length-words-kept (k .last .1 .1 .1 .1 .1 .0) (t .last .1 .0) (k .kept .1 .1 .1 .1 .1 .0) ∙ hs in
     λ sig x n. stop-way sig ws (a .depth) (a .at) (a .to) (a .sp) (a .log) s cs x n w is (c .before .before .before .before .before .before .before .before .before .before .before .before .before .before .before .before .before .if1 .left) (t .result) s1 cs1 (t .ensures) room (c .before .before .before .before .before .before .before .before .before .if2 .left) hc s2 cs2 (k .result) (λ es. k .ensures sig es (counted-kept n hc)) (c .if3 .taken)
 
--- src/lib.rt:39:56
 flatten-add-put-atom : (t : ℕ) → flatten-lts.Need-add-put-atom (
   get-reads.Asked,
   get-reads.Learnt,
@@ -420,7 +401,6 @@ flatten-add-put-atom t c =
     let f = call-facts (q .sig) ws (a .depth) (a .at) cs w (q .known .0) (q .known .1) is (c .before .before .before .before .before .before .before .before .before .before .before .before .before .before .before .before .before .before .if1 .left) in
     omega arith
 
--- src/lib.rt:39:67
 flatten-cast-put-atom : (t : ℕ) → flatten-lts.Need-cast-put-atom (
   get-reads.Asked,
   get-reads.Learnt,
@@ -433,7 +413,6 @@ flatten-cast-put-atom : (t : ℕ) → flatten-lts.Need-cast-put-atom (
 ) (flatten-at t) flatten.Post
 flatten-cast-put-atom t c = search needs
 
--- src/lib.rt:39:9
 flatten-put-atom-requires : (t : ℕ) → flatten-lts.Need-put-atom-requires (
   get-reads.Asked,
   get-reads.Learnt,
@@ -467,7 +446,6 @@ flatten-put-atom-requires t c κs =
     let n = q .known .1 in
     atom-room sig ws (a .depth) (a .at) (a .to) (a .sp) (a .log) s cs (q .known .0) n w is (c .before .before .before .before .before .before .before .before .before .before .before .before .before .before .before .before .before .before .if1 .left) (t .result) s1 cs1 (t .ensures) room (c .before .before .before .before .before .before .before .before .before .before .if2 .left) hc s2 cs2 (k .result) (λ es. k .ensures sig es (counted-kept n hc)) (length s2) (c .before .if3 .left) hs2
 
--- src/lib.rt:19:1
 flatten-same-length-5 : (t : ℕ) → flatten-lts.Need-same-length-5 (
   get-reads.Asked,
   get-reads.Learnt,
@@ -480,7 +458,6 @@ flatten-same-length-5 : (t : ℕ) → flatten-lts.Need-same-length-5 (
 ) (flatten-at t) flatten.Post
 flatten-same-length-5 t c = c .before .before .before .before .before .before .before .before .before .before .flatten-all .kept .1 .1 .1 .1 .0 ∙ c .before .before .before .before .before .before .before .before .before .before .before .before .before .before .before .before .before .before .take .kept .0
 
--- src/lib.rt:19:1
 flatten-same-length-6 : (t : ℕ) → flatten-lts.Need-same-length-6 (
   get-reads.Asked,
   get-reads.Learnt,
@@ -493,7 +470,6 @@ flatten-same-length-6 : (t : ℕ) → flatten-lts.Need-same-length-6 (
 ) (flatten-at t) flatten.Post
 flatten-same-length-6 t c = c .before .before .put-atom .kept .0 ∙ c .before .before .before .before .before .before .before .before .before .before .flatten-all .kept .1 .1 .1 .1 .1 .0 ∙ c .before .before .before .before .before .before .before .before .before .before .before .before .before .before .before .before .before .before .take .kept .1 .0
 
--- src/lib.rt:19:1
 flatten-returns-4 : (t : ℕ) → flatten-lts.Need-returns-4 (
   get-reads.Asked,
   get-reads.Learnt,
@@ -535,7 +511,6 @@ flatten-all-Inv-loop rule at n depth counters₀ scratch₀ to sp log left₀ to
 abbrev flatten-all-μ-loop : flatten-all-lts.MeasureT-loop
 flatten-all-μ-loop rule at n depth counters₀ scratch₀ to sp log left₀ top₀ walk₀ counters scratch left top walk = left
 
--- src/lib.rt:53:5
 flatten-all-loop-holds : (t : ℕ) → flatten-all-lts.Need-loop-holds (
   flatten-below t,
   flatten.Post,
@@ -555,7 +530,6 @@ flatten-all-loop-holds t c =
       λ sig x n. left-all flattened flattenedAll flattened-row sig ws (a .depth) (a .n) (a .at) (a .to) (a .sp) (a .log) s cs x 0,
     )
 
--- src/lib.rt:54:9
 flatten-all-flatten-requires : (t : ℕ) → flatten-all-lts.Need-flatten-requires (
   flatten-below t,
   flatten.Post,
@@ -581,7 +555,6 @@ flatten-all-flatten-requires t c κs =
     let inside = expr-inside (q .sig) ws (a .depth) (l .walk .next) e in
     (omega (arith, c .before .before .before .before .before .before .before .pre .0, i .2 .next), (record { sig = q .sig; known = (e, counted-kept (q .known .1) hc) }, now))
 
--- src/lib.rt:56:13
 flatten-all-same-length : (t : ℕ) → flatten-all-lts.Need-same-length (
   flatten-below t,
   flatten.Post,
@@ -590,7 +563,6 @@ flatten-all-same-length : (t : ℕ) → flatten-all-lts.Need-same-length (
 ) (flatten-all-at t) flatten-all.Post flatten-all-Inv-loop flatten-all-μ-loop
 flatten-all-same-length t c = c .before .before .before .before .before .before .flatten .kept .1 .1 .1 .0 ∙ c .before .before .before .before .before .before .before .before .before .before .loop .inv .0
 
--- src/lib.rt:56:13
 flatten-all-same-length-2 : (t : ℕ) → flatten-all-lts.Need-same-length-2 (
   flatten-below t,
   flatten.Post,
@@ -599,7 +571,6 @@ flatten-all-same-length-2 : (t : ℕ) → flatten-all-lts.Need-same-length-2 (
 ) (flatten-all-at t) flatten-all.Post flatten-all-Inv-loop flatten-all-μ-loop
 flatten-all-same-length-2 t c = c .before .before .before .before .before .before .flatten .kept .1 .1 .1 .1 .0 ∙ c .before .before .before .before .before .before .before .before .before .before .loop .inv .1
 
--- src/lib.rt:56:13
 flatten-all-returns : (t : ℕ) → flatten-all-lts.Need-returns (
   flatten-below t,
   flatten.Post,
@@ -629,7 +600,6 @@ flatten-all-returns t c =
     let hs2 : length s2 ≡ length s1 = length-words-kept (k .last .1 .1 .1 .1 .0) (l .scratch) (k .kept .1 .1 .1 .1 .0) in
     λ sig x n. left-stop flattened flattenedAll flattened-row sig ws (a .depth) (a .n) (a .at) (a .to) (a .sp) (a .log) s cs x (l .left) (l .top) s1 cs1 (l .walk) (i .3 sig x n) (c .before .before .before .before .before .before .before .before .before .loop-test .taken) now s2 cs2 (k .result) (λ y. k .ensures sig y (counted-kept n hc)) (c .if1 .taken)
 
--- src/lib.rt:58:9
 flatten-all-put-requires : (t : ℕ) → flatten-all-lts.Need-put-requires (
   flatten-below t,
   flatten.Post,
@@ -659,7 +629,6 @@ flatten-all-put-requires t c κs =
     let hs2 : length s2 ≡ length s1 = length-words-kept (k .last .1 .1 .1 .1 .0) (l .scratch) (k .kept .1 .1 .1 .1 .0) in
     omega (arith, now .stack, now .log, inside, hs2)
 
--- src/lib.rt:59:9
 flatten-all-add-top : (t : ℕ) → flatten-all-lts.Need-add-top (
   flatten-below t,
   flatten.Post,
@@ -685,7 +654,6 @@ flatten-all-add-top t c =
     let inside = expr-inside (q .sig) ws (a .depth) (l .walk .next) e in
     omega (arith, now .stack, now .log, inside, hs, length-words (a .scratch .now), c .before .before .before .before .before .before .before .before .before .before .before .before .before .before .before .before .before .before .good)
 
--- src/lib.rt:60:9
 flatten-all-sub-left : (t : ℕ) → flatten-all-lts.Need-sub-left (
   flatten-below t,
   flatten.Post,
@@ -694,7 +662,6 @@ flatten-all-sub-left : (t : ℕ) → flatten-all-lts.Need-sub-left (
 ) (flatten-all-at t) flatten-all.Post flatten-all-Inv-loop flatten-all-μ-loop
 flatten-all-sub-left t c = omega (arith, c .before .before .before .before .before .before .before .before .before .before .before .before .before .loop-test .taken)
 
--- src/lib.rt:53:5
 flatten-all-loop-less : (t : ℕ) → flatten-all-lts.Need-loop-less (
   flatten-below t,
   flatten.Post,
@@ -703,7 +670,6 @@ flatten-all-loop-less : (t : ℕ) → flatten-all-lts.Need-loop-less (
 ) (flatten-all-at t) flatten-all.Post flatten-all-Inv-loop flatten-all-μ-loop
 flatten-all-loop-less t c = omega (arith, c .before .before .before .before .before .before .before .before .before .before .before .before .before .loop-test .taken)
 
--- src/lib.rt:53:5
 flatten-all-loop-again : (t : ℕ) → flatten-all-lts.Need-loop-again (
   flatten-below t,
   flatten.Post,
@@ -738,7 +704,6 @@ flatten-all-loop-again t c =
       λ sig x n. left-next flattened flattenedAll flattened-row sig ws (a .depth) (a .n) (a .at) (a .to) (a .sp) (a .log) s cs x (l .left) (l .top) s1 cs1 (l .walk) (i .3 sig x n) (c .before .before .before .before .before .before .before .before .before .before .before .before .before .loop-test .taken) now s2 cs2 (k .result) (λ y. k .ensures sig y (counted-kept n hc)) _ (c .before .before .before .before .if1 .left) (p .ensures),
     )
 
--- src/lib.rt:44:1
 flatten-all-same-length-3 : (t : ℕ) → flatten-all-lts.Need-same-length-3 (
   flatten-below t,
   flatten.Post,
@@ -747,7 +712,6 @@ flatten-all-same-length-3 : (t : ℕ) → flatten-all-lts.Need-same-length-3 (
 ) (flatten-all-at t) flatten-all.Post flatten-all-Inv-loop flatten-all-μ-loop
 flatten-all-same-length-3 t c = c .before .loop .inv .0
 
--- src/lib.rt:44:1
 flatten-all-same-length-4 : (t : ℕ) → flatten-all-lts.Need-same-length-4 (
   flatten-below t,
   flatten.Post,
@@ -756,7 +720,6 @@ flatten-all-same-length-4 : (t : ℕ) → flatten-all-lts.Need-same-length-4 (
 ) (flatten-all-at t) flatten-all.Post flatten-all-Inv-loop flatten-all-μ-loop
 flatten-all-same-length-4 t c = c .before .loop .inv .1
 
--- src/lib.rt:44:1
 flatten-all-returns-2 : (t : ℕ) → flatten-all-lts.Need-returns-2 (
   flatten-below t,
   flatten.Post,

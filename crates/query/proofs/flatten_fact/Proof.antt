@@ -1,13 +1,11 @@
-use Prim.Native.Nat.{ℕ, _+_, _*_, _-_, _<_, _≤_}
-use mathlib.Core.Path.{_≡_, refl, sym, ap, _∙_}
+use Prim.Native.Nat.{_+_}
+use mathlib.Core.Path.{_≡_, _∙_}
 use native.Mathlib.Omega.{arith}
 use lib.ListN.{length, getD}
 use Rattle.octets.specs.Words.{words}
 use Rattle.octets.proofs.Words.{length-words, length-words-kept}
 use Rattle.rules.specs.Words.{maxDepth}
-use Rattle.rules.specs.Signature.{Sig}
-use Rattle.walks.specs.Steps.{Room, Under, Counted}
-use Rattle.walks.proofs.Asks.{counted-kept, room-in}
+use Rattle.walks.proofs.Asks.{counted-kept}
 use Rattle.walks.specs.Steps.{ExprAt}
 use Rattle.query.proofs.Facts.{fact-some, equal-cases, holds-cases, holds-way, left-way, right-facts, right-way, three-room, equal-way}
 use borrow.Author.Needs.{needs}
@@ -19,7 +17,6 @@ use Rattle.octets.proofs.get.Reads as get-reads
 use Rattle.octets.proofs.rows.put_three.Reads as put-three-reads
 use Rattle.query.proofs.flatten.Reads as flatten-reads
 
--- src/lib.rt:72:9
 get-requires : tie.Need-get-requires
 get-requires c κs =
     let a = c .before .before .before .args in
@@ -31,7 +28,6 @@ get-requires c κs =
     let inside = fact-some (q .sig) ws (a .at) (q .known .0) in
     omega (arith, q .known .0 .inside)
 
--- src/lib.rt:74:9
 flatten-requires : tie.Need-flatten-requires
 flatten-requires c κs =
     let a = c .before .before .before .before .before .before .before .args in
@@ -44,15 +40,12 @@ flatten-requires c κs =
     let is : w ≡ getD ws (a .at) 0 = c .before .before .before .get .ensures .is in
     (record { sig = q .sig; known = (holds-cases (q .sig) ws (λ f k. ExprAt (q .sig) ws maxDepth (a .at)) (a .at) w (q .known .0) is (c .before .before .if1 .taken) (λ e. e), q .known .1) }, room)
 
--- src/lib.rt:74:9
 same-length : tie.Need-same-length
 same-length c = search needs
 
--- src/lib.rt:74:9
 same-length-2 : tie.Need-same-length-2
 same-length-2 c = search needs
 
--- src/lib.rt:74:9
 returns : tie.Need-returns
 returns c =
     let a = c .before .before .before .before .before .before .before .before .before .before .before .before .args in
@@ -66,7 +59,6 @@ returns c =
     let k = c .before .before .before .before .flatten in
     λ sig x n. holds-way sig ws (a .at) (a .to) (a .sp) (a .log) s cs x n w is (c .before .before .before .before .before .before .before .if1 .taken) _ _ (k .result) (λ e. k .ensures sig e n)
 
--- src/lib.rt:76:30
 add-flatten : tie.Need-add-flatten
 add-flatten c =
     let a = c .before .before .before .before .before .args in
@@ -78,7 +70,6 @@ add-flatten c =
     let inside = fact-some (q .sig) ws (a .at) (q .known .0) in
     omega (arith, q .known .0 .inside, length-words (a .rule .now), c .before .before .before .before .before .good)
 
--- src/lib.rt:76:9
 flatten-requires-2 : tie.Need-flatten-requires-2
 flatten-requires-2 c κs =
     let a = c .before .before .before .before .before .before .before .args in
@@ -93,15 +84,12 @@ flatten-requires-2 c κs =
       record { words = omega (arith, room .words); stack = omega (arith, room .stack); log = omega (arith, room .log) },
     )
 
--- src/lib.rt:78:9
 same-length-3 : tie.Need-same-length-3
 same-length-3 c = search needs
 
--- src/lib.rt:78:9
 same-length-4 : tie.Need-same-length-4
 same-length-4 c = search needs
 
--- src/lib.rt:78:9
 returns-2 : tie.Need-returns-2
 returns-2 c =
     let a = c .before .before .before .before .before .before .before .before .before .before .before .before .before .before .args in
@@ -119,7 +107,6 @@ returns-2 c =
     let hs : length s1 ≡ length s = length-words-kept (l .last .1 .1 .1 .1 .0) (a .scratch .now) (l .kept .1 .1 .1 .1 .0) in
     λ sig x n. left-way sig ws (a .at) (a .to) (a .sp) (a .log) s cs x n w is (c .before .before .before .before .before .before .before .before .before .if1 .left) room s1 cs1 (l .result) (λ e. l .ensures sig e n) (c .if2 .taken)
 
--- src/lib.rt:80:9
 flatten-requires-3 : tie.Need-flatten-requires-3
 flatten-requires-3 c κs =
     let a = c .before .before .before .before .before .before .before .before .before .before .before .before .before .before .before .before .args in
@@ -138,15 +125,12 @@ flatten-requires-3 c κs =
     let t = right-facts (q .sig) ws (a .at) (a .to) (a .sp) (a .log) s cs (q .known .0) (q .known .1) w is (c .before .before .before .before .before .before .before .before .before .before .before .if1 .left) room s1 cs1 (l .result) (λ e. l .ensures (q .sig) e (q .known .1)) (c .before .before .if2 .left) (length s1) hs in
     (record { sig = q .sig; known = (t .expr, counted-kept (q .known .1) hc) }, t .room)
 
--- src/lib.rt:82:9
 same-length-5 : tie.Need-same-length-5
 same-length-5 c = c .before .before .before .before .before .before .flatten3 .kept .1 .1 .1 .0 ∙ c .before .before .before .before .before .before .before .before .before .before .before .before .before .before .before .flatten2 .kept .1 .1 .1 .0
 
--- src/lib.rt:82:9
 same-length-6 : tie.Need-same-length-6
 same-length-6 c = c .before .before .before .before .before .before .flatten3 .kept .1 .1 .1 .1 .0 ∙ c .before .before .before .before .before .before .before .before .before .before .before .before .before .before .before .flatten2 .kept .1 .1 .1 .1 .0
 
--- src/lib.rt:82:9
 returns-3 : tie.Need-returns-3
 returns-3 c =
     let a = c .before .before .before .before .before .before .before .before .before .before .before .before .before .before .before .before .before .before .before .before .before .before .before .args in
@@ -168,7 +152,6 @@ returns-3 c =
     let hs2 : length s2 ≡ length s = length-words-kept (r .last .1 .1 .1 .1 .0) (l .last .1 .1 .1 .1 .0) (r .kept .1 .1 .1 .1 .0) ∙ hs in
     λ sig x n. right-way sig ws (a .at) (a .to) (a .sp) (a .log) s cs x n w is (c .before .before .before .before .before .before .before .before .before .before .before .before .before .before .before .before .before .before .if1 .left) room s1 cs1 (l .result) (λ e. l .ensures sig e n) (c .before .before .before .before .before .before .before .before .before .if2 .left) s2 cs2 (r .result) (λ e. r .ensures sig e (counted-kept n hc)) (c .if3 .taken)
 
--- src/lib.rt:84:9
 put-three-requires : tie.Need-put-three-requires
 put-three-requires c κs =
     let a = c .before .before .before .before .before .before .before .before .before .before .before .before .before .before .before .before .before .before .before .before .before .before .before .before .args in
@@ -190,15 +173,12 @@ put-three-requires c κs =
     let hs2 : length s2 ≡ length s = length-words-kept (r .last .1 .1 .1 .1 .0) (l .last .1 .1 .1 .1 .0) (r .kept .1 .1 .1 .1 .0) ∙ hs in
     three-room (q .sig) ws (a .at) (a .to) (a .sp) (a .log) s cs (q .known .0) (q .known .1) w is (c .before .before .before .before .before .before .before .before .before .before .before .before .before .before .before .before .before .before .before .if1 .left) room s1 cs1 (l .result) (λ e. l .ensures (q .sig) e (q .known .1)) (c .before .before .before .before .before .before .before .before .before .before .if2 .left) s2 cs2 (r .result) (λ e. r .ensures (q .sig) e (counted-kept (q .known .1) hc)) (length s2) (c .before .if3 .left) hs2
 
--- src/lib.rt:66:1
 same-length-7 : tie.Need-same-length-7
 same-length-7 c = c .before .before .before .before .before .before .before .before .before .before .flatten3 .kept .1 .1 .1 .0 ∙ c .before .before .before .before .before .before .before .before .before .before .before .before .before .before .before .before .before .before .before .flatten2 .kept .1 .1 .1 .0
 
--- src/lib.rt:66:1
 same-length-8 : tie.Need-same-length-8
 same-length-8 c = c .before .before .put-three .kept .0 ∙ c .before .before .before .before .before .before .before .before .before .before .flatten3 .kept .1 .1 .1 .1 .0 ∙ c .before .before .before .before .before .before .before .before .before .before .before .before .before .before .before .before .before .before .before .flatten2 .kept .1 .1 .1 .1 .0
 
--- src/lib.rt:66:1
 returns-4 : tie.Need-returns-4
 returns-4 c =
     let a = c .before .before .before .before .before .before .before .before .before .before .before .before .before .before .before .before .before .before .before .before .before .before .before .before .before .before .before .args in

@@ -1,13 +1,12 @@
-use Prim.Native.Nat.{ℕ, _+_, _*_, _-_, _<_, _≤_}
-use mathlib.Core.Path.{_≡_, refl, sym, ap, _∙_, subst}
+use Prim.Native.Nat.{ℕ, _+_}
+use mathlib.Core.Path.{_≡_, refl, _∙_, subst}
 use native.Mathlib.Omega.{arith}
-use lib.ListN.{length, getD}
+use lib.ListN.{length}
 use Rattle.octets.specs.Words.{words}
-use Rattle.octets.proofs.Words.{length-words, length-words-kept}
-use Rattle.rules.specs.Words.{maxDepth}
+use Rattle.octets.proofs.Words.{length-words-kept}
 use Rattle.rules.specs.Signature.{Sig}
-use Rattle.walks.specs.Steps.{Room, Under, Counted}
-use Rattle.walks.proofs.Asks.{counted-kept, room-in}
+use Rattle.walks.specs.Steps.{Counted}
+use Rattle.walks.proofs.Asks.{counted-kept}
 use Rattle.walks.proofs.Rows.{Going, going-start, going-room}
 use Rattle.query.specs.Flattened.{FactsAt}
 use Rattle.query.proofs.Facts.{Left, left-all, left-none, first-fact, left-stop, left-next, left-going}
@@ -27,7 +26,6 @@ Inv-loop rule at n counters₀ scratch₀ to sp log left₀ walk₀ counters scr
 abbrev μ-loop : tie.MeasureT-loop
 μ-loop rule at n counters₀ scratch₀ to sp log left₀ walk₀ counters scratch left walk = left
 
--- src/lib.rt:97:5
 loop-holds : tie.Need-loop-holds Inv-loop μ-loop
 loop-holds c =
     let a = c .before .before .before .args in
@@ -38,7 +36,6 @@ loop-holds c =
     let room = c .before .before .before .pre .1 in
     (refl, refl, going-start (a .at) (a .to) (a .sp) (a .log) 0 s cs, λ sig x n. left-all sig ws (a .n) (a .at) (a .to) (a .sp) (a .log) s cs x 0)
 
--- src/lib.rt:98:9
 flatten-fact-requires : tie.Need-flatten-fact-requires Inv-loop μ-loop
 flatten-fact-requires c κs =
     let a = c .before .before .before .before .before .before .before .args in
@@ -57,15 +54,12 @@ flatten-fact-requires c κs =
     let lt = i .3 (q .sig) (q .known .0) (q .known .1) in
     (record { sig = q .sig; known = (first-fact (q .sig) ws (a .n) (a .at) (a .to) (a .sp) (a .log) s cs (l .left) (l .walk .next) (lt .rest) (c .before .before .loop-test .taken), counted-kept (q .known .1) hc) }, now)
 
--- src/lib.rt:100:13
 same-length : tie.Need-same-length Inv-loop μ-loop
 same-length c = c .before .before .before .before .before .before .flatten-fact .kept .1 .1 .0 ∙ c .before .before .before .before .before .before .before .before .before .before .loop .inv .0
 
--- src/lib.rt:100:13
 same-length-2 : tie.Need-same-length-2 Inv-loop μ-loop
 same-length-2 c = c .before .before .before .before .before .before .flatten-fact .kept .1 .1 .1 .0 ∙ c .before .before .before .before .before .before .before .before .before .before .loop .inv .1
 
--- src/lib.rt:100:13
 returns : tie.Need-returns Inv-loop μ-loop
 returns c =
     let a = c .before .before .before .before .before .before .before .before .before .before .before .before .before .before .args in
@@ -87,15 +81,12 @@ returns c =
     let cs2 = words (k .last .1 .1 .0) in
     λ sig x n. left-stop sig ws (a .n) (a .at) (a .to) (a .sp) (a .log) s cs x (l .left) s1 cs1 (l .walk) (i .3 sig x n) (c .before .before .before .before .before .before .before .before .before .loop-test .taken) now s2 cs2 (k .result) (λ y. k .ensures sig y (counted-kept n hc)) (c .if1 .taken)
 
--- src/lib.rt:102:9
 sub-left : tie.Need-sub-left Inv-loop μ-loop
 sub-left c = search needs
 
--- src/lib.rt:97:5
 loop-less : tie.Need-loop-less Inv-loop μ-loop
 loop-less c = search needs
 
--- src/lib.rt:97:5
 loop-again : tie.Need-loop-again Inv-loop μ-loop
 loop-again c =
     let a = c .before .before .before .before .before .before .before .before .before .before .before .before .before .before .args in
@@ -122,15 +113,12 @@ loop-again c =
       λ sig x n. left-next sig ws (a .n) (a .at) (a .to) (a .sp) (a .log) s cs x (l .left) s1 cs1 (l .walk) (i .3 sig x n) (c .before .before .before .before .before .before .before .before .before .loop-test .taken) now s2 cs2 (k .result) (λ y. k .ensures sig y (counted-kept n hc)) (c .if1 .left),
     )
 
--- src/lib.rt:89:1
 same-length-3 : tie.Need-same-length-3 Inv-loop μ-loop
 same-length-3 c = c .before .loop .inv .0
 
--- src/lib.rt:89:1
 same-length-4 : tie.Need-same-length-4 Inv-loop μ-loop
 same-length-4 c = c .before .loop .inv .1
 
--- src/lib.rt:89:1
 returns-2 : tie.Need-returns-2 Inv-loop μ-loop
 returns-2 c =
     let a = c .before .before .before .before .before .args in

@@ -22,39 +22,30 @@ Inv-loop counters₀ scratch from n k₀ counters k = (k ≤ n) × (length count
 abbrev μ-loop : tie.MeasureT-loop
 μ-loop counters₀ scratch from n k₀ counters k = k
 
--- src/lib.rt:61:5
 loop-holds : tie.Need-loop-holds Inv-loop μ-loop
 loop-holds c = (search needs, refl, refl)
 
--- src/lib.rt:62:9
 sub-k : tie.Need-sub-k Inv-loop μ-loop
 sub-k c = search needs
 
--- src/lib.rt:63:38
 add-get : tie.Need-add-get Inv-loop μ-loop
 add-get c = omega (arith, length-words (c .before .before .before .before .args .scratch .now))
 
--- src/lib.rt:63:13
 get-requires : tie.Need-get-requires Inv-loop μ-loop
 get-requires c κs = omega (arith, length-words (c .before .before .before .before .args .scratch .now))
 
--- src/lib.rt:64:17
 cast-h : tie.Need-cast-h Inv-loop μ-loop
 cast-h c = search needs
 
--- src/lib.rt:65:16
 count-requires : tie.Need-count-requires Inv-loop μ-loop
 count-requires c κs = search needs
 
--- src/lib.rt:66:13
 put-requires : tie.Need-put-requires Inv-loop μ-loop
 put-requires c κs = omega (arith, c .before .before .count .ensures)
 
--- src/lib.rt:61:5
 loop-less : tie.Need-loop-less Inv-loop μ-loop
 loop-less c = search needs
 
--- src/lib.rt:61:5
 loop-again : tie.Need-loop-again Inv-loop μ-loop
 loop-again c =
     let a = c .before .before .before .before .before .before .before .before .before .before .before .before .args in
@@ -66,11 +57,9 @@ loop-again c =
           ∙ back (l .k) (l .k - 1) (a .from) (words (a .scratch .now)) (words (l .counters)) _ (omega arith) (omega arith) (l .inv .2),
     )
 
--- src/lib.rt:61:5
 loop-less-2 : tie.Need-loop-less-2 Inv-loop μ-loop
 loop-less-2 c = search needs
 
--- src/lib.rt:61:5
 loop-again-2 : tie.Need-loop-again-2 Inv-loop μ-loop
 loop-again-2 c =
     let a = c .before .before .before .before .before .before .before .before .args in
@@ -81,11 +70,9 @@ loop-again-2 c =
     let out : length (words (l .counters)) ≤ usedHead (getD (words (a .scratch .now)) (a .from + (l .k - 1)) 0) = rw v at raw in
     (omega arith, l .inv .1, back-out (l .k) (l .k - 1) (a .from) (words (a .scratch .now)) (words (l .counters)) _ (omega arith) (omega arith) out (l .inv .2))
 
--- src/lib.rt:56:1
 same-length : tie.Need-same-length Inv-loop μ-loop
 same-length c = search needs
 
--- src/lib.rt:56:1
 returns : tie.Need-returns Inv-loop μ-loop
 returns c = none-left (c .before .loop .k) (c .before .before .before .before .args .from) (words (c .before .before .before .before .args .scratch .now)) _ _ (c .loop-test .left) (c .before .loop .inv .2)
 

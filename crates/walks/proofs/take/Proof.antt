@@ -10,51 +10,39 @@ use Rattle.walks.proofs.take.Lts as lts
 use Rattle.octets.proofs.get.Reads as get-reads
 use Rattle.octets.proofs.put.Reads as put-reads
 
--- src/lib.rt:45:9
 get-requires : tie.Need-get-requires
 get-requires c κs = search needs
 
--- src/lib.rt:47:9
 same-length : tie.Need-same-length
 same-length c = search needs
 
--- src/lib.rt:47:9
 returns : tie.Need-returns
 returns c = let a = c .before .before .before .before .before .args in λ p. full p (a .h) (a .log) (c .before .get .result) (words (a .scratch .now)) (words (a .counters .now)) (omega arith) (c .before .get .ensures .is) (c .if1 .taken)
 
--- src/lib.rt:49:21
 mul-v : tie.Need-mul-v
 mul-v c = search needs
 
--- src/lib.rt:49:13
 add-v : tie.Need-add-v
 add-v c = search needs
 
--- src/lib.rt:49:13
 add-v-2 : tie.Need-add-v-2
 add-v-2 c = search needs
 
--- src/lib.rt:50:39
 add-put : tie.Need-add-put
 add-put c = search needs
 
--- src/lib.rt:50:5
 put-requires : tie.Need-put-requires
 put-requires c κs = search needs
 
--- src/lib.rt:51:5
 put-requires-2 : tie.Need-put-requires-2
 put-requires-2 c κs = search needs
 
--- src/lib.rt:41:1
 same-length-2 : tie.Need-same-length-2
 same-length-2 c = search needs
 
--- src/lib.rt:41:1
 same-length-3 : tie.Need-same-length-3
 same-length-3 c = search needs
 
--- src/lib.rt:41:1
 returns-2 : tie.Need-returns-2
 returns-2 c =
     let a = c .before .before .before .before .before .before .before .before .before .before .before .before .before .args in

@@ -1,18 +1,11 @@
-use Rattle.core_actions.specs.Scopes.{Scoped, ScopeFits, ScopeRoom, Names}
 use Rattle.rules.specs.Refusals.{usedUp}
-use Prim.Native.Nat.{ℕ, _+_, _*_, _-_, _<_, _≤_}
-use mathlib.Core.Path.{_≡_, refl, sym, ap, _∙_}
-use mathlib.Core.List.{List}
+use Prim.Native.Nat.{ℕ, _+_, _-_, _<_}
+use mathlib.Core.Path.{_≡_, refl, sym, _∙_}
 use native.Mathlib.Omega.{arith}
 use lib.ListN.{length, getD}
 use Rattle.octets.specs.Words.{words}
 use Rattle.octets.proofs.Words.{length-words, length-words-kept}
-use Rattle.rules.specs.Words.{maxDepth, headOf, countOf}
-use Rattle.rules.specs.Signature.{Sig}
-use Rattle.walks.specs.Steps.{Room, Under, Counted}
-use Rattle.walks.proofs.Asks.{counted-kept}
-use Rattle.core_actions.specs.Scopes.{Scoped, ScopeRoom, Names}
-use Rattle.core_actions.proofs.Scopes.{scope-fits}
+use Rattle.rules.specs.Words.{headOf}
 use mathlib.Core.Path.{subst}
 use Rattle.rules.specs.Signature.{heads}
 use Rattle.core_actions.proofs.Acting.{exprs-of, change-facts, change-stop, change-room, change-full, change-done}
@@ -26,7 +19,6 @@ use Rattle.octets.proofs.get.Reads as get-reads
 use Rattle.octets.proofs.rows.put_terms.Reads as put-terms-reads
 use Rattle.walks.proofs.take.Reads as take-reads
 
--- src/actions.rt:68:31
 add-get : tie.Need-add-get
 add-get c =
     let a = c .before .before .before .args in
@@ -40,7 +32,6 @@ add-get c =
     let i = x .exprs .inside in
     omega (arith, length-words (a .rule .now), c .before .before .before .good)
 
--- src/actions.rt:68:9
 get-requires : tie.Need-get-requires
 get-requires c κs =
     let a = c .before .before .before .args in
@@ -54,7 +45,6 @@ get-requires c κs =
     let i = x .exprs .inside in
     omega arith
 
--- src/actions.rt:69:14
 sub-h : tie.Need-sub-h
 sub-h c =
     let a = c .before .before .before .before .args in
@@ -69,7 +59,6 @@ sub-h c =
     let f = change-facts (q .sig) (q .known .2 .bound) ws (a .code) (a .more) (a .at) (a .to) (a .sp) (a .log) s cs (q .known .0) w is room (length s) refl in
     omega (arith, f .high)
 
--- src/actions.rt:70:15
 sub-n : tie.Need-sub-n
 sub-n c =
     let a = c .before .before .before .before .args in
@@ -84,11 +73,9 @@ sub-n c =
     let f = change-facts (q .sig) (q .known .2 .bound) ws (a .code) (a .more) (a .at) (a .to) (a .sp) (a .log) s cs (q .known .0) w is room (length s) refl in
     omega (arith, f .high)
 
--- src/actions.rt:70:13
 cast-n : tie.Need-cast-n
 cast-n c = search needs
 
--- src/actions.rt:70:13
 add-n : tie.Need-add-n
 add-n c =
     let a = c .before .before .before .before .args in
@@ -100,7 +87,6 @@ add-n c =
     let sr = c .before .before .before .before .pre .1 .1 .0 in
     omega (arith, c .before .before .before .before .pre .1 .1 .1)
 
--- src/actions.rt:71:32
 add-lower-all : tie.Need-add-lower-all
 add-lower-all c =
     let a = c .before .before .before .before .args in
@@ -114,7 +100,6 @@ add-lower-all c =
     let i = x .exprs .inside in
     omega (arith, length-words (a .rule .now), c .before .before .before .before .good)
 
--- src/actions.rt:71:9
 lower-all-requires : tie.Need-lower-all-requires
 lower-all-requires c κs =
     let a = c .before .before .before .before .before .before .args in
@@ -129,15 +114,12 @@ lower-all-requires c κs =
     let f = change-facts (q .sig) (q .known .2 .bound) ws (a .code) (a .more) (a .at) (a .to) (a .sp) (a .log) s cs (q .known .0) w is room (length s) refl in
     (record { sig = q .sig; known = (exprs-of (q .sig) (q .known .2 .bound) ws (a .code) (a .more) (a .at) (a .to) (a .sp) (a .log) s cs (q .known .0) w is room, q .known .1, q .known .2) }, (f .roomThere, record { few = sr .few; body = sr .body; names = omega (arith, sr .names); top = sr .top }))
 
--- src/actions.rt:73:9
 same-length : tie.Need-same-length
 same-length c = search needs
 
--- src/actions.rt:73:9
 same-length-2 : tie.Need-same-length-2
 same-length-2 c = search needs
 
--- src/actions.rt:73:9
 returns : tie.Need-returns
 returns c =
     let a = c .before .before .before .before .before .before .before .before .before .before .before .before .before .args in
@@ -156,7 +138,6 @@ returns c =
     let hs : length s1 ≡ length s = length-words-kept (k .last .1 .1 .1 .1 .1 .1 .0) (a .scratch .now) (k .kept .1 .1 .1 .1 .1 .1 .0) in
     (refl, λ sig x bound n sc. change-stop sig bound ws (a .code) (a .more) (a .at) (a .to) (a .sp) (a .log) s cs x w is room s1 cs1 (k .result) (k .ensures sig (exprs-of sig bound ws (a .code) (a .more) (a .at) (a .to) (a .sp) (a .log) s cs x w is room) bound n sc) (record { walk = k .result; names = 0; count = 0 }) refl (c .if1 .taken))
 
--- src/actions.rt:75:9
 take-requires : tie.Need-take-requires
 take-requires c κs =
     let a = c .before .before .before .before .before .before .before .before .before .before .before .before .before .before .before .args in
@@ -179,7 +160,6 @@ take-requires c κs =
     let h : headOf w < heads (q .sig) = subst (λ (u : ℕ). headOf u < heads (q .sig)) (sym is) (q .known .0 .head) in
     (omega arith, omega arith, r .1)
 
--- src/actions.rt:77:43
 add-t29 : tie.Need-add-t29
 add-t29 c =
     let a = c .before .before .before .before .before .before .before .before .before .before .before .before .before .before .before .before .before .before .before .before .before .args in
@@ -193,15 +173,12 @@ add-t29 c =
     let i = x .exprs .inside in
     omega (arith, length-words (a .rule .now), c .before .before .before .before .before .before .before .before .before .before .before .before .before .before .before .before .before .before .before .before .before .good)
 
--- src/actions.rt:77:9
 same-length-3 : tie.Need-same-length-3
 same-length-3 c = c .before .before .before .before .before .take .kept .0 ∙ c .before .before .before .before .before .before .before .before .before .before .before .before .before .before .lower-all .kept .1 .1 .1 .1 .1 .0
 
--- src/actions.rt:77:9
 same-length-4 : tie.Need-same-length-4
 same-length-4 c = c .before .before .before .before .before .take .kept .1 .0 ∙ c .before .before .before .before .before .before .before .before .before .before .before .before .before .before .lower-all .kept .1 .1 .1 .1 .1 .1 .0
 
--- src/actions.rt:77:9
 returns-2 : tie.Need-returns-2
 returns-2 c =
     let a = c .before .before .before .before .before .before .before .before .before .before .before .before .before .before .before .before .before .before .before .before .before .args in
@@ -225,7 +202,6 @@ returns-2 c =
     let hs2 : length s2 ≡ length s = length-words-kept (t .last .1 .0) _ (t .kept .1 .0) ∙ hs in
     (refl, λ sig x bound n sc. change-full sig bound ws (a .code) (a .more) (a .at) (a .to) (a .sp) (a .log) s cs x w is room s1 cs1 (k .result) (k .ensures sig (exprs-of sig bound ws (a .code) (a .more) (a .at) (a .to) (a .sp) (a .log) s cs x w is room) bound n sc) (c .before .before .before .before .before .before .before .before .if1 .left) (t .result) s2 cs2 (t .ensures) (record { walk = record { next = a .at + 1; to = k .result .to; log = k .result .log; term = 0; refused = usedUp }; names = 0; count = 0 }) (c .if2 .taken) refl)
 
--- src/actions.rt:79:9
 put-terms-requires : tie.Need-put-terms-requires
 put-terms-requires c κs =
     let a = c .before .before .before .before .before .before .before .before .before .before .before .before .before .before .before .before .before .before .before .before .before .before .args in
@@ -250,7 +226,6 @@ put-terms-requires c κs =
     let r = change-room (q .sig) (q .known .2 .bound) ws (a .code) (a .more) (a .at) (a .to) (a .sp) (a .log) s cs (q .known .0) w is room s1 cs1 (k .result) (k .ensures (q .sig) (exprs-of (q .sig) (q .known .2 .bound) ws (a .code) (a .more) (a .at) (a .to) (a .sp) (a .log) s cs (q .known .0) w is room) (q .known .2 .bound) (q .known .1) (q .known .2 .scoped)) (c .before .before .before .before .before .before .before .before .before .if1 .left) (length s2) hs2 in
     (r .2, r .3)
 
--- src/actions.rt:80:57
 add-t17 : tie.Need-add-t17
 add-t17 c =
     let a = c .before .before .before .before .before .before .before .before .before .before .before .before .before .before .before .before .before .before .before .before .before .before .before .before .before .before .args in
@@ -270,7 +245,6 @@ add-t17 c =
     let r = change-room (q .sig) (q .known .2 .bound) ws (a .code) (a .more) (a .at) (a .to) (a .sp) (a .log) s cs (q .known .0) w is room s1 cs1 (k .result) (k .ensures (q .sig) (exprs-of (q .sig) (q .known .2 .bound) ws (a .code) (a .more) (a .at) (a .to) (a .sp) (a .log) s cs (q .known .0) w is room) (q .known .2 .bound) (q .known .1) (q .known .2 .scoped)) (c .before .before .before .before .before .before .before .before .before .before .before .before .before .if1 .left) (length s1) hs in
     omega (arith, r .1, hs, length-words (a .scratch .now), c .before .before .before .before .before .before .before .before .before .before .before .before .before .before .before .before .before .before .before .before .before .before .before .before .before .before .good)
 
--- src/actions.rt:80:111
 sub-t34 : tie.Need-sub-t34
 sub-t34 c =
     let a = c .before .before .before .before .before .before .before .before .before .before .before .before .before .before .before .before .before .before .before .before .before .before .before .before .before .before .before .args in
@@ -290,7 +264,6 @@ sub-t34 c =
     let r = change-room (q .sig) (q .known .2 .bound) ws (a .code) (a .more) (a .at) (a .to) (a .sp) (a .log) s cs (q .known .0) w is room s1 cs1 (k .result) (k .ensures (q .sig) (exprs-of (q .sig) (q .known .2 .bound) ws (a .code) (a .more) (a .at) (a .to) (a .sp) (a .log) s cs (q .known .0) w is room) (q .known .2 .bound) (q .known .1) (q .known .2 .scoped)) (c .before .before .before .before .before .before .before .before .before .before .before .before .before .before .if1 .left) (length s1) hs in
     r .0
 
--- src/actions.rt:80:111
 add-t35 : tie.Need-add-t35
 add-t35 c =
     let a = c .before .before .before .before .before .before .before .before .before .before .before .before .before .before .before .before .before .before .before .before .before .before .before .before .before .before .before .args in
@@ -310,15 +283,12 @@ add-t35 c =
     let r = change-room (q .sig) (q .known .2 .bound) ws (a .code) (a .more) (a .at) (a .to) (a .sp) (a .log) s cs (q .known .0) w is room s1 cs1 (k .result) (k .ensures (q .sig) (exprs-of (q .sig) (q .known .2 .bound) ws (a .code) (a .more) (a .at) (a .to) (a .sp) (a .log) s cs (q .known .0) w is room) (q .known .2 .bound) (q .known .1) (q .known .2 .scoped)) (c .before .before .before .before .before .before .before .before .before .before .before .before .before .before .if1 .left) (length s1) hs in
     omega (arith, r .1, hs, length-words (a .scratch .now), c .before .before .before .before .before .before .before .before .before .before .before .before .before .before .before .before .before .before .before .before .before .before .before .before .before .before .before .good)
 
--- src/actions.rt:60:1
 same-length-5 : tie.Need-same-length-5
 same-length-5 c = c .before .before .before .before .before .before .before .before .before .before .before .take .kept .0 ∙ c .before .before .before .before .before .before .before .before .before .before .before .before .before .before .before .before .before .before .before .before .lower-all .kept .1 .1 .1 .1 .1 .0
 
--- src/actions.rt:60:1
 same-length-6 : tie.Need-same-length-6
 same-length-6 c = c .before .before .before .before .put-terms .kept .0 ∙ c .before .before .before .before .before .before .before .before .before .before .before .take .kept .1 .0 ∙ c .before .before .before .before .before .before .before .before .before .before .before .before .before .before .before .before .before .before .before .before .lower-all .kept .1 .1 .1 .1 .1 .1 .0
 
--- src/actions.rt:60:1
 returns-3 : tie.Need-returns-3
 returns-3 c =
     let a = c .before .before .before .before .before .before .before .before .before .before .before .before .before .before .before .before .before .before .before .before .before .before .before .before .before .before .before .args in

@@ -1,16 +1,9 @@
-use Prim.Native.Nat.{ℕ, _+_, _*_, _-_, _<_, _≤_}
-use mathlib.Core.Path.{_≡_, refl, sym, ap, _∙_}
-use mathlib.Core.List.{List}
+use Prim.Native.Nat.{_+_, _-_}
+use mathlib.Core.Path.{refl}
 use native.Mathlib.Omega.{arith}
-use lib.ListN.{length, getD}
 use Rattle.octets.specs.Words.{words}
-use Rattle.octets.proofs.Words.{length-words, length-words-kept}
-use Rattle.rules.specs.Words.{maxDepth, headOf, countOf}
-use Rattle.rules.specs.Signature.{Sig}
-use Rattle.walks.specs.Steps.{Room, Under, Counted}
-use Rattle.walks.proofs.Asks.{counted-kept}
-use Rattle.core_actions.specs.Scopes.{Scoped, ScopeRoom, Names}
-use Rattle.core_actions.proofs.Scopes.{scope-fits}
+use Rattle.octets.proofs.Words.{length-words}
+use Rattle.rules.specs.Words.{maxDepth}
 use Rattle.walks.proofs.Asks.{expr-inside}
 use Rattle.core_actions.proofs.Acting.{expression-acts}
 use borrow.Author.Needs.{needs}
@@ -20,7 +13,6 @@ use Rattle.core_actions.proofs.actions.lower_expression.Reads as reads
 use Rattle.core_actions.proofs.actions.lower_expression.Lts as lts
 use Rattle.core_actions.proofs.exprs.lower.Reads as lower-reads
 
--- src/actions.rt:104:25
 add-lower : tie.Need-add-lower
 add-lower c =
     let a = c .before .before .before .args in
@@ -33,7 +25,6 @@ add-lower c =
     let i = expr-inside (q .sig) ws maxDepth (a .at + 1) (q .known .0) in
     omega (arith, length-words (a .rule .now), c .before .before .before .good)
 
--- src/actions.rt:104:9
 lower-requires : tie.Need-lower-requires
 lower-requires c κs =
     let a = c .before .before .before .before .before .args in
@@ -45,7 +36,6 @@ lower-requires c κs =
     let sr = c .before .before .before .before .before .pre .1 .1 in
     (record { sig = q .sig; known = (q .known .0, q .known .1, q .known .2) }, (record { words = omega (arith, room .words); stack = omega (arith, room .stack); log = omega (arith, room .log) }, record { few = sr .few; body = sr .body; names = omega (arith, sr .names); top = sr .top }))
 
--- src/actions.rt:105:39
 sub-t10 : tie.Need-sub-t10
 sub-t10 c =
     let a = c .before .before .before .before .before .before .before .before .before .before .before .args in
@@ -57,15 +47,12 @@ sub-t10 c =
     let sr = c .before .before .before .before .before .before .before .before .before .before .before .pre .1 .1 in
     omega (arith, c .before .before .before .before .before .lower .ensures (q .sig) (q .known .0) (q .known .2 .bound) (q .known .1) (q .known .2 .scoped) .kept .upTo)
 
--- src/actions.rt:97:1
 same-length : tie.Need-same-length
 same-length c = search needs
 
--- src/actions.rt:97:1
 same-length-2 : tie.Need-same-length-2
 same-length-2 c = search needs
 
--- src/actions.rt:97:1
 returns : tie.Need-returns
 returns c =
     let a = c .before .before .before .before .before .before .before .before .before .before .before .args in

@@ -1,15 +1,9 @@
-use Prim.Native.Nat.{ℕ, _+_, _*_, _-_, _<_, _≤_}
-use mathlib.Core.Path.{_≡_, refl, sym, ap, _∙_}
-use mathlib.Core.List.{List}
+use Prim.Native.Nat.{_+_}
+use mathlib.Core.Path.{_≡_, refl, _∙_}
 use native.Mathlib.Omega.{arith}
 use lib.ListN.{length, getD}
 use Rattle.octets.specs.Words.{words}
 use Rattle.octets.proofs.Words.{length-words, length-words-kept}
-use Rattle.rules.specs.Words.{maxDepth, headOf, countOf}
-use Rattle.rules.specs.Signature.{Sig}
-use Rattle.walks.specs.Steps.{Room, Under, Counted}
-use Rattle.walks.proofs.Asks.{counted-kept}
-use Rattle.core_actions.specs.Scopes.{Scoped, ScopeRoom, Names}
 use Rattle.core_actions.proofs.Scopes.{scope-fits}
 use Rattle.core_actions.proofs.Acting.{let-twice, let-stop, let-room, let-done}
 use borrow.Author.Needs.{needs}
@@ -23,7 +17,6 @@ use Rattle.octets.proofs.get.Reads as get-reads
 use Rattle.octets.proofs.put.Reads as put-reads
 use Rattle.octets.proofs.rows.put_three.Reads as put-three-reads
 
--- src/actions.rt:45:34
 add-get : tie.Need-add-get
 add-get c =
     let a = c .before .before .before .args in
@@ -36,7 +29,6 @@ add-get c =
     let i = q .known .0 .expr .inside in
     omega (arith, length-words (a .rule .now), c .before .before .before .good)
 
--- src/actions.rt:45:9
 get-requires : tie.Need-get-requires
 get-requires c κs =
     let a = c .before .before .before .args in
@@ -49,7 +41,6 @@ get-requires c κs =
     let i = q .known .0 .expr .inside in
     omega arith
 
--- src/actions.rt:46:8
 taken-requires : tie.Need-taken-requires
 taken-requires c κs =
     let a = c .before .before .before .before .before .args in
@@ -62,11 +53,9 @@ taken-requires c κs =
     let i = q .known .0 .expr .inside in
     scope-fits sr room (omega arith)
 
--- src/actions.rt:47:9
 same-length : tie.Need-same-length
 same-length c = search needs
 
--- src/actions.rt:47:9
 returns : tie.Need-returns
 returns c =
     let a = c .before .before .before .before .before .before .before .args in
@@ -80,7 +69,6 @@ returns c =
     let is : v ≡ getD ws (a .at + 1) 0 = c .before .before .before .get .ensures .is in
     λ sig x bound n sc. let-twice sig bound ws (a .at) (a .to) (a .sp) (a .log) (a .scope) s cs x v is (c .before .taken .result) (c .before .taken .ensures sig bound sc (omega (arith, x .old))) (c .if1 .taken)
 
--- src/actions.rt:49:25
 add-lower : tie.Need-add-lower
 add-lower c =
     let a = c .before .before .before .before .before .before .before .args in
@@ -93,7 +81,6 @@ add-lower c =
     let i = q .known .0 .expr .inside in
     omega (arith, length-words (a .rule .now), c .before .before .before .before .before .before .before .good)
 
--- src/actions.rt:49:9
 lower-requires : tie.Need-lower-requires
 lower-requires c κs =
     let a = c .before .before .before .before .before .before .before .before .before .args in
@@ -106,15 +93,12 @@ lower-requires c κs =
     let i = q .known .0 .expr .inside in
     (record { sig = q .sig; known = (q .known .0 .expr, q .known .1, q .known .2) }, (record { words = omega (arith, room .words); stack = omega (arith, room .stack); log = omega (arith, room .log) }, record { few = sr .few; body = sr .body; names = omega (arith, sr .names); top = sr .top }))
 
--- src/actions.rt:51:9
 same-length-2 : tie.Need-same-length-2
 same-length-2 c = search needs
 
--- src/actions.rt:51:9
 same-length-3 : tie.Need-same-length-3
 same-length-3 c = search needs
 
--- src/actions.rt:51:9
 returns-2 : tie.Need-returns-2
 returns-2 c =
     let a = c .before .before .before .before .before .before .before .before .before .before .before .before .before .before .before .before .args in
@@ -133,7 +117,6 @@ returns-2 c =
     let hs : length s1 ≡ length s = length-words-kept (k .last .1 .1 .1 .1 .1 .0) (a .scratch .now) (k .kept .1 .1 .1 .1 .1 .0) in
     λ sig x bound n sc. let-stop sig bound ws (a .at) (a .to) (a .sp) (a .log) (a .scope) s cs x v is (c .before .before .before .before .before .before .before .before .before .before .taken .result) (c .before .before .before .before .before .before .before .before .before .before .taken .ensures sig bound sc (omega (arith, x .old))) (c .before .before .before .before .before .before .before .before .before .if1 .left) s1 cs1 (k .result) (k .ensures sig (x .expr) bound n sc) _ refl (c .if2 .taken)
 
--- src/actions.rt:53:9
 put-three-requires : tie.Need-put-three-requires
 put-three-requires c κs =
     let a = c .before .before .before .before .before .before .before .before .before .before .before .before .before .before .before .before .before .args in
@@ -154,7 +137,6 @@ put-three-requires c κs =
     let x = q .known .0 in
     let-room (q .sig) b ws (a .at) (a .to) (a .sp) (a .log) (a .scope) s cs x v is (c .before .before .before .before .before .before .before .before .before .before .before .taken .result) (c .before .before .before .before .before .before .before .before .before .before .before .taken .ensures (q .sig) b (q .known .2 .scoped) (omega (arith, x .old))) (c .before .before .before .before .before .before .before .before .before .before .if1 .left) s1 cs1 (k .result) (k .ensures (q .sig) (x .expr) b (q .known .1) (q .known .2 .scoped)) (c .before .if2 .left) room (length s1) hs .1
 
--- src/actions.rt:54:5
 put-requires : tie.Need-put-requires
 put-requires c κs =
     let a = c .before .before .before .before .before .before .before .before .before .before .before .before .before .before .before .before .before .before .before .before .before .args in
@@ -175,7 +157,6 @@ put-requires c κs =
     let x = q .known .0 in
     omega (arith, let-room (q .sig) b ws (a .at) (a .to) (a .sp) (a .log) (a .scope) s cs x v is (c .before .before .before .before .before .before .before .before .before .before .before .before .before .before .before .taken .result) (c .before .before .before .before .before .before .before .before .before .before .before .before .before .before .before .taken .ensures (q .sig) b (q .known .2 .scoped) (omega (arith, x .old))) (c .before .before .before .before .before .before .before .before .before .before .before .before .before .before .if1 .left) s1 cs1 (k .result) (k .ensures (q .sig) (x .expr) b (q .known .1) (q .known .2 .scoped)) (c .before .before .before .before .before .if2 .left) room (length s1) hs .2, length-words-kept (c .before .before .before .put-three .last .0) (k .last .1 .1 .1 .1 .1 .0) (c .before .before .before .put-three .kept .0))
 
--- src/actions.rt:55:101
 sub-t12 : tie.Need-sub-t12
 sub-t12 c =
     let a = c .before .before .before .before .before .before .before .before .before .before .before .before .before .before .before .before .before .before .before .before .before .before .before .before .before .args in
@@ -196,7 +177,6 @@ sub-t12 c =
     let x = q .known .0 in
     let-room (q .sig) b ws (a .at) (a .to) (a .sp) (a .log) (a .scope) s cs x v is (c .before .before .before .before .before .before .before .before .before .before .before .before .before .before .before .before .before .before .before .taken .result) (c .before .before .before .before .before .before .before .before .before .before .before .before .before .before .before .before .before .before .before .taken .ensures (q .sig) b (q .known .2 .scoped) (omega (arith, x .old))) (c .before .before .before .before .before .before .before .before .before .before .before .before .before .before .before .before .before .before .if1 .left) s1 cs1 (k .result) (k .ensures (q .sig) (x .expr) b (q .known .1) (q .known .2 .scoped)) (c .before .before .before .before .before .before .before .before .before .if2 .left) room (length s1) hs .0
 
--- src/actions.rt:55:101
 add-t28 : tie.Need-add-t28
 add-t28 c =
     let a = c .before .before .before .before .before .before .before .before .before .before .before .before .before .before .before .before .before .before .before .before .before .before .before .before .before .args in
@@ -218,15 +198,12 @@ add-t28 c =
     let r = let-room (q .sig) b ws (a .at) (a .to) (a .sp) (a .log) (a .scope) s cs x v is (c .before .before .before .before .before .before .before .before .before .before .before .before .before .before .before .before .before .before .before .taken .result) (c .before .before .before .before .before .before .before .before .before .before .before .before .before .before .before .before .before .before .before .taken .ensures (q .sig) b (q .known .2 .scoped) (omega (arith, x .old))) (c .before .before .before .before .before .before .before .before .before .before .before .before .before .before .before .before .before .before .if1 .left) s1 cs1 (k .result) (k .ensures (q .sig) (x .expr) b (q .known .1) (q .known .2 .scoped)) (c .before .before .before .before .before .before .before .before .before .if2 .left) room (length s1) hs in
     omega (arith, k .ensures (q .sig) (x .expr) b (q .known .1) (q .known .2 .scoped) .kept .inLog, x .expr .inside, room .log, length-words (a .scratch .now), c .before .before .before .before .before .before .before .before .before .before .before .before .before .before .before .before .before .before .before .before .before .before .before .before .before .good)
 
--- src/actions.rt:37:1
 same-length-4 : tie.Need-same-length-4
 same-length-4 c = c .before .before .before .before .before .before .before .before .before .before .before .before .before .before .before .lower .kept .1 .1 .1 .1 .0
 
--- src/actions.rt:37:1
 same-length-5 : tie.Need-same-length-5
 same-length-5 c = c .before .before .before .put .kept .0 ∙ c .before .before .before .before .before .before .before .put-three .kept .0 ∙ c .before .before .before .before .before .before .before .before .before .before .before .before .before .before .before .lower .kept .1 .1 .1 .1 .1 .0
 
--- src/actions.rt:37:1
 returns-3 : tie.Need-returns-3
 returns-3 c =
     let a = c .before .before .before .before .before .before .before .before .before .before .before .before .before .before .before .before .before .before .before .before .before .before .before .before .before .args in

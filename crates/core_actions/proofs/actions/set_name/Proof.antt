@@ -1,17 +1,11 @@
-use Rattle.core_actions.specs.Scopes.{Scoped, ScopeFits, ScopeRoom, Names}
-use Rattle.rules.specs.Refusals.{usedUp}
-use Prim.Native.Nat.{ℕ, _+_, _*_, _-_, _<_, _≤_}
-use mathlib.Core.Path.{_≡_, refl, sym, ap, _∙_}
-use mathlib.Core.List.{List}
+use Rattle.core_actions.specs.Scopes.{ScopeFits}
+use Prim.Native.Nat.{ℕ, _+_, _<_}
+use mathlib.Core.Path.{_≡_, refl, sym, _∙_}
 use native.Mathlib.Omega.{arith}
 use lib.ListN.{length, getD}
 use Rattle.octets.specs.Words.{words}
 use Rattle.octets.proofs.Words.{length-words, length-words-kept}
-use Rattle.rules.specs.Words.{maxDepth, headOf, countOf}
-use Rattle.rules.specs.Signature.{Sig}
-use Rattle.walks.specs.Steps.{Room, Under, Counted}
-use Rattle.walks.proofs.Asks.{counted-kept}
-use Rattle.core_actions.specs.Scopes.{Scoped, ScopeRoom, Names}
+use Rattle.rules.specs.Words.{headOf}
 use Rattle.core_actions.proofs.Scopes.{scope-fits}
 use mathlib.Core.Path.{subst}
 use Rattle.rules.specs.Signature.{heads}
@@ -28,7 +22,6 @@ use Rattle.octets.proofs.put.Reads as put-reads
 use Rattle.octets.proofs.rows.put_terms.Reads as put-terms-reads
 use Rattle.walks.proofs.take.Reads as take-reads
 
--- src/actions.rt:136:34
 add-get : tie.Need-add-get
 add-get c =
     let a = c .before .before .before .args in
@@ -42,7 +35,6 @@ add-get c =
     let i = x .exprs .inside in
     omega (arith, length-words (a .rule .now), c .before .before .before .good)
 
--- src/actions.rt:136:9
 get-requires : tie.Need-get-requires
 get-requires c κs =
     let a = c .before .before .before .args in
@@ -56,7 +48,6 @@ get-requires c κs =
     let i = x .exprs .inside in
     omega arith
 
--- src/actions.rt:137:31
 add-get-2 : tie.Need-add-get-2
 add-get-2 c =
     let a = c .before .before .before .before .args in
@@ -70,7 +61,6 @@ add-get-2 c =
     let i = x .exprs .inside in
     omega (arith, length-words (a .rule .now), c .before .before .before .before .good)
 
--- src/actions.rt:137:9
 get-requires-2 : tie.Need-get-requires-2
 get-requires-2 c κs =
     let a = c .before .before .before .before .args in
@@ -84,7 +74,6 @@ get-requires-2 c κs =
     let i = x .exprs .inside in
     omega arith
 
--- src/actions.rt:138:14
 sub-h : tie.Need-sub-h
 sub-h c =
     let a = c .before .before .before .before .before .args in
@@ -101,7 +90,6 @@ sub-h c =
     let f = name-facts (q .sig) (q .known .2 .bound) ws (a .at) (a .to) (a .sp) (a .log) (a .scope) s cs (q .known .0) v w isv isw room (length s) refl in
     omega (arith, f .high)
 
--- src/actions.rt:139:15
 sub-n : tie.Need-sub-n
 sub-n c =
     let a = c .before .before .before .before .before .args in
@@ -118,11 +106,9 @@ sub-n c =
     let f = name-facts (q .sig) (q .known .2 .bound) ws (a .at) (a .to) (a .sp) (a .log) (a .scope) s cs (q .known .0) v w isv isw room (length s) refl in
     omega (arith, f .high)
 
--- src/actions.rt:139:13
 cast-n : tie.Need-cast-n
 cast-n c = search needs
 
--- src/actions.rt:140:32
 add-lower-all : tie.Need-add-lower-all
 add-lower-all c =
     let a = c .before .before .before .before .before .args in
@@ -136,11 +122,9 @@ add-lower-all c =
     let i = x .exprs .inside in
     omega (arith, length-words (a .rule .now), c .before .before .before .before .before .good)
 
--- src/actions.rt:140:43
 sub-lower-all : tie.Need-sub-lower-all
 sub-lower-all c = search needs
 
--- src/actions.rt:140:9
 lower-all-requires : tie.Need-lower-all-requires
 lower-all-requires c κs =
     let a = c .before .before .before .before .before .before .before .args in
@@ -157,15 +141,12 @@ lower-all-requires c κs =
     let f = name-facts (q .sig) (q .known .2 .bound) ws (a .at) (a .to) (a .sp) (a .log) (a .scope) s cs (q .known .0) v w isv isw room (length s) refl in
     (record { sig = q .sig; known = (args-of (q .sig) (q .known .2 .bound) ws (a .at) (a .to) (a .sp) (a .log) (a .scope) s cs (q .known .0) v w isv isw room, q .known .1, q .known .2) }, (f .roomThere, record { few = sr .few; body = sr .body; names = omega (arith, sr .names); top = sr .top }))
 
--- src/actions.rt:142:9
 same-length : tie.Need-same-length
 same-length c = search needs
 
--- src/actions.rt:142:9
 same-length-2 : tie.Need-same-length-2
 same-length-2 c = search needs
 
--- src/actions.rt:142:9
 returns : tie.Need-returns
 returns c =
     let a = c .before .before .before .before .before .before .before .before .before .before .before .before .before .before .args in
@@ -186,7 +167,6 @@ returns c =
     let hs : length s1 ≡ length s = length-words-kept (k .last .1 .1 .1 .1 .1 .1 .0) (a .scratch .now) (k .kept .1 .1 .1 .1 .1 .1 .0) in
     λ sig x bound n sc. name-stop sig bound ws (a .at) (a .to) (a .sp) (a .log) (a .scope) s cs x v w isv isw room s1 cs1 (k .result) (k .ensures sig (args-of sig bound ws (a .at) (a .to) (a .sp) (a .log) (a .scope) s cs x v w isv isw room) bound n sc) _ refl (c .if1 .taken)
 
--- src/actions.rt:144:8
 may-read-requires : tie.Need-may-read-requires
 may-read-requires c κs =
     let a = c .before .before .before .before .before .before .before .before .before .before .before .before .before .before .before .args in
@@ -206,7 +186,6 @@ may-read-requires c κs =
     let f : ScopeFits s (a .scope) = scope-fits sr room (omega arith) in
     record { few = f .few; body = omega (arith, f .body, hs); names = omega (arith, f .names, hs) }
 
--- src/actions.rt:145:30
 add-put : tie.Need-add-put
 add-put c =
     let a = c .before .before .before .before .before .before .before .before .before .before .before .before .before .before .before .before .before .before .args in
@@ -228,7 +207,6 @@ add-put c =
     let r = name-room (q .sig) (q .known .2 .bound) ws (a .at) (a .to) (a .sp) (a .log) (a .scope) s cs (q .known .0) v w isv isw room s1 cs1 (k .result) (k .ensures (q .sig) (args-of (q .sig) (q .known .2 .bound) ws (a .at) (a .to) (a .sp) (a .log) (a .scope) s cs (q .known .0) v w isv isw room) (q .known .2 .bound) (q .known .1) (q .known .2 .scoped)) (c .before .before .before .before .if1 .left) (length s1) hs in
     omega (arith, r .top, hs, length-words (a .scratch .now), c .before .before .before .before .before .before .before .before .before .before .before .before .before .before .before .before .before .before .good)
 
--- src/actions.rt:145:9
 put-requires : tie.Need-put-requires
 put-requires c κs =
     let a = c .before .before .before .before .before .before .before .before .before .before .before .before .before .before .before .before .before .before .args in
@@ -250,7 +228,6 @@ put-requires c κs =
     let r = name-room (q .sig) (q .known .2 .bound) ws (a .at) (a .to) (a .sp) (a .log) (a .scope) s cs (q .known .0) v w isv isw room s1 cs1 (k .result) (k .ensures (q .sig) (args-of (q .sig) (q .known .2 .bound) ws (a .at) (a .to) (a .sp) (a .log) (a .scope) s cs (q .known .0) v w isv isw room) (q .known .2 .bound) (q .known .1) (q .known .2 .scoped)) (c .before .before .before .before .if1 .left) (length s1) hs in
     r .top
 
--- src/actions.rt:146:13
 take-requires : tie.Need-take-requires
 take-requires c κs =
     let a = c .before .before .before .before .before .before .before .before .before .before .before .before .before .before .before .before .before .before .before .before .before .before .before .args in
@@ -275,7 +252,6 @@ take-requires c κs =
     let h : headOf w < heads (q .sig) = subst (λ (u : ℕ). headOf u < heads (q .sig)) (sym isw) (q .known .0 .head) in
     (omega arith, omega arith, omega (arith, r .log, length-words-kept (c .before .before .before .before .put .last .0) (k .last .1 .1 .1 .1 .1 .1 .0) (c .before .before .before .before .put .kept .0)))
 
--- src/actions.rt:148:47
 add-t36 : tie.Need-add-t36
 add-t36 c =
     let a = c .before .before .before .before .before .before .before .before .before .before .before .before .before .before .before .before .before .before .before .before .before .before .before .before .before .before .before .before .before .args in
@@ -289,15 +265,12 @@ add-t36 c =
     let i = x .exprs .inside in
     omega (arith, length-words (a .rule .now), c .before .before .before .before .before .before .before .before .before .before .before .before .before .before .before .before .before .before .before .before .before .before .before .before .before .before .before .before .before .good)
 
--- src/actions.rt:148:13
 same-length-3 : tie.Need-same-length-3
 same-length-3 c = c .before .before .before .before .before .take .kept .0 ∙ c .before .before .before .before .before .before .before .before .before .before .before .before .before .before .before .before .before .before .before .before .before .lower-all .kept .1 .1 .1 .1 .1 .0
 
--- src/actions.rt:148:13
 same-length-4 : tie.Need-same-length-4
 same-length-4 c = c .before .before .before .before .before .take .kept .1 .0 ∙ c .before .before .before .before .before .before .before .before .before .before .put .kept .0 ∙ c .before .before .before .before .before .before .before .before .before .before .before .before .before .before .before .before .before .before .before .before .before .lower-all .kept .1 .1 .1 .1 .1 .1 .0
 
--- src/actions.rt:148:13
 returns-2 : tie.Need-returns-2
 returns-2 c =
     let a = c .before .before .before .before .before .before .before .before .before .before .before .before .before .before .before .before .before .before .before .before .before .before .before .before .before .before .before .before .before .args in
@@ -325,7 +298,6 @@ returns-2 c =
     let hs3 : length s3 ≡ length s = length-words-kept (t .last .1 .0) _ (t .kept .1 .0) ∙ length-words-kept (p .last .0) _ (p .kept .0) ∙ hs in
     λ sig x bound n sc. name-full sig bound ws (a .at) (a .to) (a .sp) (a .log) (a .scope) s cs x v w isv isw room s1 cs1 (k .result) (k .ensures sig (args-of sig bound ws (a .at) (a .to) (a .sp) (a .log) (a .scope) s cs x v w isv isw room) bound n sc) (c .before .before .before .before .before .before .before .before .before .before .before .before .before .before .before .if1 .left) (c .before .before .before .before .before .before .before .before .before .before .before .before .before .may-read .result) (c .before .before .before .before .before .before .before .before .before .before .before .before .before .may-read .ensures sig bound (name-scope sig bound ws (a .at) (a .to) (a .sp) (a .log) (a .scope) s cs x v w isv isw room s1 cs1 (k .result) (k .ensures sig (args-of sig bound ws (a .at) (a .to) (a .sp) (a .log) (a .scope) s cs x v w isv isw room) bound n sc) (c .before .before .before .before .before .before .before .before .before .before .before .before .before .before .before .if1 .left) sr sc)) (c .before .before .before .before .before .before .before .before .before .before .before .before .if2 .taken) s2 (p .ensures) (t .result) s3 cs2 (t .ensures) _ (c .if3 .taken) refl
 
--- src/actions.rt:150:73
 add-put-terms : tie.Need-add-put-terms
 add-put-terms c =
     let a = c .before .before .before .before .before .before .before .before .before .before .before .before .before .before .before .before .before .before .before .before .before .before .before .before .before .before .before .before .before .before .args in
@@ -347,7 +319,6 @@ add-put-terms c =
     let r = name-room (q .sig) (q .known .2 .bound) ws (a .at) (a .to) (a .sp) (a .log) (a .scope) s cs (q .known .0) v w isv isw room s1 cs1 (k .result) (k .ensures (q .sig) (args-of (q .sig) (q .known .2 .bound) ws (a .at) (a .to) (a .sp) (a .log) (a .scope) s cs (q .known .0) v w isv isw room) (q .known .2 .bound) (q .known .1) (q .known .2 .scoped)) (c .before .before .before .before .before .before .before .before .before .before .before .before .before .before .before .before .if1 .left) (length s1) hs in
     omega (arith, r .top, hs, length-words (a .scratch .now), c .before .before .before .before .before .before .before .before .before .before .before .before .before .before .before .before .before .before .before .before .before .before .before .before .before .before .before .before .before .before .good)
 
--- src/actions.rt:150:13
 put-terms-requires : tie.Need-put-terms-requires
 put-terms-requires c κs =
     let a = c .before .before .before .before .before .before .before .before .before .before .before .before .before .before .before .before .before .before .before .before .before .before .before .before .before .before .before .before .before .before .args in
@@ -376,7 +347,6 @@ put-terms-requires c κs =
     let r = name-room (q .sig) (q .known .2 .bound) ws (a .at) (a .to) (a .sp) (a .log) (a .scope) s cs (q .known .0) v w isv isw room s1 cs1 (k .result) (k .ensures (q .sig) (args-of (q .sig) (q .known .2 .bound) ws (a .at) (a .to) (a .sp) (a .log) (a .scope) s cs (q .known .0) v w isv isw room) (q .known .2 .bound) (q .known .1) (q .known .2 .scoped)) (c .before .before .before .before .before .before .before .before .before .before .before .before .before .before .before .before .if1 .left) (length s3) hs3 in
     (r .words, r .terms)
 
--- src/actions.rt:151:68
 add-t30 : tie.Need-add-t30
 add-t30 c =
     let a = c .before .before .before .before .before .before .before .before .before .before .before .before .before .before .before .before .before .before .before .before .before .before .before .before .before .before .before .before .before .before .before .before .before .before .args in
@@ -398,7 +368,6 @@ add-t30 c =
     let r = name-room (q .sig) (q .known .2 .bound) ws (a .at) (a .to) (a .sp) (a .log) (a .scope) s cs (q .known .0) v w isv isw room s1 cs1 (k .result) (k .ensures (q .sig) (args-of (q .sig) (q .known .2 .bound) ws (a .at) (a .to) (a .sp) (a .log) (a .scope) s cs (q .known .0) v w isv isw room) (q .known .2 .bound) (q .known .1) (q .known .2 .scoped)) (c .before .before .before .before .before .before .before .before .before .before .before .before .before .before .before .before .before .before .before .before .if1 .left) (length s1) hs in
     omega (arith, r .log, hs, length-words (a .scratch .now), c .before .before .before .before .before .before .before .before .before .before .before .before .before .before .before .before .before .before .before .before .before .before .before .before .before .before .before .before .before .before .before .before .before .before .good)
 
--- src/actions.rt:151:122
 sub-t41 : tie.Need-sub-t41
 sub-t41 c =
     let a = c .before .before .before .before .before .before .before .before .before .before .before .before .before .before .before .before .before .before .before .before .before .before .before .before .before .before .before .before .before .before .before .before .before .before .before .args in
@@ -420,7 +389,6 @@ sub-t41 c =
     let r = name-room (q .sig) (q .known .2 .bound) ws (a .at) (a .to) (a .sp) (a .log) (a .scope) s cs (q .known .0) v w isv isw room s1 cs1 (k .result) (k .ensures (q .sig) (args-of (q .sig) (q .known .2 .bound) ws (a .at) (a .to) (a .sp) (a .log) (a .scope) s cs (q .known .0) v w isv isw room) (q .known .2 .bound) (q .known .1) (q .known .2 .scoped)) (c .before .before .before .before .before .before .before .before .before .before .before .before .before .before .before .before .before .before .before .before .before .if1 .left) (length s1) hs in
     r .logged
 
--- src/actions.rt:151:122
 add-t42 : tie.Need-add-t42
 add-t42 c =
     let a = c .before .before .before .before .before .before .before .before .before .before .before .before .before .before .before .before .before .before .before .before .before .before .before .before .before .before .before .before .before .before .before .before .before .before .before .args in
@@ -442,15 +410,12 @@ add-t42 c =
     let r = name-room (q .sig) (q .known .2 .bound) ws (a .at) (a .to) (a .sp) (a .log) (a .scope) s cs (q .known .0) v w isv isw room s1 cs1 (k .result) (k .ensures (q .sig) (args-of (q .sig) (q .known .2 .bound) ws (a .at) (a .to) (a .sp) (a .log) (a .scope) s cs (q .known .0) v w isv isw room) (q .known .2 .bound) (q .known .1) (q .known .2 .scoped)) (c .before .before .before .before .before .before .before .before .before .before .before .before .before .before .before .before .before .before .before .before .before .if1 .left) (length s1) hs in
     omega (arith, r .log, hs, length-words (a .scratch .now), c .before .before .before .before .before .before .before .before .before .before .before .before .before .before .before .before .before .before .before .before .before .before .before .before .before .before .before .before .before .before .before .before .before .before .before .good)
 
--- src/actions.rt:151:9
 same-length-5 : tie.Need-same-length-5
 same-length-5 c = c .before .before .before .before .before .before .before .before .before .before .before .take .kept .0 ∙ c .before .before .before .before .before .before .before .before .before .before .before .before .before .before .before .before .before .before .before .before .before .before .before .before .before .before .before .lower-all .kept .1 .1 .1 .1 .1 .0
 
--- src/actions.rt:151:9
 same-length-6 : tie.Need-same-length-6
 same-length-6 c = c .before .before .before .before .put-terms .kept .0 ∙ c .before .before .before .before .before .before .before .before .before .before .before .take .kept .1 .0 ∙ c .before .before .before .before .before .before .before .before .before .before .before .before .before .before .before .before .put .kept .0 ∙ c .before .before .before .before .before .before .before .before .before .before .before .before .before .before .before .before .before .before .before .before .before .before .before .before .before .before .before .lower-all .kept .1 .1 .1 .1 .1 .1 .0
 
--- src/actions.rt:151:9
 returns-3 : tie.Need-returns-3
 returns-3 c =
     let a = c .before .before .before .before .before .before .before .before .before .before .before .before .before .before .before .before .before .before .before .before .before .before .before .before .before .before .before .before .before .before .before .before .before .before .before .args in
@@ -478,7 +443,6 @@ returns-3 c =
     let hs3 : length s3 ≡ length s = length-words-kept (t .last .1 .0) _ (t .kept .1 .0) ∙ length-words-kept (p .last .0) _ (p .kept .0) ∙ hs in
     λ sig x bound n sc. name-done sig bound ws (a .at) (a .to) (a .sp) (a .log) (a .scope) s cs x v w isv isw room s1 cs1 (k .result) (k .ensures sig (args-of sig bound ws (a .at) (a .to) (a .sp) (a .log) (a .scope) s cs x v w isv isw room) bound n sc) (c .before .before .before .before .before .before .before .before .before .before .before .before .before .before .before .before .before .before .before .before .before .if1 .left) (c .before .before .before .before .before .before .before .before .before .before .before .before .before .before .before .before .before .before .before .may-read .result) (c .before .before .before .before .before .before .before .before .before .before .before .before .before .before .before .before .before .before .before .may-read .ensures sig bound (name-scope sig bound ws (a .at) (a .to) (a .sp) (a .log) (a .scope) s cs x v w isv isw room s1 cs1 (k .result) (k .ensures sig (args-of sig bound ws (a .at) (a .to) (a .sp) (a .log) (a .scope) s cs x v w isv isw room) bound n sc) (c .before .before .before .before .before .before .before .before .before .before .before .before .before .before .before .before .before .before .before .before .before .if1 .left) sr sc)) (c .before .before .before .before .before .before .before .before .before .before .before .before .before .before .before .before .before .before .if2 .taken) s2 (p .ensures) (t .result) s3 cs2 (t .ensures) sr sc _ _ _ (c .before .before .before .before .before .before .if3 .left) hc2 hs3 (c .before .before .before .before .put-terms .ensures .0) (c .before .before .before .before .put-terms .ensures .1) refl refl refl
 
--- src/actions.rt:153:32
 add-t16 : tie.Need-add-t16
 add-t16 c =
     let a = c .before .before .before .before .before .before .before .before .before .before .before .before .before .before .before .before .before .args in
@@ -492,15 +456,12 @@ add-t16 c =
     let i = x .exprs .inside in
     omega (arith, length-words (a .rule .now), c .before .before .before .before .before .before .before .before .before .before .before .before .before .before .before .before .before .good)
 
--- src/actions.rt:129:1
 same-length-7 : tie.Need-same-length-7
 same-length-7 c = search needs
 
--- src/actions.rt:129:1
 same-length-8 : tie.Need-same-length-8
 same-length-8 c = search needs
 
--- src/actions.rt:129:1
 returns-4 : tie.Need-returns-4
 returns-4 c =
     let a = c .before .before .before .before .before .before .before .before .before .before .before .before .before .before .before .before .before .args in

@@ -1,16 +1,15 @@
-use Prim.Native.Nat.{ℕ, _+_, _*_, _-_, _/_, _%_, _<_, _≤_}
-use mathlib.Core.Path.{_≡_, refl, sym, ap, _∙_, subst}
+use Prim.Native.Nat.{ℕ, _+_, _*_, _-_, _<_, _≤_}
+use mathlib.Core.Path.{_≡_, refl, _∙_}
 use mathlib.Core.List.{List}
 use native.Mathlib.Omega.{arith}
 use lib.ListN.{length, getD}
 use Rattle.octets.specs.Words.{words}
 use Rattle.octets.proofs.Words.{length-words, length-words-kept}
-use Rattle.rules.specs.Words.{headOf, countOf}
 use Rattle.rules.specs.Signature.{Sig}
-use Rattle.walks.specs.Steps.{Room, Under, Counted, ExprAt, ExprsAt}
-use Rattle.walks.proofs.Asks.{expr-inside, counted-kept, first-at, room-in, call-facts}
+use Rattle.walks.specs.Steps.{Counted, ExprsAt}
+use Rattle.walks.proofs.Asks.{expr-inside, counted-kept, first-at, call-facts}
 use Rattle.walks.proofs.Rows.{Going, going-start, going-room, Left, left-all, left-none, left-stop, left-next, left-going}
-use Rattle.core_actions.specs.Scopes.{Scoped, ScopeRoom, Names}
+use Rattle.core_actions.specs.Scopes.{Scoped}
 use Rattle.core_actions.specs.Lowered.{lowered, loweredAll}
 use Rattle.core_actions.proofs.Scopes.{scope-fits}
 use Rattle.core_actions.proofs.Pieces.{lowered-row}
@@ -52,7 +51,6 @@ abbrev lower-all-below : ℕ → In 3 lower-all-kinds.ps
 lower-all-below t =
     and 3 lower-all-kinds.ps (falls 3 lower-all-kinds.ps _<_ μ-lower-all t) lower-all.Pre
 
--- src/exprs.rt:25:9
 lower-get-requires : (t : ℕ) → lower-lts.Need-get-requires (
   get-reads.Asked,
   get-reads.Learnt,
@@ -76,7 +74,6 @@ lower-get-requires t c κs =
     let inside = expr-inside (q .sig) ws (a .depth) (a .at) (q .known .0) in
     inside
 
--- src/exprs.rt:27:12
 lower-may-read-requires : (t : ℕ) → lower-lts.Need-may-read-requires (
   get-reads.Asked,
   get-reads.Learnt,
@@ -100,7 +97,6 @@ lower-may-read-requires t c κs =
     let inside = expr-inside (q .sig) ws (a .depth) (a .at) (q .known .0) in
     scope-fits sr room (omega (arith, inside))
 
--- src/exprs.rt:28:33
 lower-add-t20 : (t : ℕ) → lower-lts.Need-add-t20 (
   get-reads.Asked,
   get-reads.Learnt,
@@ -124,7 +120,6 @@ lower-add-t20 t c =
     let inside = expr-inside (q .sig) ws (a .depth) (a .at) (q .known .0) in
     omega (arith, inside, length-words (a .rule .now), c .before .before .before .before .before .before .before .before .good)
 
--- src/exprs.rt:28:13
 lower-same-length : (t : ℕ) → lower-lts.Need-same-length (
   get-reads.Asked,
   get-reads.Learnt,
@@ -139,7 +134,6 @@ lower-same-length : (t : ℕ) → lower-lts.Need-same-length (
 ) (lower-at t) lower.Post
 lower-same-length t c = search needs
 
--- src/exprs.rt:28:13
 lower-returns : (t : ℕ) → lower-lts.Need-returns (
   get-reads.Asked,
   get-reads.Learnt,
@@ -164,7 +158,6 @@ lower-returns t c =
     let is : w ≡ getD ws (a .at) 0 = c .before .before .before .before .get .ensures .is in
     λ sig x bound n sc. read-way sig bound ws (a .depth) (a .at) (a .to) (a .sp) (a .log) s cs x n w is (c .before .before .before .if1 .taken) (c .before .may-read .result) (c .before .may-read .ensures sig bound sc) (c .if2 .taken)
 
--- src/exprs.rt:30:9
 lower-same-length-2 : (t : ℕ) → lower-lts.Need-same-length-2 (
   get-reads.Asked,
   get-reads.Learnt,
@@ -179,7 +172,6 @@ lower-same-length-2 : (t : ℕ) → lower-lts.Need-same-length-2 (
 ) (lower-at t) lower.Post
 lower-same-length-2 t c = search needs
 
--- src/exprs.rt:30:9
 lower-returns-2 : (t : ℕ) → lower-lts.Need-returns-2 (
   get-reads.Asked,
   get-reads.Learnt,
@@ -204,7 +196,6 @@ lower-returns-2 t c =
     let is : w ≡ getD ws (a .at) 0 = c .before .before .before .before .get .ensures .is in
     λ sig x bound n sc. unbound-way sig bound ws (a .depth) (a .at) (a .to) (a .sp) (a .log) s cs x n w is (c .before .before .before .if1 .taken) (c .before .may-read .result) (c .before .may-read .ensures sig bound sc) (c .if2 .left)
 
--- src/exprs.rt:32:14
 lower-sub-h : (t : ℕ) → lower-lts.Need-sub-h (
   get-reads.Asked,
   get-reads.Learnt,
@@ -230,7 +221,6 @@ lower-sub-h t c =
     let f = call-facts (q .sig) ws (a .depth) (a .at) cs w (q .known .0) (q .known .1) is (c .if1 .left) in
     omega (arith, f .high)
 
--- src/exprs.rt:33:14
 lower-sub-n : (t : ℕ) → lower-lts.Need-sub-n (
   get-reads.Asked,
   get-reads.Learnt,
@@ -256,7 +246,6 @@ lower-sub-n t c =
     let f = call-facts (q .sig) ws (a .depth) (a .at) cs w (q .known .0) (q .known .1) is (c .if1 .left) in
     omega (arith, f .high)
 
--- src/exprs.rt:34:32
 lower-add-lower-all : (t : ℕ) → lower-lts.Need-add-lower-all (
   get-reads.Asked,
   get-reads.Learnt,
@@ -282,7 +271,6 @@ lower-add-lower-all t c =
     let f = call-facts (q .sig) ws (a .depth) (a .at) cs w (q .known .0) (q .known .1) is (c .if1 .left) in
     omega (arith, f .inside, length-words (a .rule .now))
 
--- src/exprs.rt:34:40
 lower-cast-lower-all : (t : ℕ) → lower-lts.Need-cast-lower-all (
   get-reads.Asked,
   get-reads.Learnt,
@@ -297,7 +285,6 @@ lower-cast-lower-all : (t : ℕ) → lower-lts.Need-cast-lower-all (
 ) (lower-at t) lower.Post
 lower-cast-lower-all t c = search needs
 
--- src/exprs.rt:34:52
 lower-sub-lower-all : (t : ℕ) → lower-lts.Need-sub-lower-all (
   get-reads.Asked,
   get-reads.Learnt,
@@ -323,7 +310,6 @@ lower-sub-lower-all t c =
     let f = call-facts (q .sig) ws (a .depth) (a .at) cs w (q .known .0) (q .known .1) is (c .if1 .left) in
     omega (arith, f .deep)
 
--- src/exprs.rt:34:9
 lower-lower-all-requires : (t : ℕ) → lower-lts.Need-lower-all-requires (
   get-reads.Asked,
   get-reads.Learnt,
@@ -354,7 +340,6 @@ lower-lower-all-requires t c κs =
       ),
     )
 
--- src/exprs.rt:36:9
 lower-same-length-3 : (t : ℕ) → lower-lts.Need-same-length-3 (
   get-reads.Asked,
   get-reads.Learnt,
@@ -369,7 +354,6 @@ lower-same-length-3 : (t : ℕ) → lower-lts.Need-same-length-3 (
 ) (lower-at t) lower.Post
 lower-same-length-3 t c = search needs
 
--- src/exprs.rt:36:9
 lower-same-length-4 : (t : ℕ) → lower-lts.Need-same-length-4 (
   get-reads.Asked,
   get-reads.Learnt,
@@ -384,7 +368,6 @@ lower-same-length-4 : (t : ℕ) → lower-lts.Need-same-length-4 (
 ) (lower-at t) lower.Post
 lower-same-length-4 t c = search needs
 
--- src/exprs.rt:36:9
 lower-returns-3 : (t : ℕ) → lower-lts.Need-returns-3 (
   get-reads.Asked,
   get-reads.Learnt,
@@ -415,7 +398,6 @@ lower-returns-3 t c =
     let hs : length s1 ≡ length s = length-words-kept (k .last .1 .1 .1 .1 .1 .1 .0) (a .scratch .now) (k .kept .1 .1 .1 .1 .1 .1 .0) in
     λ sig x bound n sc. stop-way sig bound ws (a .depth) (a .at) (a .to) (a .sp) (a .log) s cs x n w is (c .before .before .before .before .before .before .before .before .before .if1 .left) s1 cs1 (k .result) (λ es. k .ensures sig es bound n sc) (c .if3 .taken)
 
--- src/exprs.rt:38:9
 lower-take-requires : (t : ℕ) → lower-lts.Need-take-requires (
   get-reads.Asked,
   get-reads.Learnt,
@@ -447,7 +429,6 @@ lower-take-requires t c κs =
     let r = call-room (q .sig) (q .known .2 .bound) ws (a .depth) (a .at) (a .to) (a .sp) (a .log) s cs (q .known .0) (q .known .1) w is (c .before .before .before .before .before .before .before .before .before .before .before .if1 .left) s1 cs1 (k .result) (λ es. k .ensures (q .sig) es (q .known .2 .bound) (q .known .1) (q .known .2 .scoped)) (c .before .before .if3 .left) room (length s1) hs in
     (f .small, omega (arith, f .low, hc), r .0)
 
--- src/exprs.rt:40:9
 lower-same-length-5 : (t : ℕ) → lower-lts.Need-same-length-5 (
   get-reads.Asked,
   get-reads.Learnt,
@@ -462,7 +443,6 @@ lower-same-length-5 : (t : ℕ) → lower-lts.Need-same-length-5 (
 ) (lower-at t) lower.Post
 lower-same-length-5 t c = c .before .before .before .before .before .take .kept .0 ∙ c .before .before .before .before .before .before .before .before .before .before .before .before .before .before .lower-all .kept .1 .1 .1 .1 .1 .0
 
--- src/exprs.rt:40:9
 lower-same-length-6 : (t : ℕ) → lower-lts.Need-same-length-6 (
   get-reads.Asked,
   get-reads.Learnt,
@@ -477,7 +457,6 @@ lower-same-length-6 : (t : ℕ) → lower-lts.Need-same-length-6 (
 ) (lower-at t) lower.Post
 lower-same-length-6 t c = c .before .before .before .before .before .take .kept .1 .0 ∙ c .before .before .before .before .before .before .before .before .before .before .before .before .before .before .lower-all .kept .1 .1 .1 .1 .1 .1 .0
 
--- src/exprs.rt:40:9
 lower-returns-4 : (t : ℕ) → lower-lts.Need-returns-4 (
   get-reads.Asked,
   get-reads.Learnt,
@@ -513,7 +492,6 @@ lower-returns-4 t c =
     let hs2 : length s2 ≡ length s = length-words-kept (t .last .1 .0) _ (t .kept .1 .0) ∙ hs in
     λ sig x bound n sc. full-way sig bound ws (a .depth) (a .at) (a .to) (a .sp) (a .log) s cs x n w is (c .before .before .before .before .before .before .before .before .before .before .before .before .before .before .before .before .before .if1 .left) s1 cs1 (k .result) (λ es. k .ensures sig es bound n sc) (c .before .before .before .before .before .before .before .before .if3 .left) room (t .result) s2 cs2 (t .ensures) (c .if4 .taken)
 
--- src/exprs.rt:42:72
 lower-cast-put-call : (t : ℕ) → lower-lts.Need-cast-put-call (
   get-reads.Asked,
   get-reads.Learnt,
@@ -528,7 +506,6 @@ lower-cast-put-call : (t : ℕ) → lower-lts.Need-cast-put-call (
 ) (lower-at t) lower.Post
 lower-cast-put-call t c = search needs
 
--- src/exprs.rt:42:9
 lower-put-call-requires : (t : ℕ) → lower-lts.Need-put-call-requires (
   get-reads.Asked,
   get-reads.Learnt,
@@ -565,7 +542,6 @@ lower-put-call-requires t c κs =
     let r = call-room (q .sig) (q .known .2 .bound) ws (a .depth) (a .at) (a .to) (a .sp) (a .log) s cs (q .known .0) (q .known .1) w is (c .before .before .before .before .before .before .before .before .before .before .before .before .before .before .before .before .before .before .if1 .left) s1 cs1 (k .result) (λ es. k .ensures (q .sig) es (q .known .2 .bound) (q .known .1) (q .known .2 .scoped)) (c .before .before .before .before .before .before .before .before .before .if3 .left) room (length s2) hs2 in
     (r .1, r .2)
 
--- src/exprs.rt:43:43
 lower-add-t23 : (t : ℕ) → lower-lts.Need-add-t23 (
   get-reads.Asked,
   get-reads.Learnt,
@@ -601,7 +577,6 @@ lower-add-t23 t c =
     let hs2 : length s2 ≡ length s = length-words-kept (t .last .1 .0) _ (t .kept .1 .0) ∙ hs in
     omega (arith, call-room (q .sig) (q .known .2 .bound) ws (a .depth) (a .at) (a .to) (a .sp) (a .log) s cs (q .known .0) (q .known .1) w is (c .before .before .before .before .before .before .before .before .before .before .before .before .before .before .before .before .before .before .before .before .before .before .if1 .left) s1 cs1 (k .result) (λ es. k .ensures (q .sig) es (q .known .2 .bound) (q .known .1) (q .known .2 .scoped)) (c .before .before .before .before .before .before .before .before .before .before .before .before .before .if3 .left) room (length s1) hs .0, length-words (a .scratch .now), hs, c .before .before .before .before .before .before .before .before .before .before .before .before .before .before .before .before .before .before .before .before .before .before .before .before .before .before .before .good)
 
--- src/exprs.rt:18:1
 lower-same-length-7 : (t : ℕ) → lower-lts.Need-same-length-7 (
   get-reads.Asked,
   get-reads.Learnt,
@@ -616,7 +591,6 @@ lower-same-length-7 : (t : ℕ) → lower-lts.Need-same-length-7 (
 ) (lower-at t) lower.Post
 lower-same-length-7 t c = c .before .before .before .before .before .before .before .before .before .before .take .kept .0 ∙ c .before .before .before .before .before .before .before .before .before .before .before .before .before .before .before .before .before .before .before .lower-all .kept .1 .1 .1 .1 .1 .0
 
--- src/exprs.rt:18:1
 lower-same-length-8 : (t : ℕ) → lower-lts.Need-same-length-8 (
   get-reads.Asked,
   get-reads.Learnt,
@@ -631,7 +605,6 @@ lower-same-length-8 : (t : ℕ) → lower-lts.Need-same-length-8 (
 ) (lower-at t) lower.Post
 lower-same-length-8 t c = c .before .before .before .put-call .kept .0 ∙ c .before .before .before .before .before .before .before .before .before .before .take .kept .1 .0 ∙ c .before .before .before .before .before .before .before .before .before .before .before .before .before .before .before .before .before .before .before .lower-all .kept .1 .1 .1 .1 .1 .1 .0
 
--- src/exprs.rt:18:1
 lower-returns-5 : (t : ℕ) → lower-lts.Need-returns-5 (
   get-reads.Asked,
   get-reads.Learnt,
@@ -676,7 +649,6 @@ lower-all-Inv-loop rule at n depth scope counters₀ scratch₀ to sp log left�
 abbrev lower-all-μ-loop : lower-all-lts.MeasureT-loop
 lower-all-μ-loop rule at n depth scope counters₀ scratch₀ to sp log left₀ top₀ walk₀ counters scratch left top walk = left
 
--- src/exprs.rt:57:5
 lower-all-loop-holds : (t : ℕ) → lower-all-lts.Need-loop-holds (
   lower-below t,
   lower.Post,
@@ -697,7 +669,6 @@ lower-all-loop-holds t c =
       λ sig x bound n sc. left-all (lowered sig bound) (loweredAll sig bound) (lowered-row sig bound) sig ws (a .depth) (a .n) (a .at) (a .to) (a .sp) (a .log) s cs x 0,
     )
 
--- src/exprs.rt:58:9
 lower-all-lower-requires : (t : ℕ) → lower-all-lts.Need-lower-requires (
   lower-below t,
   lower.Post,
@@ -731,7 +702,6 @@ lower-all-lower-requires t c κs =
       ),
     )
 
--- src/exprs.rt:60:13
 lower-all-same-length : (t : ℕ) → lower-all-lts.Need-same-length (
   lower-below t,
   lower.Post,
@@ -740,7 +710,6 @@ lower-all-same-length : (t : ℕ) → lower-all-lts.Need-same-length (
 ) (lower-all-at t) lower-all.Post lower-all-Inv-loop lower-all-μ-loop
 lower-all-same-length t c = c .before .before .before .before .before .before .lower .kept .1 .1 .1 .1 .0 ∙ c .before .before .before .before .before .before .before .before .before .before .loop .inv .0
 
--- src/exprs.rt:60:13
 lower-all-same-length-2 : (t : ℕ) → lower-all-lts.Need-same-length-2 (
   lower-below t,
   lower.Post,
@@ -749,7 +718,6 @@ lower-all-same-length-2 : (t : ℕ) → lower-all-lts.Need-same-length-2 (
 ) (lower-all-at t) lower-all.Post lower-all-Inv-loop lower-all-μ-loop
 lower-all-same-length-2 t c = c .before .before .before .before .before .before .lower .kept .1 .1 .1 .1 .1 .0 ∙ c .before .before .before .before .before .before .before .before .before .before .loop .inv .1
 
--- src/exprs.rt:60:13
 lower-all-returns : (t : ℕ) → lower-all-lts.Need-returns (
   lower-below t,
   lower.Post,
@@ -782,7 +750,6 @@ lower-all-returns t c =
     let hs2 : length s2 ≡ length s1 = length-words-kept (k .last .1 .1 .1 .1 .1 .0) (l .scratch) (k .kept .1 .1 .1 .1 .1 .0) in
     λ sig x bound n sc. left-stop (lowered sig bound) (loweredAll sig bound) (lowered-row sig bound) sig ws (a .depth) (a .n) (a .at) (a .to) (a .sp) (a .log) s cs x (l .left) (l .top) s1 cs1 (l .walk) (i .3 sig x bound n sc) (c .before .before .before .before .before .before .before .before .before .loop-test .taken) now s2 cs2 (k .result) (λ y. k .ensures sig y bound (counted-kept n hc) (scope-going (length ws) sr (i .2) le sc)) (c .if1 .taken)
 
--- src/exprs.rt:62:9
 lower-all-put-requires : (t : ℕ) → lower-all-lts.Need-put-requires (
   lower-below t,
   lower.Post,
@@ -815,7 +782,6 @@ lower-all-put-requires t c κs =
     let hs2 : length s2 ≡ length s1 = length-words-kept (k .last .1 .1 .1 .1 .1 .0) (l .scratch) (k .kept .1 .1 .1 .1 .1 .0) in
     omega (arith, now .stack, now .log, inside, hs2)
 
--- src/exprs.rt:63:9
 lower-all-add-top : (t : ℕ) → lower-all-lts.Need-add-top (
   lower-below t,
   lower.Post,
@@ -844,7 +810,6 @@ lower-all-add-top t c =
     let le : l .walk .next ≤ length ws = omega arith in
     omega (arith, now .stack, now .log, inside, hs, length-words (a .scratch .now), c .before .before .before .before .before .before .before .before .before .before .before .before .before .before .before .before .before .before .good)
 
--- src/exprs.rt:64:9
 lower-all-sub-left : (t : ℕ) → lower-all-lts.Need-sub-left (
   lower-below t,
   lower.Post,
@@ -853,7 +818,6 @@ lower-all-sub-left : (t : ℕ) → lower-all-lts.Need-sub-left (
 ) (lower-all-at t) lower-all.Post lower-all-Inv-loop lower-all-μ-loop
 lower-all-sub-left t c = omega (arith, c .before .before .before .before .before .before .before .before .before .before .before .before .before .loop-test .taken)
 
--- src/exprs.rt:57:5
 lower-all-loop-less : (t : ℕ) → lower-all-lts.Need-loop-less (
   lower-below t,
   lower.Post,
@@ -862,7 +826,6 @@ lower-all-loop-less : (t : ℕ) → lower-all-lts.Need-loop-less (
 ) (lower-all-at t) lower-all.Post lower-all-Inv-loop lower-all-μ-loop
 lower-all-loop-less t c = omega (arith, c .before .before .before .before .before .before .before .before .before .before .before .before .before .loop-test .taken)
 
--- src/exprs.rt:57:5
 lower-all-loop-again : (t : ℕ) → lower-all-lts.Need-loop-again (
   lower-below t,
   lower.Post,
@@ -900,7 +863,6 @@ lower-all-loop-again t c =
       λ sig x bound n sc. left-next (lowered sig bound) (loweredAll sig bound) (lowered-row sig bound) sig ws (a .depth) (a .n) (a .at) (a .to) (a .sp) (a .log) s cs x (l .left) (l .top) s1 cs1 (l .walk) (i .3 sig x bound n sc) (c .before .before .before .before .before .before .before .before .before .before .before .before .before .loop-test .taken) now s2 cs2 (k .result) (λ y. k .ensures sig y bound (counted-kept n hc) (scope-going (length ws) sr (i .2) le sc)) _ (c .before .before .before .before .if1 .left) (p .ensures),
     )
 
--- src/exprs.rt:47:1
 lower-all-same-length-3 : (t : ℕ) → lower-all-lts.Need-same-length-3 (
   lower-below t,
   lower.Post,
@@ -909,7 +871,6 @@ lower-all-same-length-3 : (t : ℕ) → lower-all-lts.Need-same-length-3 (
 ) (lower-all-at t) lower-all.Post lower-all-Inv-loop lower-all-μ-loop
 lower-all-same-length-3 t c = c .before .loop .inv .0
 
--- src/exprs.rt:47:1
 lower-all-same-length-4 : (t : ℕ) → lower-all-lts.Need-same-length-4 (
   lower-below t,
   lower.Post,
@@ -918,7 +879,6 @@ lower-all-same-length-4 : (t : ℕ) → lower-all-lts.Need-same-length-4 (
 ) (lower-all-at t) lower-all.Post lower-all-Inv-loop lower-all-μ-loop
 lower-all-same-length-4 t c = c .before .loop .inv .1
 
--- src/exprs.rt:47:1
 lower-all-returns-2 : (t : ℕ) → lower-all-lts.Need-returns-2 (
   lower-below t,
   lower.Post,

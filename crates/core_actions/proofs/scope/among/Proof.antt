@@ -1,5 +1,5 @@
-use mathlib.Core.Path.{_≡_, refl, sym, ap, _∙_}
-use Prim.Native.Nat.{ℕ, _+_, _-_, _≤_, _<_}
+use mathlib.Core.Path.{_≡_, refl, ap, _∙_}
+use Prim.Native.Nat.{ℕ, _-_, _≤_}
 use native.Mathlib.Omega.{arith}
 use Rattle.octets.specs.Words.{words}
 use Rattle.octets.specs.Regions.{part}
@@ -21,31 +21,24 @@ Inv-loop s from n w found₀ i₀ found i = (i ≤ n) × (found ≤ 1) × (eqb f
 abbrev μ-loop : tie.MeasureT-loop
 μ-loop s from n w found₀ i₀ found i = n - i
 
--- src/scope.rt:37:5
 loop-holds : tie.Need-loop-holds Inv-loop μ-loop
 loop-holds c = (search needs, search needs, refl)
 
--- src/scope.rt:38:32
 add-get : tie.Need-add-get Inv-loop μ-loop
 add-get c = omega (arith, length-words (c .before .before .before .args .s .now))
 
--- src/scope.rt:38:13
 get-requires : tie.Need-get-requires Inv-loop μ-loop
 get-requires c κs = omega arith
 
--- src/scope.rt:39:9
 hit-requires : tie.Need-hit-requires Inv-loop μ-loop
 hit-requires c κs = search needs
 
--- src/scope.rt:40:9
 add-i : tie.Need-add-i Inv-loop μ-loop
 add-i c = search needs
 
--- src/scope.rt:37:5
 loop-less : tie.Need-loop-less Inv-loop μ-loop
 loop-less c = search needs
 
--- src/scope.rt:37:5
 loop-again : tie.Need-loop-again Inv-loop μ-loop
 loop-again c =
     let a = c .before .before .before .before .before .args in
@@ -55,7 +48,6 @@ loop-again c =
       ap (λ (h : ℕ). eqb h 1) (c .hit .ensures) ∙ scan-more (words (a .s .now)) (a .from) (l .i) (a .w) (l .found) (c .before .get .result) (omega arith) (c .before .get .ensures .is) (l .inv .2),
     )
 
--- src/scope.rt:31:1
 returns : tie.Need-returns Inv-loop μ-loop
 returns c =
     let a = c .before .before .before .args in

@@ -8,21 +8,17 @@ use Rattle.core_actions.proofs.scope.has.Reads as reads
 use Rattle.core_actions.proofs.scope.has.Lts as lts
 use Rattle.core_actions.proofs.scope.among.Reads as among-reads
 
--- src/scope.rt:50:8
 among-requires : tie.Need-among-requires
 among-requires c κs = search needs
 
--- src/scope.rt:51:9
 returns : tie.Need-returns
 returns c =
     let a = c .before .before .before .args in
     sym (in-body (words (a .s .now)) (a .scope) (a .w) (sym (c .before .among .ensures) ∙ c .if1 .taken))
 
--- src/scope.rt:53:5
 among-requires-2 : tie.Need-among-requires-2
 among-requires-2 c κs = search needs
 
--- src/scope.rt:46:1
 returns-2 : tie.Need-returns-2
 returns-2 c =
     let a = c .before .before .before .before .args in

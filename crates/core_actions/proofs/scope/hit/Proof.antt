@@ -5,11 +5,9 @@ use Rattle.core_actions.proofs.scope.hit.Tie as tie
 use Rattle.core_actions.proofs.scope.hit.Reads as reads
 use Rattle.core_actions.proofs.scope.hit.Lts as lts
 
--- src/scope.rt:24:1
 returns : tie.Need-returns
 returns c = rw (eq-eqb _ _ (c .if1 .taken))
 
--- src/scope.rt:24:1
 returns-2 : tie.Need-returns-2
 returns-2 c = rw (ne-eqb _ _ (c .if1 .left))
 

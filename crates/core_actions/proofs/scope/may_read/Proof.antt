@@ -8,21 +8,17 @@ use Rattle.core_actions.proofs.scope.may_read.Reads as reads
 use Rattle.core_actions.proofs.scope.may_read.Lts as lts
 use Rattle.core_actions.proofs.scope.has.Reads as has-reads
 
--- src/scope.rt:61:12
 add-if1 : tie.Need-add-if1
 add-if1 c = search needs
 
--- src/scope.rt:62:9
 returns : tie.Need-returns
 returns c =
     let a = c .before .before .before .args in
     λ sig bound x old. reads-low sig bound (words (a .s .now)) (a .scope) (a .w) x (c .if1 .taken)
 
--- src/scope.rt:64:5
 has-requires : tie.Need-has-requires
 has-requires c κs = search needs
 
--- src/scope.rt:57:1
 returns-2 : tie.Need-returns-2
 returns-2 c =
     let a = c .before .before .before .before .args in

@@ -7,25 +7,20 @@ use Rattle.core_actions.proofs.scope.taken.Lts as lts
 use Rattle.core_actions.proofs.scope.among.Reads as among-reads
 use Rattle.core_actions.proofs.scope.has.Reads as has-reads
 
--- src/scope.rt:72:12
 add-if1 : tie.Need-add-if1
 add-if1 c = search needs
 
--- src/scope.rt:73:9
 among-requires : tie.Need-among-requires
 among-requires c κs = search needs
 
--- src/scope.rt:73:9
 returns : tie.Need-returns
 returns c =
     let a = c .before .before .before .before .args in
     λ sig bound x old. c .among .ensures ∙ sym (x .global (a .w) (c .before .if1 .taken))
 
--- src/scope.rt:75:5
 has-requires : tie.Need-has-requires
 has-requires c κs = search needs
 
--- src/scope.rt:68:1
 returns-2 : tie.Need-returns-2
 returns-2 c =
     let a = c .before .before .before .before .args in

@@ -9,21 +9,17 @@ use Rattle.core_actions.proofs.unions.arity.Tie as tie
 use Rattle.core_actions.proofs.unions.arity.Reads as reads
 use Rattle.core_actions.proofs.unions.arity.Lts as lts
 
--- src/unions.rt:32:18
 sub-result : tie.Need-sub-result
 sub-result c = omega (arith, c .before .pre)
 
--- src/unions.rt:32:16
 cast-result : tie.Need-cast-result
 cast-result c = search needs
 
--- src/unions.rt:32:9
 returns : tie.Need-returns
 returns c =
     let a = c .before .args in
     (sym (ap (λ (b : Bool). cond b (countOf (a .w)) 0) (lt-ltb (a .w) literalBase (c .if1 .taken))), omega arith)
 
--- src/unions.rt:27:1
 returns-2 : tie.Need-returns-2
 returns-2 c =
     let a = c .before .args in

@@ -1,13 +1,12 @@
-use Prim.Native.Nat.{ℕ, _+_, _-_, _≤_}
-use mathlib.Core.Path.{_≡_, refl, sym, ap, _∙_}
+use Prim.Native.Nat.{ℕ, _+_}
+use mathlib.Core.Path.{_≡_, sym, ap, _∙_}
 use native.Mathlib.Omega.{arith}
 use lib.Dec.{eqb}
-use lib.ListN.{length, getD}
+use lib.ListN.{getD}
 use borrow.Author.Tests.{eq-eqb, ne-eqb}
 use Rattle.octets.specs.Words.{words}
 use Rattle.octets.proofs.Words.{length-words}
-use Rattle.rules.specs.Words.{limit12, maxDepth, signatureBase, headOf}
-use Rattle.rules.specs.Signature.{Sig, heads}
+use Rattle.rules.specs.Words.{maxDepth, signatureBase, headOf}
 use Rattle.walks.proofs.Asks.{expr-inside}
 use Rattle.core_actions.proofs.UnionAsSet.{mode-off, left-high, left-head, left-no, left-low, left-set, right-at, right-low, right-leaf, right-high, right-head, right-no, right-set}
 use borrow.Author.Needs.{needs}
@@ -19,7 +18,6 @@ use Rattle.core_actions.proofs.unions.constructs.Reads as constructs-re
 use Rattle.core_actions.proofs.unions.skip.Reads as skip-reads
 use Rattle.octets.proofs.get.Reads as get-reads
 
--- src/unions.rt:66:8
 get-requires : tie.Need-get-requires
 get-requires c κs =
     let a = c .before .before .args in
@@ -32,7 +30,6 @@ get-requires c κs =
     let inside = expr-inside (q .sig) ws maxDepth (a .at + 1) (x .left) in
     omega (arith, sg .inside)
 
--- src/unions.rt:67:9
 returns : tie.Need-returns
 returns c =
     let a = c .before .before .before .before .args in
@@ -45,7 +42,6 @@ returns c =
     let inside = expr-inside (q .sig) ws maxDepth (a .at + 1) (x .left) in
     λ sig x few sg. mode-off sig (x .left .value) (x .right .value) (sg .flag ∙ ap (λ (u : ℕ). eqb u (signatureBase + 1)) (sym (c .before .get .ensures .is)) ∙ ne-eqb _ _ (c .if1 .taken))
 
--- src/unions.rt:69:34
 add-get : tie.Need-add-get
 add-get c =
     let a = c .before .before .before .before .args in
@@ -58,7 +54,6 @@ add-get c =
     let inside = expr-inside (q .sig) ws maxDepth (a .at + 1) (x .left) in
     omega (arith, inside, length-words (a .rule .now), c .before .before .before .before .good)
 
--- src/unions.rt:69:9
 get-requires-2 : tie.Need-get-requires-2
 get-requires-2 c κs =
     let a = c .before .before .before .before .args in
@@ -71,7 +66,6 @@ get-requires-2 c κs =
     let inside = expr-inside (q .sig) ws maxDepth (a .at + 1) (x .left) in
     inside
 
--- src/unions.rt:71:12
 constructs-requires : tie.Need-constructs-requires
 constructs-requires c κs =
     let a = c .before .before .before .before .before .before .args in
@@ -86,7 +80,6 @@ constructs-requires c κs =
     let is : w ≡ getD ws (a .at + 1) 0 = c .before .get2 .ensures .is in
     (left-high (q .sig) ws few (a .at) x w is (c .if2 .taken), omega (arith, left-head (q .sig) ws few (a .at) x w is (c .if2 .taken), sg .inside))
 
--- src/unions.rt:72:54
 add-skip : tie.Need-add-skip
 add-skip c =
     let a = c .before .before .before .before .before .before .before .before .args in
@@ -99,7 +92,6 @@ add-skip c =
     let inside = expr-inside (q .sig) ws maxDepth (a .at + 1) (x .left) in
     omega (arith, inside, length-words (a .rule .now), c .before .before .before .before .before .before .before .before .good)
 
--- src/unions.rt:72:43
 skip-requires : tie.Need-skip-requires
 skip-requires c κs =
     let a = c .before .before .before .before .before .before .before .before .args in
@@ -112,7 +104,6 @@ skip-requires c κs =
     let inside = expr-inside (q .sig) ws maxDepth (a .at + 1) (x .left) in
     record { sig = q .sig; known = (x .left, few) }
 
--- src/unions.rt:72:17
 get-requires-3 : tie.Need-get-requires-3
 get-requires-3 c κs =
     let a = c .before .before .before .before .before .before .before .before .before .args in
@@ -126,7 +117,6 @@ get-requires-3 c κs =
     let p = c .skip .ensures (q .sig) (x .left) few in
     omega (arith, expr-inside (q .sig) ws maxDepth (a .at + 1 + x .left .size) (x .right))
 
--- src/unions.rt:74:17
 returns-2 : tie.Need-returns-2
 returns-2 c =
     let a = c .before .before .before .before .before .before .before .before .before .before .before .args in
@@ -142,7 +132,6 @@ returns-2 c =
     λ sig x few sg. left-set sig ws few (a .at) x w is (c .before .before .before .before .before .if2 .taken) (c .before .get3 .result) (c .before .get3 .ensures .is ∙ ap (λ (i : ℕ). getD ws i 0) (c .before .before .skip .ensures sig (x .left) few)) (sg .flag ∙ ap (λ (u : ℕ). eqb u (signatureBase + 1)) (sym (c .before .before .before .before .before .before .before .before .get .ensures .is)) ∙ eq-eqb _ _ (c .before .before .before .before .before .before .before .if1 .left))
     (sg .kinds (headOf w) (left-head sig ws few (a .at) x w is (c .before .before .before .before .before .if2 .taken)) ∙ sym (c .before .before .before .before .constructs .ensures) ∙ c .before .before .before .if3 .taken) (c .if4 .taken)
 
--- src/unions.rt:77:9
 returns-3 : tie.Need-returns-3
 returns-3 c =
     let a = c .before .before .before .before .before .before .before .before .before .before .before .args in
@@ -157,7 +146,6 @@ returns-3 c =
     let is : w ≡ getD ws (a .at + 1) 0 = c .before .before .before .before .before .before .get2 .ensures .is in
     λ sig x few sg. left-low sig ws few (a .at) x w is (c .before .before .before .before .before .if2 .taken) (c .before .get3 .result) (c .before .get3 .ensures .is ∙ ap (λ (i : ℕ). getD ws i 0) (c .before .before .skip .ensures sig (x .left) few)) (c .if4 .left)
 
--- src/unions.rt:77:9
 returns-4 : tie.Need-returns-4
 returns-4 c =
     let a = c .before .before .before .before .before .before .before .before .args in
@@ -172,7 +160,6 @@ returns-4 c =
     let is : w ≡ getD ws (a .at + 1) 0 = c .before .before .before .get2 .ensures .is in
     λ sig x few sg. left-no sig ws few (a .at) x w is (c .before .before .if2 .taken) (sg .kinds (headOf w) (left-head sig ws few (a .at) x w is (c .before .before .if2 .taken)) ∙ sym (c .before .constructs .ensures) ∙ c .if3 .left)
 
--- src/unions.rt:80:39
 add-get-2 : tie.Need-add-get-2
 add-get-2 c =
     let a = c .before .before .before .before .before .before .before .args in
@@ -185,7 +172,6 @@ add-get-2 c =
     let inside = expr-inside (q .sig) ws maxDepth (a .at + 1) (x .left) in
     omega (arith, inside, length-words (a .rule .now), c .before .before .before .before .before .before .before .good)
 
--- src/unions.rt:80:13
 get-requires-4 : tie.Need-get-requires-4
 get-requires-4 c κs =
     let a = c .before .before .before .before .before .before .before .args in
@@ -200,7 +186,6 @@ get-requires-4 c κs =
     let is : w ≡ getD ws (a .at + 1) 0 = c .before .before .get2 .ensures .is in
     omega (arith, expr-inside (q .sig) ws maxDepth (a .at + 1 + x .left .size) (x .right), right-at (q .sig) ws few (a .at) x w is (c .before .if2 .left))
 
--- src/unions.rt:82:16
 constructs-requires-2 : tie.Need-constructs-requires-2
 constructs-requires-2 c κs =
     let a = c .before .before .before .before .before .before .before .before .before .args in
@@ -216,7 +201,6 @@ constructs-requires-2 c κs =
     let h = right-high (q .sig) ws few (a .at) x w is (c .before .before .before .if2 .left) (c .before .get4 .result) (c .before .get4 .ensures .is) (c .if6 .taken) in
     (h, omega (arith, right-head (q .sig) ws few (a .at) x w is (c .before .before .before .if2 .left) (c .before .get4 .result) (c .before .get4 .ensures .is) (c .if6 .taken), sg .inside))
 
--- src/unions.rt:83:17
 returns-5 : tie.Need-returns-5
 returns-5 c =
     let a = c .before .before .before .before .before .before .before .before .before .before .before .args in
@@ -232,7 +216,6 @@ returns-5 c =
     λ sig x few sg. right-set sig ws few (a .at) x w is (c .before .before .before .before .before .if2 .left) (c .before .before .before .get4 .result) (c .before .before .before .get4 .ensures .is) (c .before .before .if6 .taken) (sg .flag ∙ ap (λ (u : ℕ). eqb u (signatureBase + 1)) (sym (c .before .before .before .before .before .before .before .before .get .ensures .is)) ∙ eq-eqb _ _ (c .before .before .before .before .before .before .before .if1 .left))
     (sg .kinds (headOf (c .before .before .before .get4 .result)) (right-head sig ws few (a .at) x w is (c .before .before .before .before .before .if2 .left) (c .before .before .before .get4 .result) (c .before .before .before .get4 .ensures .is) (c .before .before .if6 .taken)) ∙ sym (c .before .constructs2 .ensures) ∙ c .if7 .taken) (c .before .before .before .before .if5 .taken)
 
--- src/unions.rt:62:1
 returns-6 : tie.Need-returns-6
 returns-6 c =
     let a = c .before .before .before .before .before .before .before .before .before .before .before .args in
@@ -247,7 +230,6 @@ returns-6 c =
     let is : w ≡ getD ws (a .at + 1) 0 = c .before .before .before .before .before .before .get2 .ensures .is in
     λ sig x few sg. right-no sig ws few (a .at) x w is (c .before .before .before .before .before .if2 .left) (c .before .before .before .get4 .result) (c .before .before .before .get4 .ensures .is) (c .before .before .if6 .taken) (sg .kinds (headOf (c .before .before .before .get4 .result)) (right-head sig ws few (a .at) x w is (c .before .before .before .before .before .if2 .left) (c .before .before .before .get4 .result) (c .before .before .before .get4 .ensures .is) (c .before .before .if6 .taken)) ∙ sym (c .before .constructs2 .ensures) ∙ c .if7 .left)
 
--- src/unions.rt:62:1
 returns-7 : tie.Need-returns-7
 returns-7 c =
     let a = c .before .before .before .before .before .before .before .before .before .args in
@@ -262,7 +244,6 @@ returns-7 c =
     let is : w ≡ getD ws (a .at + 1) 0 = c .before .before .before .before .get2 .ensures .is in
     λ sig x few sg. right-leaf sig ws few (a .at) x w is (c .before .before .before .if2 .left) (c .before .get4 .result) (c .before .get4 .ensures .is) (c .if6 .left)
 
--- src/unions.rt:62:1
 returns-8 : tie.Need-returns-8
 returns-8 c =
     let a = c .before .before .before .before .before .before .before .args in

@@ -10,23 +10,18 @@ use Rattle.core_actions.proofs.unions.constructs.Reads as reads
 use Rattle.core_actions.proofs.unions.constructs.Lts as lts
 use Rattle.octets.proofs.get.Reads as get-reads
 
--- src/unions.rt:57:15
 sub-h : tie.Need-sub-h
 sub-h c = omega (arith, c .before .pre .0)
 
--- src/unions.rt:57:13
 cast-h : tie.Need-cast-h
 cast-h c = search needs
 
--- src/unions.rt:58:28
 add-get : tie.Need-add-get
 add-get c = omega arith
 
--- src/unions.rt:58:5
 get-requires : tie.Need-get-requires
 get-requires c κs = c .before .pre .1
 
--- src/unions.rt:53:1
 returns : tie.Need-returns
 returns c =
     let a = c .before .before .args in

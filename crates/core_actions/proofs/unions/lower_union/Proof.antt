@@ -1,10 +1,6 @@
-use Prim.Native.Nat.{ℕ, _+_, _-_, _≤_}
-use mathlib.Core.Path.{_≡_, refl, sym, ap, _∙_}
-use mathlib.Core.List.{List}
+use mathlib.Core.Path.{sym, _∙_}
 use native.Mathlib.Omega.{arith}
-use lib.ListN.{length, getD}
 use Rattle.octets.specs.Words.{words}
-use Rattle.rules.specs.Signature.{Sig}
 use Rattle.core_actions.proofs.UnionAsSet.{stays, left-is, right-is, left-acts, right-acts, none-acts}
 use borrow.Author.Needs.{needs}
 use Rattle.core_actions.proofs.unions.lower_union.Statement.{statement}
@@ -16,7 +12,6 @@ use Rattle.core_actions.proofs.actions.set_name.Reads as set-name-reads
 use Rattle.core_actions.proofs.actions.unite.Reads as unite-reads
 use Rattle.core_actions.proofs.unions.as_set.Reads as as-set-reads
 
--- src/unions.rt:98:9
 as-set-requires : tie.Need-as-set-requires
 as-set-requires c κs =
     let a = c .before .before .before .before .args in
@@ -28,7 +23,6 @@ as-set-requires c κs =
     let sr = c .before .before .before .before .pre .1 .1 in
     record { sig = q .sig; known = (q .known .0, q .known .1 .few, q .known .3) }
 
--- src/unions.rt:100:9
 lower-change-requires : tie.Need-lower-change-requires
 lower-change-requires c κs =
     let a = c .before .before .before .before .before .before .before .before .args in
@@ -41,15 +35,12 @@ lower-change-requires c κs =
     let m = c .before .before .before .as-set in
     (record { sig = q .sig; known = ((left-is (q .sig) ws ((q .known .1) .few) (a .at) (q .known .0) (sym (c .before .before .if1 .taken) ∙ (m .ensures (q .sig) (q .known .0) ((q .known .1) .few) (q .known .3)))) .change, q .known .1, q .known .2) }, (room, (sr, omega arith)))
 
--- src/unions.rt:100:9
 same-length : tie.Need-same-length
 same-length c = search needs
 
--- src/unions.rt:100:9
 same-length-2 : tie.Need-same-length-2
 same-length-2 c = search needs
 
--- src/unions.rt:100:9
 returns : tie.Need-returns
 returns c =
     let a = c .before .before .before .before .before .before .before .before .before .before .before .before .before .args in
@@ -63,7 +54,6 @@ returns c =
     let k = c .before .before .before .before .lower-change in
     λ sig x bound n sc sg. let l = (left-is sig ws (n .few) (a .at) x (sym (c .before .before .before .before .before .before .before .if1 .taken) ∙ (m .ensures sig x (n .few) sg))) in left-acts sig bound ws (n .few) (a .at) (a .to) (a .sp) (a .log) (a .scope) s cs (words (k .last .1 .1 .1 .1 .1 .1 .0)) (words (k .last .1 .1 .1 .1 .1 .0)) x (k .result) l (k .ensures .0) sr sc (k .ensures .1 sig (l .change) bound n sc)
 
--- src/unions.rt:103:9
 set-name-requires : tie.Need-set-name-requires
 set-name-requires c κs =
     let a = c .before .before .before .before .before .before .before .before .before .args in
@@ -76,15 +66,12 @@ set-name-requires c κs =
     let m = c .before .before .before .before .as-set in
     (record { sig = q .sig; known = ((right-is (q .sig) ws ((q .known .1) .few) (a .at) (q .known .0) (sym (c .before .before .if2 .taken) ∙ (m .ensures (q .sig) (q .known .0) ((q .known .1) .few) (q .known .3)))) .named, q .known .1, q .known .2) }, (room, sr))
 
--- src/unions.rt:103:9
 same-length-3 : tie.Need-same-length-3
 same-length-3 c = search needs
 
--- src/unions.rt:103:9
 same-length-4 : tie.Need-same-length-4
 same-length-4 c = search needs
 
--- src/unions.rt:103:9
 returns-2 : tie.Need-returns-2
 returns-2 c =
     let a = c .before .before .before .before .before .before .before .before .before .before .before .before .before .before .args in
@@ -98,7 +85,6 @@ returns-2 c =
     let k = c .before .before .before .before .set-name in
     λ sig x bound n sc sg. let l = (right-is sig ws (n .few) (a .at) x (sym (c .before .before .before .before .before .before .before .if2 .taken) ∙ (m .ensures sig x (n .few) sg))) in right-acts sig bound ws (n .few) (a .at) (a .to) (a .sp) (a .log) (a .scope) s cs (words (k .last .1 .1 .1 .1 .0)) (words (k .last .1 .1 .1 .0)) x (k .result) l (k .ensures sig (l .named) bound n sc)
 
--- src/unions.rt:105:5
 unite-requires : tie.Need-unite-requires
 unite-requires c κs =
     let a = c .before .before .before .before .before .before .before .before .before .args in
@@ -111,15 +97,12 @@ unite-requires c κs =
     let m = c .before .before .before .before .as-set in
     (record { sig = q .sig; known = (q .known .0, q .known .1, q .known .2) }, (room, sr))
 
--- src/unions.rt:91:1
 same-length-5 : tie.Need-same-length-5
 same-length-5 c = search needs
 
--- src/unions.rt:91:1
 same-length-6 : tie.Need-same-length-6
 same-length-6 c = search needs
 
--- src/unions.rt:91:1
 returns-3 : tie.Need-returns-3
 returns-3 c =
     let a = c .before .before .before .before .before .before .before .before .before .before .before .before .before .before .args in

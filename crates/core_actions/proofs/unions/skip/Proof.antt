@@ -1,5 +1,5 @@
 use Prim.Native.Nat.{ℕ, _+_, _-_, _≤_}
-use mathlib.Core.Path.{_≡_, refl, sym, subst}
+use mathlib.Core.Path.{refl, sym, subst}
 use native.Mathlib.Omega.{arith}
 use lib.ListN.{length}
 use Rattle.octets.specs.Words.{words}
@@ -22,11 +22,9 @@ Inv-loop rule at left₀ next₀ left next = (sig : Sig) (x : ExprAt sig (words 
 abbrev μ-loop : tie.MeasureT-loop
 μ-loop rule at left₀ next₀ left next = length (words rule) - next
 
--- src/unions.rt:44:5
 loop-holds : tie.Need-loop-holds Inv-loop μ-loop
 loop-holds c = λ sig x few. (maxDepth, x, refl)
 
--- src/unions.rt:45:13
 get-requires : tie.Need-get-requires Inv-loop μ-loop
 get-requires c κs =
     let a = c .before .before .before .args in
@@ -37,11 +35,9 @@ get-requires c κs =
     let e = a .at + q .known .0 .size in
     forest-here (q .sig) ws (q .known .1) (l .left) (l .next) e _ f (c .loop-test .taken) refl .0
 
--- src/unions.rt:46:16
 sub-left : tie.Need-sub-left Inv-loop μ-loop
 sub-left c = omega (arith, c .before .loop-test .taken)
 
--- src/unions.rt:46:27
 arity-requires : tie.Need-arity-requires Inv-loop μ-loop
 arity-requires c κs =
     let a = c .before .before .before .before .args in
@@ -54,7 +50,6 @@ arity-requires c κs =
     let h = forest-here (q .sig) ws (q .known .1) (l .left) (l .next) e w f (c .before .loop-test .taken) (c .get .ensures .is) in
     h .1
 
--- src/unions.rt:46:16
 add-left : tie.Need-add-left Inv-loop μ-loop
 add-left c =
     let a = c .before .before .before .before .before .args in
@@ -67,7 +62,6 @@ add-left c =
     let h = forest-here (q .sig) ws (q .known .1) (l .left) (l .next) e w f (c .before .before .loop-test .taken) (c .before .get .ensures .is) in
     omega (arith, c .arity .ensures .1, forest-in (q .sig) ws (l .left) (l .next) e f, q .known .0 .inside, length-words (a .rule .now), c .before .before .before .before .before .good)
 
--- src/unions.rt:47:9
 add-next : tie.Need-add-next Inv-loop μ-loop
 add-next c =
     let a = c .before .before .before .before .before .args in
@@ -80,7 +74,6 @@ add-next c =
     let h = forest-here (q .sig) ws (q .known .1) (l .left) (l .next) e w f (c .before .before .loop-test .taken) (c .before .get .ensures .is) in
     omega (arith, h .0, length-words (a .rule .now), c .before .before .before .before .before .good)
 
--- src/unions.rt:44:5
 loop-less : tie.Need-loop-less Inv-loop μ-loop
 loop-less c =
     let a = c .before .before .before .before .before .args in
@@ -93,7 +86,6 @@ loop-less c =
     let h = forest-here (q .sig) ws (q .known .1) (l .left) (l .next) e w f (c .before .before .loop-test .taken) (c .before .get .ensures .is) in
     omega (arith, h .0)
 
--- src/unions.rt:44:5
 loop-again : tie.Need-loop-again Inv-loop μ-loop
 loop-again c =
     let a = c .before .before .before .before .before .args in
@@ -105,7 +97,6 @@ loop-again c =
     λ sig x few. subst (λ (k : ℕ). Forest sig ws (l .left - 1 + k) (l .next + 1) (a .at + x .size)) (sym (c .arity .ensures .0))
     (forest-step sig ws few (l .left) (l .next) (a .at + x .size) (c .before .get .result) (l .inv sig x few) (c .before .before .loop-test .taken) (c .before .get .ensures .is))
 
--- src/unions.rt:38:1
 returns : tie.Need-returns Inv-loop μ-loop
 returns c =
     let a = c .before .before .before .args in

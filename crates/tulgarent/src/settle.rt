@@ -1,0 +1,95 @@
+// Settling a flat rule: its body settled in the scratch, and the settled rule written to the output.
+use crate::Answer;
+use crate::RAGGED;
+use crate::SHORT_OUTPUT;
+use crate::all_whole;
+use crate::flat_front;
+use crate::refused;
+use crate::whole;
+use records::signature::Signature;
+ghost use Prim.Native.Nat.{_≤_};
+ghost use lib.ListN.{length};
+ghost use Rattle.octets.specs.Words.{words};
+ghost use Rattle.rules.specs.Words.{scratchWords};
+ghost use Rattle.rules.specs.Signature.{Sig};
+ghost use Rattle.rules.specs.Flat.{FlatRule};
+ghost use Rattle.rules.specs.Calls.{settled};
+ghost use Rattle.tulgarent.specs.Answers.{Gives};
+ghost use Rattle.tulgarent.specs.Settle.{FlatUnder, SomeFlat, EndedWith};
+
+// The first word of a header, and its facts' unit.
+const HEADER: u32 = 0x0400_0000;
+
+const LIMIT_12: u32 = 4096;
+
+// How settling ended: the words that the settled rule takes, and the two counts that are answered.
+pub struct Ended {
+    pub needed: usize,
+    pub replacements: usize,
+    pub passes: usize,
+}
+
+// Settles a rule that is known to be good. The body is settled at the front of the scratch; the actions are copied from where they stand.
+fn settle_good(rule: &[u8], sign: Signature, output: &mut [u8], scratch: &mut [u8]) -> Ended
+    requires { ⌜ SomeFlat (words (now rule)) sign ⌝ }
+    requires { ⌜ scratchWords ≤ length (words (now scratch)) ⌝ }
+    ensures { λ r. ⌜ ((s : Sig) (f : FlatRule) → FlatUnder (words (now (rule .entry))) sign s f → EndedWith s f r (now (output .entry)) (now (output .exit))) ⌝ }
+{
+    let counts = octets::get(rule, 0) - HEADER;
+    let read = records::flat::atoms(rule, sign.heads, 1, counts / LIMIT_12);
+    let end = read.at;
+    let n = end - 1;
+    octets::regions::copy(scratch, 0, rule, 1, n);
+    let q = settling::terms::Sign {
+        globals: sign.globals,
+        equals: sign.equals,
+    };
+    let body = settling::settle(scratch, 0, n, q);
+    let replacements = body.replacements;
+    let passes = body.passes;
+    let needed = crate::emit::finish(
+        output,
+        scratch,
+        body,
+        (counts % LIMIT_12) as usize,
+        rule,
+        end,
+        octets::count(rule) - end,
+    );
+    Ended {
+        needed,
+        replacements,
+        passes,
+    }
+}
+
+// A flat rule settled: variables that must be equal are one, and no two atoms of a head have the same inputs.
+#[no_mangle]
+pub extern "C" fn tulgarent_settle(
+    signature: &[u8],
+    rule: &[u8],
+    output: &mut [u8],
+    scratch: &mut [u8],
+) -> Answer
+    ensures { λ r. ⌜ Gives (settled (now (signature .entry)) (now (rule .entry)) (now (output .entry)) (length (now (scratch .entry)))) r (now (output .exit)) ⌝ }
+{
+    let rest = whole(scratch);
+    if !all_whole(signature, rule, output, rest) {
+        return refused(RAGGED, 0);
+    }
+    let sign = flat_front(signature, rule, octets::count(scratch));
+    if sign.refused != 0 {
+        return refused(sign.refused, sign.place);
+    }
+    let ended = settle_good(rule, sign, output, scratch);
+    if octets::count(output) < ended.needed {
+        return refused(SHORT_OUTPUT, ended.needed);
+    }
+    Answer {
+        number: 0,
+        place: 0,
+        words: ended.needed as u64,
+        replacements: ended.replacements as u64,
+        passes: ended.passes as u64,
+    }
+}
