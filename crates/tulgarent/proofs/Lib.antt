@@ -5,3 +5,6 @@ pub mod FreeVars
 pub mod Emitting
 pub mod SettleGood
 pub mod Settled
+pub mod WrittenFronts
+pub mod Lowering
+pub mod LowerCall

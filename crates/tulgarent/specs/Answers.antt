@@ -22,3 +22,9 @@ wholeThree a b c rest = eqb (a % 4) 0 && (eqb (b % 4) 0 && (eqb (c % 4) 0 && res
 pub record Gives (o : Outcome) (r : Answer) (output : List ℕ) : Type 0 where
   pub answer : r ≡ answerOf o
   pub writes : output ≡ o .output
+
+-- and so are the bytes of the counters
+pub record GivesBoth (o : Outcome) (r : Answer) (output counters : List ℕ) : Type 0 where
+  pub answer : r ≡ answerOf o
+  pub writes : output ≡ o .output
+  pub counts : counters ≡ o .counters

@@ -2,3 +2,4 @@ pub mod Answers
 pub mod Fronts
 pub mod Emit
 pub mod Settle
+pub mod Lower

@@ -1,6 +1,7 @@
 // The calls of the key service, over byte slices: four bytes a word, the lowest first. Each runs its tests in the order of 01, "Turned back", and leaves
 // output and counters as they were on a refusal.
 pub mod emit;
+pub mod lower;
 pub mod settle;
 
 use records::signature::Signature;
@@ -16,16 +17,16 @@ ghost use Rattle.tulgarent.specs.Answers.{refusedWith, wholeThree, Gives
 ghost use Rattle.tulgarent.specs.Fronts.{flatFront};
 
 // The refusals' numbers that are given here.
-const SMALL_SCRATCH: u32 = 3;
+pub const SMALL_SCRATCH: u32 = 3;
 
-const BAD_LENGTH: u32 = 4;
+pub const BAD_LENGTH: u32 = 4;
 
 pub const SHORT_OUTPUT: u32 = 10;
 
 pub const RAGGED: u32 = 14;
 
 // The words of scratch that settling and lowering ask for.
-const SCRATCH_WORDS: usize = 16384;
+pub const SCRATCH_WORDS: usize = 16384;
 
 // What a call answers. Number 0 is acceptance, with place 0 and the three counts; a refusal has all counts 0.
 #[repr(C)]
@@ -73,7 +74,7 @@ pub fn all_whole(a: &[u8], b: &[u8], c: &[u8], rest: bool) -> bool
 }
 
 // A signature's place for a refusal that comes behind it.
-fn turned_back(number: u32, place: usize) -> Signature
+pub fn turned_back(number: u32, place: usize) -> Signature
     ensures { λ r. ⌜ r ≡ signOf (refuse number place) ⌝ }
 {
     Signature {
