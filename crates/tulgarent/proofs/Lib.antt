@@ -8,3 +8,4 @@ pub mod Settled
 pub mod WrittenFronts
 pub mod Lowering
 pub mod LowerCall
+pub mod Faithful
