@@ -3,24 +3,10 @@
 
 #![forbid(unsafe_code)]
 
-mod case;
-mod draw;
-mod figures;
-mod grammar;
-mod kinds;
-mod memory;
-mod records;
-mod replay;
-mod run;
-mod shrink;
-mod sides;
-mod trial;
-mod words;
-mod wrong;
-
-use kinds::{Extent, Kind};
-use run::{Run, Shown};
-use sides::Archive;
+use compare::kinds::{Extent, Kind};
+use compare::run::{Run, Shown};
+use compare::sides::Archive;
+use compare::{figures, replay, wrong};
 use std::path::Path;
 use std::process::ExitCode;
 

@@ -26,6 +26,11 @@ const MISTAKES: &[Mistake] = &[
     Mistake { name: "equalities_behind", what: "puts new equalities behind the atoms", side: &EqualitiesBehind },
 ];
 
+/// The wrong copy of this name.
+pub fn named(name: &str) -> Option<&'static dyn Side> {
+    MISTAKES.iter().find(|mistake| mistake.name == name).map(|mistake| mistake.side)
+}
+
 /// The trial rules are left out: they were written to show these mistakes, and the drawn cases must find them too.
 const LEFT_OUT: &str = "trials";
 /// What a kind may take to find a mistake. Not every kind can show every mistake.
