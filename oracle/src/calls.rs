@@ -4,6 +4,7 @@ use crate::flat::{self, FlatRule};
 use crate::refusal::{Cause, Refusal};
 use crate::signature::Signature;
 use crate::source::core::{GenericCoreRule, GenericRuleExt};
+use crate::source::util::HashSet;
 use crate::stand_ins::collections::counting_maps;
 use crate::stand_ins::numbers::{Head, Leaf, PairGen};
 use crate::words::leaf_word;
@@ -82,9 +83,13 @@ pub(crate) fn settled(signature: &Signature, rule: &[u32]) -> Result<Lowered, Re
 
 pub(crate) fn freed(signature: &Signature, rule: &[u32]) -> Result<Vec<u32>, Refusal> {
     let flat = flat::read(signature, rule)?;
-    let mut words: Vec<u32> = flat.head.get_free_vars().iter().map(leaf_word).collect();
+    Ok(ascending(&flat.head.get_free_vars()))
+}
+
+pub(crate) fn ascending(variables: &HashSet<Leaf>) -> Vec<u32> {
+    let mut words: Vec<u32> = variables.iter().map(leaf_word).collect();
     words.sort_unstable();
-    Ok(words)
+    words
 }
 
 /// `actions` is how many there were before settling.

@@ -2,11 +2,13 @@
 //!
 //! The functions are not in this folder. build.rs cuts them from the source's files (`cut/plan.rs` names the lines), and
 //! `source` includes them over the `stand_ins`. Around them, `signature`, `written` and `flat` read and write records, and
-//! `calls`, `bytes` and `program` are the public calls with the tests of document 01 in their order.
+//! `calls`, `bytes` and `program` are the public calls with the tests of document 01 in their order. `prepared` runs the same
+//! functions on rules decoded ahead of time.
 
 mod bytes;
 mod calls;
 mod flat;
+pub mod prepared;
 mod program;
 mod reader;
 mod refusal;
