@@ -16,7 +16,7 @@ use Rattle.rules.specs.Flat.{wordsOf}
 use Rattle.rules.specs.Calls.{Result}
 use Rattle.rules.specs.Program.{lineFeed, byteOf, hexadecimal, wordLine, decimalUpTo, spaced, printed}
 use Rattle.meaning.proofs.Lists.{words-append}
-use Rattle.lines.specs.Printing.{printable, Wrote, accepted}
+use Rattle.lines.specs.Printing.{Wrote, accepted}
 
 -- ---- bytes one behind the other
 
@@ -153,7 +153,7 @@ lines-end {l} {m} {at} {n} {i} {end} {ws} f h =
 
 -- ---- decimal numbers
 
-pub decimal-one : (k : ℕ) → k < 10 → decimalUpTo 5 k [] ≡ byteOf k ∷ []
+pub decimal-one : (k : ℕ) → k < 10 → decimalUpTo 20 k [] ≡ byteOf k ∷ []
 decimal-one k h = rw (lt-ltb k 10 h)
 
 decimal-front : (n k : ℕ) (rest : List ℕ) → decimalUpTo n k rest ≡ decimalUpTo n k [] ++ rest
@@ -185,19 +185,19 @@ length-decimal (suc n) k rest = go (ltb k 10) (length-decimal n (k / 10) (byteOf
     go false h = omega arith
 
 -- the last digit behind those of the tenth
-pub decimal-more : (k : ℕ) → 10 ≤ k → k < printable → decimalUpTo 5 k [] ≡ decimalUpTo 5 (k / 10) [] ++ (byteOf (k % 10) ∷ [])
+pub decimal-more : (k : ℕ) → 10 ≤ k → k < 10 ^ 20 → decimalUpTo 20 k [] ≡ decimalUpTo 20 (k / 10) [] ++ (byteOf (k % 10) ∷ [])
 decimal-more k h l =
-    let small : k / 10 < 10 ^ 4 = omega arith in
-    ap (λ (b : Bool). cond b (byteOf k ∷ []) (decimalUpTo 4 (k / 10) (byteOf (k % 10) ∷ []))) (le-ltb k 10 h)
-    ∙ decimal-front 4 (k / 10) (byteOf (k % 10) ∷ []) ∙ ap (λ (xs : List ℕ). xs ++ (byteOf (k % 10) ∷ [])) (sym (decimal-enough 3 (k / 10) [] small))
+    let small : k / 10 < 10 ^ 19 = omega arith in
+    ap (λ (b : Bool). cond b (byteOf k ∷ []) (decimalUpTo 19 (k / 10) (byteOf (k % 10) ∷ []))) (le-ltb k 10 h)
+    ∙ decimal-front 19 (k / 10) (byteOf (k % 10) ∷ []) ∙ ap (λ (xs : List ℕ). xs ++ (byteOf (k % 10) ∷ [])) (sym (decimal-enough 18 (k / 10) [] small))
 
-pub length-tenth : (k : ℕ) → k < printable → length (decimalUpTo 5 (k / 10) []) ≤ 4
+pub length-tenth : (k : ℕ) → k < 10 ^ 20 → length (decimalUpTo 20 (k / 10) []) ≤ 19
 length-tenth k l =
-    let small : k / 10 < 10 ^ 4 = omega arith in
-    omega (arith, ap length (decimal-enough 3 (k / 10) [] small), length-decimal 4 (k / 10) [])
+    let small : k / 10 < 10 ^ 19 = omega arith in
+    omega (arith, ap length (decimal-enough 18 (k / 10) [] small), length-decimal 19 (k / 10) [])
 
-pub length-spaced : (k : ℕ) → length (spaced k) ≤ 6
-length-spaced k = omega (arith, length-decimal 5 k [])
+pub length-spaced : (k : ℕ) → length (spaced k) ≤ 21
+length-spaced k = omega (arith, length-decimal 20 k [])
 
 -- ---- a result
 

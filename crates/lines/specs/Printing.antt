@@ -7,10 +7,6 @@ use Rattle.octets.specs.Regions.{splice}
 use Rattle.rules.specs.Refusals.{Res, ok}
 use Rattle.rules.specs.Calls.{Result}
 
--- a number has at most five digits where it is below this
-abbrev pub printable : ℕ
-printable = 100000
-
 -- xs written at a place of the bytes l leave m, and r is the place behind them
 pub record Wrote (l : List ℕ) (at : ℕ) (xs m : List ℕ) (r : ℕ) : Type 0 where
   pub end : r ≡ at + length xs

@@ -9,7 +9,7 @@ ghost use Rattle.octets.specs.Regions.{splice, part};
 ghost use Rattle.rules.specs.Refusals.{refuse};
 ghost use Rattle.rules.specs.Flat.{wordsOf};
 ghost use Rattle.rules.specs.Program.{byteOf, hexadecimal, wordLine, decimalUpTo, spaced, printed};
-ghost use Rattle.lines.specs.Printing.{Wrote, accepted, printable};
+ghost use Rattle.lines.specs.Printing.{Wrote, accepted};
 
 // The byte of a digit.
 fn byte_of(d: u32) -> u8
@@ -63,9 +63,9 @@ fn put_words(text: &mut [u8], at: usize, input: &[u8], n: usize) -> usize
 }
 
 // A number's digits, with no zero in front: those of its tenth come before the last one.
-fn put_decimal(text: &mut [u8], at: usize, k: usize) -> usize
-    requires { ⌜ (k < printable) × (at + 5 ≤ length (now text)) ⌝ }
-    ensures { λ r. ⌜ Wrote (now (text .entry)) at (decimalUpTo 5 k []) (now (text .exit)) r ⌝ }
+fn put_decimal(text: &mut [u8], at: usize, k: u64) -> usize
+    requires { ⌜ at + 20 ≤ length (now text) ⌝ }
+    ensures { λ r. ⌜ Wrote (now (text .entry)) at (decimalUpTo 20 k []) (now (text .exit)) r ⌝ }
 {
     if k < 10 {
         text[at] = byte_of(k as u32);
@@ -76,11 +76,11 @@ fn put_decimal(text: &mut [u8], at: usize, k: usize) -> usize
     end + 1
 }
 
-// A space and a number: six bytes at most, so that callers know their room without looking at digits.
-fn put_spaced(text: &mut [u8], at: usize, k: usize) -> usize
-    requires { ⌜ (k < printable) × (at + 6 ≤ length (now text)) ⌝ }
+// A space and a number: 21 bytes at most, so that callers know their room without looking at digits.
+fn put_spaced(text: &mut [u8], at: usize, k: u64) -> usize
+    requires { ⌜ at + 21 ≤ length (now text) ⌝ }
     ensures { λ r. ⌜ Wrote (now (text .entry)) at (spaced k) (now (text .exit)) r ⌝ }
-    ensures { λ r. ⌜ r ≤ at + 6 ⌝ }
+    ensures { λ r. ⌜ r ≤ at + 21 ⌝ }
 {
     text[at] = b' ';
     put_decimal(text, at + 1, k)
@@ -91,15 +91,14 @@ pub fn print_ok(
     text: &mut [u8],
     output: &[u8],
     count: usize,
-    replacements: usize,
-    passes: usize,
+    replacements: u64,
+    passes: u64,
 ) -> usize
-    requires { ⌜ (count < printable) × (replacements < printable) × (passes < printable) ⌝ }
-    requires { ⌜ (21 + count * 9 ≤ length (now text)) × (count ≤ length (words (now output))) ⌝ }
+    requires { ⌜ (66 + count * 9 ≤ length (now text)) × (count ≤ length (words (now output))) ⌝ }
     ensures { λ r. ⌜ Wrote (now (text .entry)) 0 (printed (accepted (part (words (now (output .entry))) 0 count) replacements passes)) (now (text .exit)) r ⌝ }
 {
     let name = put_bytes(text, 0, b"ok");
-    let first = put_spaced(text, name, count);
+    let first = put_spaced(text, name, count as u64);
     let second = put_spaced(text, first, replacements);
     let third = put_spaced(text, second, passes);
     text[third] = b'\n';
@@ -107,12 +106,12 @@ pub fn print_ok(
 }
 
 // A refusal: `refused`, its number and its place.
-pub fn print_refused(text: &mut [u8], number: u32, place: usize) -> usize
-    requires { ⌜ (number < printable) × (place < printable) × (20 ≤ length (now text)) ⌝ }
+pub fn print_refused(text: &mut [u8], number: u64, place: u64) -> usize
+    requires { ⌜ 50 ≤ length (now text) ⌝ }
     ensures { λ r. ⌜ Wrote (now (text .entry)) 0 (printed (refuse number place)) (now (text .exit)) r ⌝ }
 {
     let name = put_bytes(text, 0, b"refused");
-    let first = put_spaced(text, name, number as usize);
+    let first = put_spaced(text, name, number);
     let second = put_spaced(text, first, place);
     text[second] = b'\n';
     second + 1

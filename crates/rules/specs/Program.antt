@@ -88,9 +88,9 @@ decimalUpTo (suc n) k rest =
     let more = decimalUpTo n (k / 10) (byteOf (k % 10) ∷ rest) in
     cond (ltb k 10) one more
 
--- a space and a number; no number that is printed has more than five digits
+-- a space and a number; no number of 64 bits has more than twenty digits
 abbrev pub spaced : ℕ → List ℕ
-spaced k = 32 ∷ decimalUpTo 5 k []
+spaced k = 32 ∷ decimalUpTo 20 k []
 
 -- `ok W R P` and the words, or `refused N P`
 abbrev pub printed : Res Result → List ℕ

@@ -52,7 +52,7 @@ put-decimal-returns t c =
     wrote-same (ap (λ (b : ℕ). b ∷ []) (c .byte-of .ensures) ∙ sym (decimal-one (a .k) (omega arith))) digit
 
 put-decimal-put-decimal-requires : (t : ℕ) → put-decimal-lts.Need-put-decimal-requires (called t) (put-decimal-at t) put-decimal.Post
-put-decimal-put-decimal-requires t c κs = (omega arith, (omega arith, c .before .before .before .pre .1 .1))
+put-decimal-put-decimal-requires t c κs = (omega arith, c .before .before .before .pre .1)
 
 put-decimal-cast-byte-of-2 : (t : ℕ) → put-decimal-lts.Need-cast-byte-of-2 (called t) (put-decimal-at t) put-decimal.Post
 put-decimal-cast-byte-of-2 t c = omega arith
@@ -61,7 +61,7 @@ put-decimal-byte-of-requires-2 : (t : ℕ) → put-decimal-lts.Need-byte-of-requ
 put-decimal-byte-of-requires-2 t c κs = omega arith
 
 put-decimal-slice-write-text-2 : (t : ℕ) → put-decimal-lts.Need-slice-write-text-2 (called t) (put-decimal-at t) put-decimal.Post
-put-decimal-slice-write-text-2 t c = omega (arith, length-tenth (c .before .before .before .before .before .before .before .args .k) (c .before .before .before .before .before .before .before .pre .1 .0))
+put-decimal-slice-write-text-2 t c = omega (arith, length-tenth (c .before .before .before .before .before .before .before .args .k) (omega arith))
 
 put-decimal-add-result-2 : (t : ℕ) → put-decimal-lts.Need-add-result-2 (called t) (put-decimal-at t) put-decimal.Post
 put-decimal-add-result-2 t c = omega (arith, put-decimal-slice-write-text-2 t c)
@@ -73,8 +73,8 @@ put-decimal-returns-2 : (t : ℕ) → put-decimal-lts.Need-returns-2 (called t) 
 put-decimal-returns-2 t c =
     let a = c .before .before .before .before .before .before .before .args in
     let digits = wrote-snoc (c .byte-of2 .result) (c .before .before .before .put-decimal .ensures) (put-decimal-slice-write-text-2 t c) (omega arith) in
-    let last = ap (λ (b : ℕ). decimalUpTo 5 (a .k / 10) [] ++ (b ∷ [])) (c .byte-of2 .ensures) in
-    wrote-same (last ∙ sym (decimal-more (a .k) (c .before .before .before .before .before .if1 .left) (c .before .before .before .before .before .before .before .pre .1 .0))) digits
+    let last = ap (λ (b : ℕ). decimalUpTo 20 (a .k / 10) [] ++ (b ∷ [])) (c .byte-of2 .ensures) in
+    wrote-same (last ∙ sym (decimal-more (a .k) (c .before .before .before .before .before .if1 .left) (omega arith))) digits
 
 pub +put-decimal-spec : {M : Type 1} → statement M
 +put-decimal-spec = close μ-put-decimal λ t. put-decimal-lts.spec

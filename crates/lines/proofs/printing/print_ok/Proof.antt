@@ -20,10 +20,10 @@ put-spaced-requires : tie.Need-put-spaced-requires
 put-spaced-requires c κs = search needs
 
 put-spaced-requires-2 : tie.Need-put-spaced-requires-2
-put-spaced-requires-2 c κs = (c .before .before .before .before .before .before .before .before .before .before .before .before .pre .0 .1, omega arith)
+put-spaced-requires-2 c κs = omega arith
 
 put-spaced-requires-3 : tie.Need-put-spaced-requires-3
-put-spaced-requires-3 c κs = (c .before .before .before .before .before .before .before .before .before .before .before .before .before .before .before .before .pre .0 .2, omega arith)
+put-spaced-requires-3 c κs = omega arith
 
 slice-write-text : tie.Need-slice-write-text
 slice-write-text c = omega arith
@@ -32,7 +32,7 @@ add-put-words : tie.Need-add-put-words
 add-put-words c = omega (arith, slice-write-text (c .before))
 
 put-words-requires : tie.Need-put-words-requires
-put-words-requires c κs = (simp length-set (omega arith), c .before .before .before .before .before .before .before .before .before .before .before .before .before .before .before .before .before .before .before .before .pre .1 .1)
+put-words-requires c κs = (simp length-set (omega arith), c .before .before .before .before .before .before .before .before .before .before .before .before .before .before .before .before .before .before .before .before .pre .1)
 
 same-length : tie.Need-same-length
 same-length c = c .before .before .put-words .kept .0 ∙ simp length-set (c .before .before .before .before .before .before .put-spaced3 .kept .0 ∙ c .before .before .before .before .before .before .before .before .before .before .put-spaced2 .kept .0 ∙ c .before .before .before .before .before .before .before .before .before .before .before .before .before .before .put-spaced .kept .0 ∙ c .before .before .before .before .before .before .before .before .before .before .before .before .before .before .before .before .before .before .put-bytes .kept .0)

@@ -17,7 +17,7 @@ put-spaced-requires : tie.Need-put-spaced-requires
 put-spaced-requires c κs = search needs
 
 put-spaced-requires-2 : tie.Need-put-spaced-requires-2
-put-spaced-requires-2 c κs = (c .before .before .before .before .before .before .before .before .before .before .before .pre .1, omega arith)
+put-spaced-requires-2 c κs = omega arith
 
 slice-write-text : tie.Need-slice-write-text
 slice-write-text c = omega arith

@@ -14,7 +14,7 @@ add-put-decimal : tie.Need-add-put-decimal
 add-put-decimal c = search needs
 
 put-decimal-requires : tie.Need-put-decimal-requires
-put-decimal-requires c κs = (c .before .before .pre .0, simp length-set (omega arith))
+put-decimal-requires c κs = simp length-set (omega arith)
 
 same-length : tie.Need-same-length
 same-length c = c .before .before .put-decimal .kept .0 ∙ simp length-set
