@@ -15,7 +15,7 @@ use Rattle.rules.specs.Signature.{Sig, heads, elem}
 use Rattle.rules.specs.Flat.{Tab, CoreAction, Let, Set, Delete, Subsume, Union, Panic, Call, tabWords, actionWords, wordsOf, encode, isTarget}
 use Rattle.rules.specs.Canonicalize.{bindings}
 use Rattle.rules.specs.RemoveDupVars.{settle}
-use Rattle.rules.specs.Calls.{Result, slicesWhole, outcomeOf, lowerRes, lower}
+use Rattle.rules.specs.Calls.{Result, slicesWhole, outcomeOf, lowerWords, lowerRes, lower}
 use Rattle.meaning.specs.Meaning.{All}
 use Rattle.meaning.specs.Demand3.{CarriedFaithfully, Demand3Bytes}
 use Rattle.meaning.specs.Numbers.{lowerNumbers}
@@ -102,6 +102,11 @@ result-small signature rule counters o a =
     subst (λ (x : Result). All Small (x .words)) (a .from .gives)
     (encode-small (a .from .sig) (a .sound .few-heads) (b .tabs) (bindings (b .repls) ++ c .head) (a .tabs) (a .acts) (a .few) (a .some))
 
+-- the words at the front of the output that a call leaves are those of its result
+pub lowered-words : (signature rule counters output : List ℕ) (room scratch : ℕ) (o : Result) → lowerWords signature rule counters room scratch ≡ ok o
+    → words (take (4 * length (o .words)) (bytesOf (o .words) ++ drop (4 * length (o .words)) output)) ≡ o .words
+lowered-words signature rule counters output room scratch o e = written-words (o .words) output (result-small signature rule counters o (accepted signature rule counters room scratch o e))
+
 pub demand3-bytes : Demand3Bytes
 unfolding lower
 demand3-bytes signature rule counters output scratch = go (lowerRes signature rule counters output scratch) refl
@@ -113,7 +118,6 @@ demand3-bytes signature rule counters output scratch = go (lowerRes signature ru
     go (refuse n p) e z = absurd (false≢true (subst (λ (k : ℕ). elem k lowerNumbers ≡ true) z (lower-numbers signature rule counters output scratch n p e)))
     go (ok o) e z =
         let w = bind-ok (slicesWhole (length signature ∷ length rule ∷ length counters ∷ length output ∷ scratch ∷ [])) _ o e in
-        let a = accepted (words signature) (words rule) (words counters) (length output / 4) (scratch / 4) o (w .2) in
         subst (λ (ws : List ℕ). CarriedFaithfully (words signature) (words rule) (words counters) ws (o .replacements))
-        (sym (written-words (o .words) output (result-small (words signature) (words rule) (words counters) o a)))
+        (sym (lowered-words (words signature) (words rule) (words counters) output (length output / 4) (scratch / 4) o (w .2)))
         (demand3 (words signature) (words rule) (words counters) (length output / 4) (scratch / 4) o (w .2))
