@@ -21,7 +21,7 @@ use Rattle.words.proofs.WordLaws.{name-kind, literal-kind, header-kind, equalit
 use Rattle.records.specs.declared.written.Walk.{Walk}
 use Rattle.records.specs.declared.written.Start.{Start}
 use Rattle.records.specs.declared.written.Start.the-variants.{Takes, Other}
-use Rattle.records.specs.Written.{withHeads, walk, walkOf, wordAt, startOf, readRule}
+use Rattle.records.specs.Written.{withHeads, walk, walkOf, wordAt, startOf, leafWord, leafAt, readRule}
 use Rattle.records.proofs.WrittenWalk.{stops, made, both}
 use Rattle.records.proofs.WrittenEnds.{went-expr, went-target, went-facts}
 
@@ -54,6 +54,11 @@ module _ (ws : List ℕ) (p : ℕ) where
       go false e = refl
 
 -- ---- an expression, by how it begins
+
+pub both-true : (a b : Bool) → a && b ≡ true → (a ≡ true) × (b ≡ true)
+both-true true true h = (refl, refl)
+both-true true false h = let z : _≡_ {A = ℕ} 0 1 = cc in absurd (omega arith)
+both-true false b h = let z : _≡_ {A = ℕ} 0 1 = cc in absurd (omega arith)
 
 module _ (s : Sig) (ws : List ℕ) where
   abbrev start : ℕ → Start
@@ -102,6 +107,18 @@ module _ (s : Sig) (ws : List ℕ) where
       go : (b : Bool) → ltb p (length ws) ≡ b → startOf (cond b (shape s (getD ws p 0)) isBad) (getD ws p 0) ≡ Takes n → p < length ws
       go true e h = ltb-true p (length ws) e
       go false e h = let z : _≡_ {A = ℕ} 0 1 = cc in absurd (omega arith)
+
+  -- a name or a literal takes nothing
+  pub leaf-starts : (p : ℕ) → leafAt ws p ≡ true → start p ≡ Takes 0
+  leaf-starts p = go (ltb p (length ws)) (leafWord (getD ws p 0))
+    where
+      go : (a b : Bool) → a && b ≡ true → startOf (cond a (cond b isLeaf (cond (isHeadWord (heads s) (getD ws p 0)) isCall isBad)) isBad) (getD ws p 0) ≡ Takes 0
+      go true true h = refl
+      go true false h = let z : _≡_ {A = ℕ} 0 1 = cc in absurd (omega arith)
+      go false b h = let z : _≡_ {A = ℕ} 0 1 = cc in absurd (omega arith)
+
+  pub leaf-read : (d p : ℕ) → 0 < d → leafAt ws p ≡ true → walk 0 (p + 1) ≡ walkOf (readExpr s ws d p)
+  leaf-read d p l h = one-deeper d p 0 (λ z. omega arith) (leaf-starts p h)
 
 -- ---- H heads
 

@@ -2,11 +2,11 @@
 -- The readings themselves are those of `rules`.
 -- Assumes nothing: these are definitions.
 use Prim.Native.Nat.{ℕ, min}
-use mathlib.Core.Bool.{false, cond}
+use mathlib.Core.Bool.{Bool, false, _&&_, _||_, cond}
 use mathlib.Core.List.{List}
 use lib.ListN.{length, getD, replicate}
 use lib.Dec.{ltb}
-use Rattle.rules.specs.Words.{limit12, isHeaderWord, factsOf, actionsOf, countOf}
+use Rattle.rules.specs.Words.{limit12, isNameWord, isLiteralWord, isHeaderWord, factsOf, actionsOf, countOf}
 use Rattle.rules.specs.Refusals.{Res, ok, refuse, _>>=_}
 use Rattle.rules.specs.Signature.{Sig}
 use Rattle.rules.specs.Written.{Read, Reader, Rule, Shape, isLeaf, isCall, isBad, readWord, readRow, readFact, readAction}
@@ -47,6 +47,13 @@ abbrev pub startOf : Shape → ℕ → Start
 startOf isLeaf w = Takes 0
 startOf isCall w = Takes (countOf w)
 startOf isBad w = Other
+
+-- a name's or a literal's word: an expression of this one word
+abbrev pub leafWord : ℕ → Bool
+leafWord w = isNameWord w || isLiteralWord w
+
+abbrev pub leafAt : List ℕ → ℕ → Bool
+leafAt ws p = ltb p (length ws) && leafWord (getD ws p 0)
 
 -- ---- a rule that begins at an index, whatever stands behind it
 

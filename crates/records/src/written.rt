@@ -1,12 +1,18 @@
 // Reads written rules: whether their words fit, which is refusal 5, and how deep their expressions are, which is refusal 6.
+use words::LIMIT_12;
+use words::LIMIT_16;
+use words::LITERAL_BASE;
+use words::NAME_BASE;
 use words::Word;
 ghost use mathlib.Core.Path.{_≡_};
 ghost use Prim.Native.Nat.{_+_, _<_};
+ghost use mathlib.Core.Bool.{_&&_};
 ghost use lib.ListN.{length, getD};
+ghost use lib.Dec.{leb, ltb};
 ghost use Rattle.octets.specs.Words.{words};
-ghost use Rattle.rules.specs.Words.{aLet, aSet, aPanic};
+ghost use Rattle.rules.specs.Words.{maxDepth, aLet, aSet, aPanic};
 ghost use Rattle.rules.specs.Written.{shapeAt, readMany, readExpr, readTarget, readEqual, readFact, readCode, readAction, readRow, readWritten};
-ghost use Rattle.records.specs.Written.{withHeads, walkOf, wholeOf, wordAt, startOf, readRule};
+ghost use Rattle.records.specs.Written.{withHeads, walkOf, wholeOf, wordAt, startOf, leafWord, leafAt, readRule};
 
 // The refusals' numbers.
 pub const UNFIT: u32 = 5;
@@ -15,6 +21,11 @@ pub const TOO_DEEP: u32 = 6;
 
 // An expression holds expressions up to 32 deep, itself counted.
 pub const MAX_DEPTH: u32 = 32;
+
+// The first words that are no name and no literal any more.
+const NAME_END: u32 = NAME_BASE + LIMIT_12;
+
+const LITERAL_END: u32 = LITERAL_BASE + LIMIT_16;
 
 // What a walk answers: with 0, the index after what it read; else a refusal's number and place.
 pub struct Walk {
@@ -58,6 +69,31 @@ fn start_at(rule: &[u8], heads: u32, at: usize) -> Start
     }
 }
 
+// A word from `low` on and below `end`.
+fn between(w: u32, low: u32, end: u32) -> bool
+    ensures { λ r. ⌜ r ≡ leb low w && ltb w end ⌝ }
+{
+    low <= w && w < end
+}
+
+// A name's or a literal's word. By ranges, since it is asked of nearly every word of a rule and only this answer is wanted.
+fn is_leaf(w: u32) -> bool
+    ensures { λ r. ⌜ r ≡ leafWord w ⌝ }
+{
+    between(w, NAME_BASE, NAME_END) | between(w, LITERAL_BASE, LITERAL_END)
+}
+
+// A name or a literal stands at an index.
+fn leaf_at(rule: &[u8], at: usize) -> bool
+    ensures { λ r. ⌜ r ≡ leafAt (words (now (rule .entry))) at ⌝ }
+{
+    if at < octets::count(rule) {
+        is_leaf(octets::get(rule, at))
+    } else {
+        false
+    }
+}
+
 // One expression that may hold expressions `depth` deep.
 pub fn expression(rule: &[u8], heads: u32, at: usize, depth: u32) -> Walk
     ensures { λ r. ⌜ r ≡ walkOf (readExpr (withHeads heads) (words (now (rule .entry))) depth at) ⌝ }
@@ -81,19 +117,23 @@ pub fn expression(rule: &[u8], heads: u32, at: usize, depth: u32) -> Walk
     arguments(rule, heads, next, count, depth - 1)
 }
 
-// `count` expressions, one after the other, each of which may hold expressions `depth` deep.
+// `count` expressions, one after the other, each of which may hold expressions `depth` deep. Most are names and literals: those take no call.
 pub fn arguments(rule: &[u8], heads: u32, at: usize, count: u32, depth: u32) -> Walk
     ensures { λ r. ⌜ r ≡ walkOf (readMany (readExpr (withHeads heads) (words (now (rule .entry))) depth) count at) ⌝ }
 {
     let mut next = at;
     let mut left = count;
     while 0 < left {
-        let read = expression(rule, heads, next, depth);
-        if read.refused != 0 {
-            return read;
-        }
-        next = read.at;
         left -= 1;
+        if leaf_at(rule, next) & (0 < depth) {
+            next += 1;
+        } else {
+            let read = expression(rule, heads, next, depth);
+            if read.refused != 0 {
+                return read;
+            }
+            next = read.at;
+        }
     }
     Walk {
         refused: 0,
@@ -101,16 +141,30 @@ pub fn arguments(rule: &[u8], heads: u32, at: usize, count: u32, depth: u32) -> 
     }
 }
 
+// An expression that stands in no other. Here, too, a name or a literal takes no call.
+fn outermost(rule: &[u8], heads: u32, at: usize) -> Walk
+    ensures { λ r. ⌜ r ≡ walkOf (readExpr (withHeads heads) (words (now (rule .entry))) maxDepth at) ⌝ }
+{
+    if leaf_at(rule, at) {
+        let next = at + 1;
+        return Walk {
+            refused: 0,
+            at: next,
+        };
+    }
+    expression(rule, heads, at, MAX_DEPTH)
+}
+
 // The two expressions behind the word at an index, which is an equality's or a union's.
 fn pair(rule: &[u8], heads: u32, at: usize) -> Walk
     requires { ⌜ at < length (words (now rule)) ⌝ }
     ensures { λ r. ⌜ r ≡ walkOf (readEqual (withHeads heads) (words (now (rule .entry))) at) ⌝ }
 {
-    let left = expression(rule, heads, at + 1, MAX_DEPTH);
+    let left = outermost(rule, heads, at + 1);
     if left.refused != 0 {
         return left;
     }
-    expression(rule, heads, left.at, MAX_DEPTH)
+    outermost(rule, heads, left.at)
 }
 
 // A fact: an expression, or an equality of two.
@@ -176,7 +230,7 @@ fn let_action(rule: &[u8], heads: u32, at: usize) -> Walk
             at: name,
         };
     };
-    expression(rule, heads, name + 1, MAX_DEPTH)
+    outermost(rule, heads, name + 1)
 }
 
 // A set: a kind 3 word, its arguments and a value.
@@ -188,7 +242,7 @@ fn set_action(rule: &[u8], heads: u32, at: usize) -> Walk
     if inputs.refused != 0 {
         return inputs;
     }
-    expression(rule, heads, inputs.at, MAX_DEPTH)
+    outermost(rule, heads, inputs.at)
 }
 
 // A panic: a literal.

@@ -27,19 +27,19 @@ returns c =
     let a = c .before .before .before .args in
     let-other (withHeads (a .heads)) (words (now (a .rule))) (a .at) (a .at + 1) (rw (c .before .word-at .ensures) at (other-kind 1 (c .before .word-at .result) tt (c .match .keys2)))
 
-add-expression : tie.Need-add-expression
-add-expression c =
+add-outermost : tie.Need-add-outermost
+add-outermost c =
     let a = c .before .before .before .before .args in
     let t = word-there (words (now (a .rule))) (a .at + 1) (sym (c .before .before .word-at .ensures) ∙ c .enum-told .given .1) (lit< tt) in
     omega (arith, length-words (now (a .rule)))
 
-expression-requires : tie.Need-expression-requires
-expression-requires c κs = search needs
+outermost-requires : tie.Need-outermost-requires
+outermost-requires c κs = search needs
 
 returns-2 : tie.Need-returns-2
 returns-2 c =
     let a = c .before .before .before .before .before .args in
-    c .expression .ensures ∙ let-goes (withHeads (a .heads)) (words (now (a .rule))) (a .at) (a .at + 1) _ (sym (c .before .before .before .word-at .ensures) ∙ c .before .enum-told .given .1)
+    c .outermost .ensures ∙ let-goes (withHeads (a .heads)) (words (now (a .rule))) (a .at) (a .at + 1) _ (sym (c .before .before .before .word-at .ensures) ∙ c .before .enum-told .given .1)
 
 pub let-action-spec : {M : Type 1} → statement M
 let-action-spec =
@@ -49,6 +49,6 @@ let-action-spec =
     word-at-requires
     enum-told
     returns
-    add-expression
-    expression-requires
+    add-outermost
+    outermost-requires
     returns-2)

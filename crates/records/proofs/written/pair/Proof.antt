@@ -9,25 +9,25 @@ use borrow.Author.Needs.{needs}
 use Rattle.records.proofs.written.pair.Statement.{statement}
 use Rattle.records.proofs.written.pair.Tie as tie
 
-add-expression : tie.Need-add-expression
-add-expression c = omega (arith, length-words (now (c .before .args .rule)))
+add-outermost : tie.Need-add-outermost
+add-outermost c = omega (arith, length-words (now (c .before .args .rule)))
 
-expression-requires : tie.Need-expression-requires
-expression-requires c κs = search needs
+outermost-requires : tie.Need-outermost-requires
+outermost-requires c κs = search needs
 
 returns : tie.Need-returns
 returns c =
     let a = c .before .before .before .before .args in
-    pair-stops (withHeads (a .heads)) (words (now (a .rule))) (a .at) (c .before .before .expression .ensures) (c .if1 .taken)
+    pair-stops (withHeads (a .heads)) (words (now (a .rule))) (a .at) (c .before .before .outermost .ensures) (c .if1 .taken)
 
-expression-requires-2 : tie.Need-expression-requires-2
-expression-requires-2 c κs = search needs
+outermost-requires-2 : tie.Need-outermost-requires-2
+outermost-requires-2 c κs = search needs
 
 returns-2 : tie.Need-returns-2
 returns-2 c =
     let a = c .before .before .before .before .before .args in
-    pair-goes (withHeads (a .heads)) (words (now (a .rule))) (a .at) (c .before .before .before .expression .ensures) (c .before .if1 .left) (c .expression2 .ensures)
+    pair-goes (withHeads (a .heads)) (words (now (a .rule))) (a .at) (c .before .before .before .outermost .ensures) (c .before .if1 .left) (c .outermost2 .ensures)
 
 pub pair-spec : {M : Type 1} → statement M
 pair-spec =
-    tie.close (tie.spec add-expression expression-requires returns expression-requires-2 returns-2)
+    tie.close (tie.spec add-outermost outermost-requires returns outermost-requires-2 returns-2)

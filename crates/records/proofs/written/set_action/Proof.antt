@@ -21,14 +21,14 @@ returns c =
     let a = c .before .before .before .before .args in
     set-stops (withHeads (a .heads)) (words (now (a .rule))) (a .at) (a .at + 1) (c .before .before .target .ensures) (c .if1 .taken)
 
-expression-requires : tie.Need-expression-requires
-expression-requires c κs = search needs
+outermost-requires : tie.Need-outermost-requires
+outermost-requires c κs = search needs
 
 returns-2 : tie.Need-returns-2
 returns-2 c =
     let a = c .before .before .before .before .before .args in
-    set-goes (withHeads (a .heads)) (words (now (a .rule))) (a .at) (a .at + 1) (c .before .before .before .target .ensures) (c .before .if1 .left) (c .expression .ensures)
+    set-goes (withHeads (a .heads)) (words (now (a .rule))) (a .at) (a .at + 1) (c .before .before .before .target .ensures) (c .before .if1 .left) (c .outermost .ensures)
 
 pub set-action-spec : {M : Type 1} → statement M
 set-action-spec =
-    tie.close (tie.spec add-target target-requires returns expression-requires returns-2)
+    tie.close (tie.spec add-target target-requires returns outermost-requires returns-2)
