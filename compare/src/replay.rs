@@ -13,6 +13,13 @@ use std::path::Path;
 /// The file's head is text of this many bytes, spaces at its end.
 const HEAD_BYTES: usize = 2_048;
 
+/// What the head says about where the answers come from.
+const ORIGIN: &str = "\
+The answers are those of egglog's own functions, which oracle/ runs on the same bytes;
+nothing was taken from the library. The cases are of all kinds that compare/README.md
+lists, about as many of each, so far as a kind has so many.
+";
+
 /// What the head says about all that follows it.
 const FORMAT: &str = "\
 After this text of 2,048 bytes all is 32-bit words, four bytes a word, lowest byte first.
@@ -39,22 +46,26 @@ const LARGE_ONES: u64 = 16;
 /// Writes `count` cases, or as many as there are, and returns their number.
 pub fn write_replay(path: &Path, count: usize, seed: u64) -> io::Result<usize> {
     let cases = chosen(count, seed);
-    fs::write(path, replay(&cases, seed))?;
+    fs::write(path, replay(&cases, count, seed))?;
     Ok(cases.len())
 }
 
-fn replay(cases: &[Case], seed: u64) -> Vec<u8> {
+fn replay(cases: &[Case], count: usize, seed: u64) -> Vec<u8> {
     let bench = Bench::new();
     let mut words = vec![cases.len() as u32];
     for case in cases {
         words.extend(case_words(case, &bench.expected(case)));
     }
-    [head(seed, cases.len()), bytes(&words)].concat()
+    [head(cases.len(), count, seed), bytes(&words)].concat()
 }
 
-fn head(seed: u64, cases: usize) -> Vec<u8> {
-    let title = format!("Cases of the lowerer with the Rust's answers: {}, seed {seed}.\n", grouped(cases as u64));
-    let mut head = [title.as_bytes(), FORMAT.as_bytes()].concat();
+fn head(cases: usize, count: usize, seed: u64) -> Vec<u8> {
+    let cases = grouped(cases as u64);
+    let made = format!(
+        "{cases} cases of the lowerer with the Rust's answers, made by\n\n  \
+         compare --write-replay FILE {count} --seed {seed}\n\n{ORIGIN}\n"
+    );
+    let mut head = [made.as_bytes(), FORMAT.as_bytes()].concat();
     head.resize(HEAD_BYTES - 1, b' ');
     head.push(b'\n');
     head
@@ -137,7 +148,7 @@ mod tests {
     fn the_archive_gives_what_the_list_says() {
         let cases = chosen(300, 3);
         assert_eq!(cases.len(), 300);
-        let list = replay(&cases, 3);
+        let list = replay(&cases, 300, 3);
         assert!(list[..HEAD_BYTES].is_ascii() && list[HEAD_BYTES - 1] == b'\n');
         let words: Vec<u32> = list[HEAD_BYTES..].as_chunks().0.iter().map(|word| u32::from_le_bytes(*word)).collect();
         assert_eq!(words[0], 300);
