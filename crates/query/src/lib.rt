@@ -4,9 +4,11 @@
 //
 // The walks work in one scratch: atoms go to `to`, terms of arguments onto the stack at `sp`, uses of counters to `log`.
 use walks::Walk;
-ghost use Prim.Native.Nat.{_+_};
-ghost use lib.ListN.{length};
+ghost use mathlib.Core.Path.{_≡_};
+ghost use Prim.Native.Nat.{_+_, _<_};
+ghost use lib.ListN.{length, getD};
 ghost use Rattle.octets.specs.Words.{words};
+ghost use Rattle.rules.specs.Words.{literalBase};
 ghost use Rattle.rules.specs.Signature.{Sig};
 ghost use Rattle.walks.specs.Steps.{Walked, InAnswer, OnStack, NoTerms, Room, Under, Counted, ExprAt, ExprsAt};
 ghost use Rattle.query.specs.Flattened.{flattened, flattenedAll, flattenedFact, query, FactAt, FactsAt};
@@ -14,8 +16,7 @@ ghost use Rattle.query.specs.Flattened.{flattened, flattenedAll, flatten
 // The equality of two.
 const EQUALITY: u32 = 0x0800_0002;
 
-// Flattens the expression at `at`, which is at most `depth` deep. A call takes its fresh variable before its arguments are walked; its own atom
-// comes behind theirs.
+// Flattens the expression at `at`, which is at most `depth` deep. A name or a literal is its own term.
 pub fn flatten(
     rule: &[u8],
     at: usize,
@@ -41,6 +42,28 @@ pub fn flatten(
             refused: 0,
         };
     }
+    flatten_call(rule, at, w, depth, counters, scratch, to, sp, log)
+}
+
+// Flattens the call at `at`, whose head word is w. It takes its fresh variable before its arguments are walked; its own atom comes behind
+// theirs.
+pub fn flatten_call(
+    rule: &[u8],
+    at: usize,
+    w: u32,
+    depth: u32,
+    counters: &mut [u8],
+    scratch: &mut [u8],
+    to: usize,
+    sp: usize,
+    log: usize,
+) -> Walk
+    requires { ⌜ Under (λ sig. ExprAt sig (words (now rule)) depth at × Counted sig (words (now counters))) ⌝ }
+    requires { ⌜ Room (length (words (now rule))) at to sp log (length (words (now scratch))) ⌝ }
+    requires { ⌜ (w ≡ getD (words (now rule)) at 0) × (w < literalBase) ⌝ }
+    ensures { λ r. ⌜ ((sig : Sig) (x : ExprAt sig (words (now (rule .entry))) depth at) → Counted sig (words (now (counters .entry)))
+        → Walked 1 (InAnswer log r) (flattened (x .value) (words (now (counters .entry)))) (x .size) at to sp log (words (now (scratch .entry))) (words (now (counters .entry))) (words (now (scratch .exit))) (words (now (counters .exit))) r) ⌝ }
+{
     let h = (w - walks::HEAD) / walks::LIMIT_16;
     let n = (w - walks::HEAD) % walks::LIMIT_16;
     let v = walks::take(counters, scratch, log, h);
@@ -77,7 +100,7 @@ pub fn flatten(
     }
 }
 
-// Flattens the n expressions from `at` on; their terms go onto the stack.
+// Flattens the n expressions from `at` on; their terms go onto the stack. Most are names and literals, so these are dealt with in the loop.
 pub fn flatten_all(
     rule: &[u8],
     at: usize,
@@ -95,33 +118,37 @@ pub fn flatten_all(
         → Walked n (OnStack sp n log (words (now (scratch .exit))) r) (flattenedAll (x .value) (words (now (counters .entry)))) (x .size) at to sp log (words (now (scratch .entry))) (words (now (counters .entry))) (words (now (scratch .exit))) (words (now (counters .exit))) r) ⌝ }
 {
     let mut left = n;
+    let mut next = at;
+    let mut end = to;
     let mut top = sp;
-    let mut walk = Walk {
-        next: at,
-        to,
-        log,
-        term: 0,
-        refused: 0,
-    };
+    let mut uses = log;
     while 0 < left {
-        walk = flatten(
-            rule,
-            walk.next,
-            depth,
-            counters,
-            scratch,
-            walk.to,
-            top,
-            walk.log,
-        );
+        let w = octets::get(rule, next);
+        if walks::LITERAL <= w {
+            octets::put(scratch, top, w);
+            next += 1;
+            top += 1;
+            left -= 1;
+            continue;
+        }
+        let walk = flatten_call(rule, next, w, depth, counters, scratch, end, top, uses);
         if walk.refused != 0 {
             return walk;
         }
         octets::put(scratch, top, walk.term);
+        next = walk.next;
+        end = walk.to;
+        uses = walk.log;
         top += 1;
         left -= 1;
     }
-    walk
+    Walk {
+        next,
+        to: end,
+        log: uses,
+        term: 0,
+        refused: 0,
+    }
 }
 
 // Flattens the fact at `at`. The atom of an equality comes behind those of its left and of its right side; a bare name or literal has none.
