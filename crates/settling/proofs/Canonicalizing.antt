@@ -18,10 +18,11 @@ use Rattle.meaning.specs.Meaning.{All}
 use Rattle.meaning.specs.Weight.{weight}
 use Rattle.settling.specs.declared.canonicalize.Canonical.{Canonical}
 use Rattle.settling.specs.Canonicalize.{CanonicalAt, CanonicalizeAsks, FrontAsks, Fronted, Leads, ReplaceAsks, Replaced, ResolveAsks, Resolved, bindingWords}
-use Rattle.settling.specs.Keys.{more}
+use Rattle.settling.specs.Spans.{Built, Spanned}
 use Rattle.settling.specs.Standing.{AtomsAt, Bare, TabsAt, atomsIn}
 use Rattle.settling.proofs.Replacing.{bindings-append, no-equality}
-use Rattle.settling.proofs.Standing.{First, atoms-is, atoms-join, atoms-read, equality-size, first-atom, tabs-before, tabs-join}
+use Rattle.settling.proofs.SpanLaws.{built-only, spanned-tail}
+use Rattle.settling.proofs.Standing.{First, atoms-before, atoms-is, atoms-join, atoms-read, equality-size, first-atom, tabs-before, tabs-join}
 
 -- ---- the equalities in front, counted
 
@@ -101,31 +102,68 @@ module _ (l : List ℕ) (at n : ℕ) (c : AtomsAt (atomsIn l at n) l at n) where
 
 -- ---- canonicalize
 
-module _ (s : Sig) (l : List ℕ) (at n to d : ℕ) (c : CanonicalizeAsks l at n to d) (e : ℕ) (z : Leads l at n e) where
-  pub leads-asks : FrontAsks l at e (n - e) to d
+-- what is asked, with a table of spans
+pub record Tabled (l : List ℕ) (at n to d table buckets : ℕ) : Type 0 where
+  pub atoms : AtomsAt (atomsIn l at n) l at n
+  pub spanned : Spanned l at n table buckets
+  pub clear : table + 2 * buckets ≤ to
+  pub room : to + weight (atomsIn l at n) + 3 * length (atomsIn l at n) + 3 ≤ d
+  pub top : d ≤ length l
+
+module _ (s : Sig) (l : List ℕ) (at n to d : ℕ) (c : CanonicalizeAsks l at n to d) (m : List ℕ) (buckets : ℕ) (b : Built l m at n (at + n) buckets) where
+  made-table : Only l m (at + n) (at + n + 2 * buckets)
+  made-table = built-only l m at n (at + n) buckets b (omega (arith, c .clear, c .room, c .top, b .few))
+
+  same-atoms : AtomsAt (atomsIn l at n) m at n
+  same-atoms = atoms-before made-table (c .atoms) (omega arith)
+
+  same : atomsIn m at n ≡ atomsIn l at n
+  same = atoms-is m at n (atomsIn l at n) same-atoms
+
+  pub tabled : Tabled m at n to d (at + n) buckets
+  tabled =
+      record {
+        atoms = atoms-read m at n (atomsIn l at n) same-atoms;
+        spanned = b .spanned;
+        clear = omega (arith, c .clear, b .few);
+        room = subst (λ (us : List Atom). to + weight us + 3 * length us + 3 ≤ d) (sym same) (c .room);
+        top = omega (arith, c .top, made-table .size);
+      }
+
+  -- as if there were no table
+  pub untabled : (m₂ : List ℕ) (r : Canonical) → CanonicalAt s (atomsIn m at n) m m₂ at to d r → CanonicalAt s (atomsIn l at n) l m₂ at to d r
+  untabled m₂ r k =
+      let o : Only l m at d = only-wide at d made-table (omega arith) (omega (arith, c .clear, c .room, b .few)) in
+      subst (λ (us : List Atom). CanonicalAt s us l m₂ at to d r) same
+      (record { tabs = k .tabs; binds = k .binds; count = k .count; only = only-then o (k .only) })
+
+module _ (s : Sig) (l : List ℕ) (at n to d table buckets : ℕ) (c : Tabled l at n to d table buckets) (e : ℕ) (z : Leads l at n e) where
+  pub leads-asks : FrontAsks l at e (n - e) to d table buckets
   leads-asks =
       record {
         eqs = z .eqs;
         equalities = z .equalities;
         others = z .others;
-        clear = omega (arith, c .clear, z .inside);
+        spanned = spanned-tail l at n table buckets at (e + (n - e)) (c .spanned) (omega arith) (omega (arith, z .inside));
+        clear = c .clear;
         room = subst (λ (us : List Atom). to + weight us + 3 * length us + 3 ≤ d) (z .whole) (c .room);
         top = c .top;
       }
 
-  module _ (m : List ℕ) (t : Canonical) (f : Fronted s (atomsIn l at e) (atomsIn l (at + e) (n - e)) l m at e (n - e) to d t) where
+  module _ (m : List ℕ) (t : Canonical) (f : Fronted s (atomsIn l at e) (atomsIn l (at + e) (n - e)) l m at e (n - e) to d table buckets t) where
     rest-is : atomsIn m (at + e) (n - e) ≡ f .rest
     rest-is = atoms-is m (at + e) (n - e) (f .rest) (f .others)
 
-    pub replace-asks : ReplaceAsks m (at + e) (n - e) (t .binds)
+    pub replace-asks : ReplaceAsks m (at + e) (n - e) (t .binds) table buckets
     replace-asks =
         record {
           atoms = atoms-read m (at + e) (n - e) (f .rest) (f .others);
-          room = subst (λ (us : List Atom). at + e + (n - e) + 3 * length us + 3 ≤ t .binds) (sym rest-is) (omega (arith, f .room, c .clear, z .inside));
+          spanned = f .spanned;
+          room = subst (λ (us : List Atom). table + 2 * buckets + 3 * length us + 3 ≤ t .binds) (sym rest-is) (omega (arith, f .room, c .clear));
           top = omega (arith, f .binds .within);
         }
 
-    module _ (m₂ : List ℕ) (r : ℕ) (k : Replaced s m m₂ (at + e) (n - e) (t .binds) r) where
+    module _ (m₂ : List ℕ) (r : ℕ) (k : Replaced s m m₂ (at + e) (n - e) (t .binds) table buckets r) where
       is : atomsIn m₂ (at + e) (n - e) ≡ replaceAll s (f .rest) [] .atoms
       is = atoms-is m₂ (at + e) (n - e) (replaceAll s (atomsIn m (at + e) (n - e)) [] .atoms) (k .atoms) ∙ ap (λ (us : List Atom). replaceAll s us [] .atoms) rest-is
 
@@ -139,7 +177,7 @@ module _ (s : Sig) (l : List ℕ) (at n to d : ℕ) (c : CanonicalizeAsks l at n
       resolve-asks =
           record {
             atoms = atoms-read m₂ (at + e) (n - e) (replaceAll s (atomsIn m (at + e) (n - e)) [] .atoms) (k .atoms);
-            clear = omega (arith, c .clear, z .inside);
+            clear = omega (arith, c .clear, c .spanned .beyond, z .inside);
             room = subst (λ (us : List Atom). to + t .words + length (wordsOf tabWords (resolve s us)) ≤ length m₂) (sym is)
                 (omega (arith, ends, count, f .binds .within, k .only .size));
           }
@@ -171,8 +209,8 @@ module _ (s : Sig) (l : List ℕ) (at n to d : ℕ) (c : CanonicalizeAsks l at n
             binds = subst (λ (rs : List Replacement). At (bindingWords rs) m₃ r) (sym repls) (at-after (y .only) all end);
             count = subst (λ (rs : List Replacement). r + 3 * length rs ≡ d) (sym repls)
                 (omega (arith, count, f .count, length-append (canonicalize s (f .rest) [] .repls) (f .rs)));
-            only = only-then (f .only) (only-then (only-wide at d o₂ (omega arith) (omega (arith, f .count))) (only-wide at d (y .only) (omega (arith, c .clear)) (omega (arith, f .count, count))));
+            only = only-then (f .only) (only-then (only-wide at d o₂ (omega arith) (omega (arith, f .count))) (only-wide at d (y .only) (omega (arith, c .clear, c .spanned .beyond)) (omega (arith, f .count, count))));
           }
         where
           kept-between : TabsAt (f .written) m to (t .words) → TabsAt (f .written) m₂ to (t .words)
-          kept-between x = record { fits = x .fits; bare = x .bare; size = x .size; at = k .between (wordsOf tabWords (f .written)) to (x .at) (omega (arith, c .clear, z .inside)) (omega (arith, x .size, ends)); within = omega (arith, x .within, k .only .size) }
+          kept-between x = record { fits = x .fits; bare = x .bare; size = x .size; at = k .between (wordsOf tabWords (f .written)) to (x .at) (c .clear) (omega (arith, x .size, ends)); within = omega (arith, x .within, k .only .size) }

@@ -25,11 +25,12 @@ use Rattle.meaning.specs.Meaning.{All}
 use Rattle.meaning.specs.Sweep.{asks}
 use Rattle.meaning.specs.Weight.{headsWeight, live, unlike, weight}
 use Rattle.settling.specs.declared.canonicalize.Canonical.{Canonical}
-use Rattle.settling.specs.Canonicalize.{FrontAsks, FrontOne, FrontOneAsks, FrontStep, Fronted, IsTab, ResolveOneAsks, StepAsks, askAt, bindingWords, placeAfter, resolveAt, wordsAfter}
-use Rattle.settling.specs.Keys.{more}
+use Rattle.settling.specs.Canonicalize.{FrontAsks, FrontOne, FrontOneAsks, FrontStep, Fronted, ResolveOneAsks, StepAsks, Stepped, Swept, askAt, bindingWords, placeAfter, resolveAt}
+use Rattle.settling.specs.Spans.{Spanned}
 use Rattle.settling.specs.Standing.{AtomsAt, TabsAt, atomsIn}
 use Rattle.settling.proofs.Replacing.{ask-is, made}
 use Rattle.settling.proofs.Resolving.{resolve-atom, resolve-cons}
+use Rattle.settling.proofs.SpanLaws.{spanned-before, spanned-tail}
 use Rattle.settling.proofs.Standing.{atoms-before, atoms-join, bare-resolve, equality-size, no-tabs, tabs-before, tabs-join}
 use Rattle.rules.specs.Canonicalize as canon
 
@@ -129,64 +130,65 @@ canonicalize-asked s p a b xs rs r e =
 
 -- ---- the ways out of `front_one`
 
-module _ (s : Sig) (l : List ℕ) (p n to d : ℕ) (c : FrontOneAsks s l p n to d) where
-  pub front-step-asks : StepAsks l (p + 3) (n - 3) p d
+module _ (s : Sig) (l : List ℕ) (p n to d table buckets : ℕ) (c : FrontOneAsks s l p n to d table buckets) where
+  pub front-step-asks : StepAsks l (p + 3) (n - 3) p d table buckets
   front-step-asks =
       record {
-        here = omega (arith, c .whole, c .binds, c .top);
+        here = omega (arith, three);
         whole = λ e. three;
-        room = omega (arith, c .whole, c .binds);
+        spanned = c .spanned;
+        room = c .binds;
         top = c .top;
       }
     where
       three : p + 3 ≤ length l
-      three = omega (arith, c .whole, c .binds, c .top)
+      three = omega (arith, c .spanned .beyond, c .binds, c .top)
 
   pub front-resolve-asks : ResolveOneAsks s l p to
   front-resolve-asks =
       let z = equality-size l p (c .equality) in
       record {
-        here = omega (arith, c .whole, c .binds, c .top);
-        whole = omega (arith, c .whole, c .binds, c .top);
-        clear = omega (arith, c .whole, c .clear);
+        here = omega (arith, c .spanned .beyond, c .binds, c .top);
+        whole = omega (arith, c .spanned .beyond, c .binds, c .top);
+        clear = omega (arith, c .spanned .beyond, c .clear);
         room = c .room;
       }
 
   -- the bindings begin before d just where something was asked
-  pub front-asked : (m : List ℕ) (e : ℕ) → e ≡ placeAfter (askAt s l p) d → m ≡ wordsAfter (askAt s l p) l (p + 3) (n - 3) d → (e ≡ d → ⊥)
-      → FrontOne s l m p n to d (record { words = 0; binds = e })
+  pub front-asked : (m : List ℕ) (e : ℕ) → e ≡ placeAfter (askAt s l p) d → Stepped (askAt s l p) l m (p + 3) (n - 3) d table buckets → (e ≡ d → ⊥)
+      → FrontOne s l m p n to d table buckets (record { words = 0; binds = e })
   front-asked m e ee em k = record { step = go (askAt s l p) ee em }
     where
-      go : (o : Option Replacement) → e ≡ placeAfter o d → m ≡ wordsAfter o l (p + 3) (n - 3) d → FrontStep o s l m p n to d (record { words = 0; binds = e })
+      go : (o : Option Replacement) → e ≡ placeAfter o d → Stepped o l m (p + 3) (n - 3) d table buckets → FrontStep o s l m p n to d table buckets (record { words = 0; binds = e })
       go none x y = absurd (k x)
       go (some r) x y = (refl, x, y)
 
-  pub front-still : (m m₂ : List ℕ) (e w : ℕ) → e ≡ placeAfter (askAt s l p) d → m ≡ wordsAfter (askAt s l p) l (p + 3) (n - 3) d → e ≡ d
-      → (m ≡ l → (w ≡ length (resolveAt s l p)) × (m₂ ≡ splice l to (resolveAt s l p))) → FrontOne s l m₂ p n to d (record { words = w; binds = d })
+  pub front-still : (m m₂ : List ℕ) (e w : ℕ) → e ≡ placeAfter (askAt s l p) d → Stepped (askAt s l p) l m (p + 3) (n - 3) d table buckets → e ≡ d
+      → (m ≡ l → (w ≡ length (resolveAt s l p)) × (m₂ ≡ splice l to (resolveAt s l p))) → FrontOne s l m₂ p n to d table buckets (record { words = w; binds = d })
   front-still m m₂ e w ee em k f = record { step = go (askAt s l p) ee em }
     where
-      go : (o : Option Replacement) → e ≡ placeAfter o d → m ≡ wordsAfter o l (p + 3) (n - 3) d → FrontStep o s l m₂ p n to d (record { words = w; binds = d })
+      go : (o : Option Replacement) → e ≡ placeAfter o d → Stepped o l m (p + 3) (n - 3) d table buckets → FrontStep o s l m₂ p n to d table buckets (record { words = w; binds = d })
       go none x y = let z = f y in (z .0, refl, z .1)
       go (some r) x y = absurd (omega (arith, c .binds))
 
-  pub front-same : (m : List ℕ) (e : ℕ) → e ≡ placeAfter (askAt s l p) d → m ≡ wordsAfter (askAt s l p) l (p + 3) (n - 3) d → e ≡ d → m ≡ l
+  pub front-same : (m : List ℕ) (e : ℕ) → e ≡ placeAfter (askAt s l p) d → Stepped (askAt s l p) l m (p + 3) (n - 3) d table buckets → e ≡ d → m ≡ l
   front-same m e ee em k = go (askAt s l p) ee em
     where
-      go : (o : Option Replacement) → e ≡ placeAfter o d → m ≡ wordsAfter o l (p + 3) (n - 3) d → m ≡ l
+      go : (o : Option Replacement) → e ≡ placeAfter o d → Stepped o l m (p + 3) (n - 3) d table buckets → m ≡ l
       go none x y = y
       go (some r) x y = absurd (omega (arith, c .binds))
 
 -- ---- the loop on its way: i words of equalities are passed
 
-pub record Fronting (s : Sig) (l m : List ℕ) (at e k to d₀ i : ℕ) (t : Canonical) : Type 0 where
+pub record Fronting (s : Sig) (l m : List ℕ) (at e k to d₀ table buckets i : ℕ) (t : Canonical) : Type 0 where
   pub eqs : List Atom
   pub others : List Atom
   pub written : List Tab
   pub rs : List Replacement
   pub equalities : All IsEqn eqs
-  pub heads : All IsTab (atomsIn l (at + e) k) → All IsTab others
   pub left : e ≡ i + 3 * length eqs
   pub stand : AtomsAt (eqs ++ others) m (at + i) (e - i + k)
+  pub spanned : Spanned m (at + i) (e - i + k) table buckets
   pub tabs : TabsAt written m to (t .words)
   pub binds : At (bindingWords rs) m (t .binds)
   pub count : t .binds + 3 * length rs ≡ d₀
@@ -242,18 +244,13 @@ resolved-size s p a b = go (sameTerm a b)
     go true = refl
     go false = refl
 
-replaced-tabs : (r : Replacement) (ys : List Atom) → All IsTab ys → All IsTab (map (replaceAtom r) ys)
-replaced-tabs r [] h = tt
-replaced-tabs r (eqn p a b ∷ ys) h = absurd (h .0)
-replaced-tabs r (tab t ∷ ys) h = (tt, replaced-tabs r ys (h .1))
-
 replaced-eqns : (r : Replacement) (ys : List Atom) → All IsEqn ys → All IsEqn (map (replaceAtom r) ys)
 replaced-eqns r [] h = tt
 replaced-eqns r (eqn p a b ∷ ys) h = (tt, replaced-eqns r ys (h .1))
 replaced-eqns r (tab t ∷ ys) h = absurd (h .0)
 
-module _ (s : Sig) (l : List ℕ) (at e k to d₀ : ℕ) (c : FrontAsks l at e k to d₀) where
-  pub fronting-start : Fronting s l l at e k to d₀ 0 (record { words = 0; binds = d₀ })
+module _ (s : Sig) (l : List ℕ) (at e k to d₀ table buckets : ℕ) (c : FrontAsks l at e k to d₀ table buckets) where
+  pub fronting-start : Fronting s l l at e k to d₀ table buckets 0 (record { words = 0; binds = d₀ })
   fronting-start =
       record {
         eqs = atomsIn l at e;
@@ -261,11 +258,11 @@ module _ (s : Sig) (l : List ℕ) (at e k to d₀ : ℕ) (c : FrontAsks l at e k
         written = [];
         rs = [];
         equalities = c .equalities;
-        heads = λ h. h;
         left = omega (arith, c .eqs .size, eqns-words (atomsIn l at e) (c .equalities));
         stand = subst (λ (q : ℕ). AtomsAt (atomsIn l at e ++ atomsIn l (at + e) k) l q (e - 0 + k)) (plus at)
             (subst (λ (q : ℕ). AtomsAt (atomsIn l at e ++ atomsIn l (at + e) k) l at (q + k)) (minus e)
             (atoms-join (atomsIn l at e) (atomsIn l (at + e) k) l at e (at + e) k (c .eqs) (c .others) refl));
+        spanned = spanned-tail l at (e + k) table buckets (at + 0) (e - 0 + k) (c .spanned) (omega arith) (omega arith);
         tabs = no-tabs l to (omega (arith, c .room, c .top));
         binds = at-nil l d₀ (c .top);
         count = omega arith;
@@ -281,7 +278,7 @@ module _ (s : Sig) (l : List ℕ) (at e k to d₀ : ℕ) (c : FrontAsks l at e k
       minus : (p : ℕ) → p ≡ p - 0
       minus p = omega arith
 
-  module _ (m : List ℕ) (i : ℕ) (t : Canonical) (w : Fronting s l m at e k to d₀ i t) (h : i < e) where
+  module _ (m : List ℕ) (i : ℕ) (t : Canonical) (w : Fronting s l m at e k to d₀ table buckets i t) (h : i < e) where
     pub front-here : Front (w .eqs) (w .others) m (at + i) (e - i + k)
     front-here = front (w .eqs) (w .others) m (at + i) (e - i + k) (w .equalities) (w .stand) (omega (arith, w .left)) (omega arith)
 
@@ -306,11 +303,12 @@ module _ (s : Sig) (l : List ℕ) (at e k to d₀ : ℕ) (c : FrontAsks l at e k
     long : e ≡ i + 3 + 3 * length (front-here .es)
     long = omega (arith, w .left, ap length (front-here .is))
 
-    pub front-one-asks : FrontOneAsks s m (at + i) (e - i + k) (to + t .words) (t .binds)
+    pub front-one-asks : FrontOneAsks s m (at + i) (e - i + k) (to + t .words) (t .binds) table buckets
     front-one-asks =
         record {
           equality = at-first (front-here .stands);
           whole = omega (arith, long);
+          spanned = spanned-tail m (at + i) (e - i + k) table buckets (at + i + 3) (e - i + k - 3) (w .spanned) (omega arith) (omega (arith, long));
           clear = omega (arith, c .clear);
           room = omega (arith, w .room, short, weights, w .binds .within);
           binds = omega (arith, w .room, c .clear);
@@ -318,7 +316,7 @@ module _ (s : Sig) (l : List ℕ) (at e k to d₀ : ℕ) (c : FrontAsks l at e k
         }
 
     still : (m₂ : List ℕ) (i₂ : ℕ) (t₂ : Canonical) → asks s (eqn (front-here .place) (front-here .a) (front-here .b)) ≡ none → i₂ ≡ i + 3 → t₂ .words ≡ t .words + length (resolveAt s m (at + i)) → t₂ .binds ≡ t .binds
-        → s .valueEq < limit12 → m₂ ≡ splice m (to + t .words) (resolveAt s m (at + i)) → Fronting s l m₂ at e k to d₀ i₂ t₂
+        → s .valueEq < limit12 → m₂ ≡ splice m (to + t .words) (resolveAt s m (at + i)) → Fronting s l m₂ at e k to d₀ table buckets i₂ t₂
     still m₂ i₂ t₂ n ei ew eb v em =
         let new : List ℕ = resolveAt s m (at + i) in
         let y : Atom = eqn (front-here .place) (front-here .a) (front-here .b) in
@@ -336,16 +334,17 @@ module _ (s : Sig) (l : List ℕ) (at e k to d₀ : ℕ) (c : FrontAsks l at e k
           within = omega (arith, o .size, front-one-asks .room);
         } in
         let still-is = canonicalize-still s (front-here .place) (front-here .a) (front-here .b) (front-here .es ++ w .others) [] n in
-        subst (λ (z : List ℕ). Fronting s l z at e k to d₀ i₂ t₂) (sym em)
+        subst (λ (z : List ℕ). Fronting s l z at e k to d₀ table buckets i₂ t₂) (sym em)
         (record {
           eqs = front-here .es;
           others = w .others;
           written = w .written ++ one;
           rs = w .rs;
           equalities = front-here .equalities;
-          heads = w .heads;
           left = omega (arith, long);
-          stand = atoms-before o (front-here .behind (at + i₂) (e - i₂ + k) (omega arith) (omega (arith, long))) (omega (arith, c .clear, long));
+          stand = atoms-before o (front-here .behind (at + i₂) (e - i₂ + k) (omega arith) (omega (arith, long))) (omega (arith, c .clear, c .spanned .beyond, long));
+          spanned = spanned-before m (splice m (to + t .words) new) (at + i₂) (e - i₂ + k) table buckets (to + t .words) (to + t₂ .words) o
+              (spanned-tail m (at + i) (e - i + k) table buckets (at + i₂) (e - i₂ + k) (w .spanned) (omega arith) (omega (arith, long))) (omega (arith, c .clear));
           tabs = subst (λ (q : ℕ). TabsAt (w .written ++ one) (splice m (to + t .words) new) to q) (sym ew)
               (tabs-join (w .written) one (splice m (to + t .words) new) to (t .words) (to + t .words) (length new) (tabs-before o (w .tabs) (omega arith)) tab-one refl);
           binds = subst (λ (q : ℕ). At (bindingWords (w .rs)) (splice m (to + t .words) new) q) (sym eb)
@@ -359,16 +358,16 @@ module _ (s : Sig) (l : List ℕ) (at e k to d₀ : ℕ) (c : FrontAsks l at e k
           all-repls = w .all-repls
               ∙ ap (λ (zs : List Atom). canonicalize s zs [] .repls ++ w .rs) all-is
               ∙ ap (λ (z : canon.Canonical). z .repls ++ w .rs) still-is;
-          only = only-then (w .only) (only-wide at d₀ o (omega (arith, c .clear)) (omega (arith, w .room, short, weights, w .count)));
+          only = only-then (w .only) (only-wide at d₀ o (omega (arith, c .clear, c .spanned .beyond)) (omega (arith, w .room, short, weights, w .count)));
         })
 
     asked : (m₂ : List ℕ) (i₂ : ℕ) (t₂ : Canonical) (r : Replacement) → asks s (eqn (front-here .place) (front-here .a) (front-here .b)) ≡ some r → i₂ ≡ i + 3 → t₂ .words ≡ t .words → t₂ .binds ≡ t .binds - 3
-        → m₂ ≡ wordsAfter (some r) m (at + i + 3) (e - i + k - 3) (t .binds) → Fronting s l m₂ at e k to d₀ i₂ t₂
+        → Swept r m m₂ (at + i + 3) (e - i + k - 3) (t .binds) table buckets → Fronting s l m₂ at e k to d₀ table buckets i₂ t₂
     asked m₂ i₂ t₂ r n ei ew eb em =
         let y : Atom = eqn (front-here .place) (front-here .a) (front-here .b) in
         let behind : AtomsAt (front-here .es ++ w .others) m (at + i + 3) (e - i + k - 3) = front-here .behind (at + i + 3) (e - i + k - 3) refl refl in
         let v : isVar s (r .old) ≡ true = asked-var s y r n in
-        let mk = made s r (front-here .es ++ w .others) (w .rs) m m₂ (at + i + 3) (e - i + k - 3) (t .binds) v behind (w .binds) (omega (arith, front-one-asks .binds, front-one-asks .whole)) em in
+        let mk = made s r (front-here .es ++ w .others) (w .rs) m m₂ (at + i + 3) (e - i + k - 3) (t .binds) table buckets v behind (w .binds) (front-one-asks .binds) em in
         let zs : List Atom = map (replaceAtom r) (front-here .es) ++ map (replaceAtom r) (w .others) in
         let split : map (replaceAtom r) (front-here .es ++ w .others) ≡ zs = map-append (replaceAtom r) (front-here .es) (w .others) in
         let first : firstReplacement s (y ∷ (front-here .es ++ w .others)) ≡ some r = ap (λ (o : Option Replacement). orElse o (firstReplacement s (front-here .es ++ w .others))) n in
@@ -378,24 +377,24 @@ module _ (s : Sig) (l : List ℕ) (at e k to d₀ : ℕ) (c : FrontAsks l at e k
         subst (λ (us : List Atom). weight (map (replaceAtom r) (front-here .es ++ w .others)) + 4 ≤ weight us) (sym all-is)
         (omega (arith, weight-replaced s (y ∷ (front-here .es ++ w .others)) r first, gone)) in
         let asked-is = canonicalize-asked s (front-here .place) (front-here .a) (front-here .b) (front-here .es ++ w .others) [] r n ∙ canonicalize-repls s (map (replaceAtom r) (front-here .es ++ w .others)) (r ∷ []) in
-        let base : Fronting s l m₂ at e k to d₀ i₂ t₂ =
+        let base : Fronting s l m₂ at e k to d₀ table buckets i₂ t₂ =
         record {
           eqs = map (replaceAtom r) (front-here .es);
           others = map (replaceAtom r) (w .others);
           written = w .written;
           rs = r ∷ w .rs;
           equalities = replaced-eqns r (front-here .es) (front-here .equalities);
-          heads = λ g. replaced-tabs r (w .others) (w .heads g);
           left = omega (arith, long, length-map (front-here .es) (replaceAtom r));
           stand = subst (λ (us : List Atom). AtomsAt us m₂ (at + i₂) (e - i₂ + k)) split
               (subst (λ (q : ℕ). AtomsAt (map (replaceAtom r) (front-here .es ++ w .others)) m₂ q (e - i₂ + k)) (omega arith)
               (subst (λ (q : ℕ). AtomsAt (map (replaceAtom r) (front-here .es ++ w .others)) m₂ (at + i + 3) q) (omega (arith, long)) (mk .atoms)));
+          spanned = spanned-tail m₂ (at + i + 3) (e - i + k - 3) table buckets (at + i₂) (e - i₂ + k) (mk .spanned) (omega arith) (omega (arith, long));
           tabs = subst (λ (q : ℕ). TabsAt (w .written) m₂ to q) (sym ew)
               (record {
                 fits = w .tabs .fits;
                 bare = w .tabs .bare;
                 size = w .tabs .size;
-                at = mk .between (wordsOf tabWords (w .written)) to (w .tabs .at) (omega (arith, c .clear, long)) (omega (arith, w .tabs .size, w .room));
+                at = mk .between (wordsOf tabWords (w .written)) to (w .tabs .at) (c .clear) (omega (arith, w .tabs .size, w .room));
                 within = omega (arith, mk .only .size, w .tabs .within);
               });
           binds = subst (λ (q : ℕ). At (bindingWords (r ∷ w .rs)) m₂ q) (sym eb) (mk .binds);
@@ -416,28 +415,28 @@ module _ (s : Sig) (l : List ℕ) (at e k to d₀ : ℕ) (c : FrontAsks l at e k
         base
 
     -- a turn of the loop
-    pub fronting-next : s .valueEq < limit12 → (m₂ : List ℕ) (i₂ : ℕ) (t₂ r : Canonical) → FrontOne s m m₂ (at + i) (e - i + k) (to + t .words) (t .binds) r
-        → i₂ ≡ i + 3 → t₂ .words ≡ t .words + r .words → t₂ .binds ≡ r .binds → Fronting s l m₂ at e k to d₀ i₂ t₂
+    pub fronting-next : s .valueEq < limit12 → (m₂ : List ℕ) (i₂ : ℕ) (t₂ r : Canonical) → FrontOne s m m₂ (at + i) (e - i + k) (to + t .words) (t .binds) table buckets r
+        → i₂ ≡ i + 3 → t₂ .words ≡ t .words + r .words → t₂ .binds ≡ r .binds → Fronting s l m₂ at e k to d₀ table buckets i₂ t₂
     fronting-next v m₂ i₂ t₂ r z ei ew eb =
         go (asks s (eqn (front-here .place) (front-here .a) (front-here .b))) refl
-        (subst (λ (o : Option Replacement). FrontStep o s m m₂ (at + i) (e - i + k) (to + t .words) (t .binds) r)
+        (subst (λ (o : Option Replacement). FrontStep o s m m₂ (at + i) (e - i + k) (to + t .words) (t .binds) table buckets r)
         (ask-is s (eqn (front-here .place) (front-here .a) (front-here .b)) m (at + i) (front-here .stands)) (z .step))
       where
-        go : (o : Option Replacement) → asks s (eqn (front-here .place) (front-here .a) (front-here .b)) ≡ o → FrontStep o s m m₂ (at + i) (e - i + k) (to + t .words) (t .binds) r
-            → Fronting s l m₂ at e k to d₀ i₂ t₂
+        go : (o : Option Replacement) → asks s (eqn (front-here .place) (front-here .a) (front-here .b)) ≡ o → FrontStep o s m m₂ (at + i) (e - i + k) (to + t .words) (t .binds) table buckets r
+            → Fronting s l m₂ at e k to d₀ table buckets i₂ t₂
         go none n q = still m₂ i₂ t₂ n ei (ew ∙ ap (λ (u : ℕ). t .words + u) (q .0)) (eb ∙ q .1) v (q .2)
         go (some u) n q = asked m₂ i₂ t₂ u n ei (nothing (t .words) (r .words) (t₂ .words) ew (q .0)) (eb ∙ q .1) (q .2)
           where
             nothing : (a b x : ℕ) → x ≡ a + b → b ≡ 0 → x ≡ a
             nothing a b x f g = omega arith
 
-  pub fronting-end : (m : List ℕ) (i : ℕ) (t : Canonical) → Fronting s l m at e k to d₀ i t → e ≤ i → Fronted s (atomsIn l at e) (atomsIn l (at + e) k) l m at e k to d₀ t
+  pub fronting-end : (m : List ℕ) (i : ℕ) (t : Canonical) → Fronting s l m at e k to d₀ table buckets i t → e ≤ i → Fronted s (atomsIn l at e) (atomsIn l (at + e) k) l m at e k to d₀ table buckets t
   fronting-end m i t w h = go (w .eqs) refl
     where
       left-over : (e k : ℕ) → e - e + k ≡ k
       left-over e k = omega arith
 
-      go : (es : List Atom) → w .eqs ≡ es → Fronted s (atomsIn l at e) (atomsIn l (at + e) k) l m at e k to d₀ t
+      go : (es : List Atom) → w .eqs ≡ es → Fronted s (atomsIn l at e) (atomsIn l (at + e) k) l m at e k to d₀ table buckets t
       go (z ∷ es) q = absurd (omega (arith, w .left, ap length q))
       go [] q =
           let gone : w .eqs ++ w .others ≡ w .others = ap (λ (us : List Atom). us ++ w .others) q in
@@ -446,11 +445,11 @@ module _ (s : Sig) (l : List ℕ) (at e k to d₀ : ℕ) (c : FrontAsks l at e k
             written = w .written;
             rs = w .rs;
             rest = w .others;
-            heads = w .heads;
             tabs = w .tabs;
             others = subst (λ (us : List Atom). AtomsAt us m (at + e) k) gone
                 (subst (λ (u : ℕ). AtomsAt (w .eqs ++ w .others) m (at + e) u) (left-over e k)
                 (subst (λ (u : ℕ). AtomsAt (w .eqs ++ w .others) m (at + u) (e - u + k)) ie (w .stand)));
+            spanned = spanned-tail m (at + i) (e - i + k) table buckets (at + e) k (w .spanned) (omega arith) (omega arith);
             binds = w .binds;
             count = w .count;
             room = subst (λ (us : List Atom). to + t .words + weight us + 3 * length us + 3 ≤ t .binds) gone (w .room);

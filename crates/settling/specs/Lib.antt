@@ -2,6 +2,9 @@
 pub mod Terms
 pub mod Standing
 pub mod Canonicalize
-pub mod Keys
+pub mod Buckets
+pub mod Spans
+pub mod Chains
 pub mod RemoveDupVars
+pub mod Joining
 pub mod Settle

@@ -1,118 +1,193 @@
 -- What the functions of `remove_dup_vars` ask and give, in the definitions' words. Assumes nothing: these are definitions.
-use mathlib.Core.Bool.{Bool, false, true}
+use mathlib.Core.Bool.{Bool, false, true, _&&_, cond, not}
 use mathlib.Core.List.{List, [], _++_, _∷_, map}
 use mathlib.Core.Path.{_≡_}
-use Prim.Native.Nat.{_*_, _+_, _-_, _≤_, ℕ}
-use lib.ListN.{length}
+use Prim.Native.Nat.{_*_, _+_, _-_, _<_, _≤_, ℕ}
+use lib.ListN.{getD, length}
 use Rattle.octets.specs.Regions.{At, Only, part, splice}
-use Rattle.rules.specs.Flat.{Tab, atomWords, tab, tabWords, wordsOf}
-use Rattle.rules.specs.RemoveDupVars.{clashes, keep, merged, seen}
-use Rattle.meaning.proofs.MergePass.{IsEqn}
+use Rattle.rules.specs.Flat.{Atom, Tab, eqn, tabWords, wordsOf}
+use Rattle.rules.specs.RemoveDupVars.{alike, keep, merged, seen}
+use Rattle.rules.specs.Signature.{sameTerm}
+use Rattle.rules.specs.Words.{unit}
 use Rattle.meaning.specs.Meaning.{All}
-use Rattle.meaning.specs.ReadBack.{EncodableTab}
-use Rattle.meaning.specs.Weight.{weight}
 use Rattle.settling.specs.declared.remove_dup_vars.Merged.{Merged}
-use Rattle.settling.specs.Keys.{keysOf}
-use Rattle.settling.specs.Standing.{AtomsAt, TabsAt, atomsIn, sizeAt, tabAt, tabsIn}
+use Rattle.settling.specs.Chains.{LinksAt, MarksAt}
+use Rattle.settling.specs.Standing.{TabAt, TabsAt, sizeAt, tabAt, tabsIn}
 
--- ---- the equalities of a group
+-- ---- groups
 
--- the words of the equality of two atoms, if there is one
-unfoldable pub clashAt : List ℕ → ℕ → ℕ → List ℕ
-clashAt l p q = wordsOf atomWords (clashes (tabAt l p) (tabAt l q ∷ []))
+-- the equalities of a group: its first output is equal to each of the others
+pub record Group : Type 0 where
+  pub left : ℕ
+  pub rights : List ℕ
 
-pub record ClashesAsk (l : List ℕ) (p from n to : ℕ) : Type 0 where
-  pub first : At (tabWords (tabAt l p)) l p
-  pub fits : EncodableTab (tabAt l p)
-  pub tabs : TabsAt (tabsIn l from n) l from n
-  pub before : p ≤ from
-  pub room : to + length (wordsOf atomWords (clashes (tabAt l p) (tabsIn l from n))) ≤ p
+-- a group without equalities is not written
+abbrev pub groupFor : ℕ → List ℕ → List ℕ
+groupFor left [] = []
+groupFor left (r ∷ rs) = left ∷ length (r ∷ rs) ∷ r ∷ rs
 
-pub record Clashed (l m : List ℕ) (p from n to r : ℕ) : Type 0 where
-  pub at : At (wordsOf atomWords (clashes (tabAt l p) (tabsIn l from n))) m to
-  pub size : r ≡ length (wordsOf atomWords (clashes (tabAt l p) (tabsIn l from n)))
-  pub only : Only l m to (to + r)
+abbrev pub groupWords : Group → List ℕ
+groupWords g = groupFor (g .left) (g .rights)
+
+-- the later outputs of a's group that are unlike a's
+abbrev pub rightsOf : Tab → List Tab → List ℕ
+rightsOf a [] = []
+rightsOf a (b ∷ xs) = cond (alike a b && not (sameTerm (a .out) (b .out))) (b .out ∷ rightsOf a xs) (rightsOf a xs)
+
+abbrev pub groupOf : Tab → List Tab → Group
+groupOf a xs = record { left = a .out; rights = rightsOf a xs }
+
+-- the groups of a pass, which follow their first atoms
+abbrev pub groupsOf : List Tab → List Tab → List Group
+groupsOf firsts [] = []
+groupsOf firsts (a ∷ xs) = cond (seen a firsts) (groupsOf firsts xs) (groupOf a xs ∷ groupsOf (a ∷ firsts) xs)
+
+-- the equalities themselves
+abbrev pub eqnsOf : Group → List Atom
+eqnsOf g = map (λ (r : ℕ). eqn 0 (g .left) r) (g .rights)
+
+abbrev pub allEqns : List Group → List Atom
+allEqns [] = []
+allEqns (g ∷ gs) = eqnsOf g ++ allEqns gs
+
+-- ---- two atoms
+
+pub record MemberAsks (l : List ℕ) (p q mark to : ℕ) : Type 0 where
+  pub first : TabAt l p
+  pub later : TabAt l q
+  pub apart : to < mark
+  pub below : mark < p
+  pub behind : p ≤ q
+
+-- what is written of the atom at q
+abbrev pub cellsOf : (isAlike isSame : Bool) → ℕ → List ℕ
+cellsOf true false b = b ∷ []
+cellsOf true true b = []
+cellsOf false same b = []
+
+abbrev pub cellsAt : List ℕ → ℕ → ℕ → List ℕ
+cellsAt l p q = cellsOf (alike (tabAt l p) (tabAt l q)) (sameTerm (tabAt l p .out) (tabAt l q .out)) (tabAt l q .out)
+
+abbrev pub marked : Bool → List ℕ → ℕ → List ℕ
+marked true l mark = splice l mark (1 ∷ [])
+marked false l mark = l
+
+pub record Member (l m : List ℕ) (p q mark to r : ℕ) : Type 0 where
+  pub size : r ≡ length (cellsAt l p q)
+  pub words : m ≡ splice (marked (alike (tabAt l p) (tabAt l q)) l mark) to (cellsAt l p q)
+
+-- ---- the group of an atom
+
+-- the atoms behind that at offset i
+unfoldable pub behind : List ℕ → (from n i : ℕ) → List Tab
+behind l from n i = tabsIn l (from + i + sizeAt l (from + i)) (n - i - sizeAt l (from + i))
+
+-- they stand, they are linked by some number of buckets, and there is room for the group below the links
+pub record GroupAsks (l : List ℕ) (from n i links to : ℕ) : Type 0 where
+  pub tabs : TabsAt (tabAt l (from + i) ∷ behind l from n i) l (from + i) (n - i)
+  pub buckets : ℕ
+  pub linked : LinksAt buckets (tabAt l (from + i) ∷ behind l from n i) i l links
+  pub inside : i < n
+  pub small : n < 0x1000_0000
+  pub below : links + n + 1 ≤ from
+  pub room : to + length (groupWords (groupOf (tabAt l (from + i)) (behind l from n i))) ≤ links
+
+-- of the atoms ts, which stand from offset i on, those alike to a are marked
+unfoldable pub MarkedBy : Tab → List Tab → ℕ → List ℕ → List ℕ → ℕ → Type 0
+MarkedBy a [] i l m links = Unit {0}
+MarkedBy a (t ∷ ts) i l m links =
+    (getD m (links + i + 2) 0 ≡ cond (alike a t) 1 (getD l (links + i + 2) 0)) × MarkedBy a ts (i + length (tabWords t)) l m links
+
+-- the links of the atoms ts are as they were
+unfoldable pub LinksKept : List Tab → ℕ → List ℕ → List ℕ → ℕ → Type 0
+LinksKept [] i l m links = Unit {0}
+LinksKept (t ∷ ts) i l m links =
+    (getD m (links + i + 1) 0 ≡ getD l (links + i + 1) 0) × LinksKept ts (i + length (tabWords t)) l m links
+
+pub record Grouped (l m : List ℕ) (from n i links to r : ℕ) : Type 0 where
+  pub at : At (groupWords (groupOf (tabAt l (from + i)) (behind l from n i))) m to
+  pub size : r ≡ length (groupWords (groupOf (tabAt l (from + i)) (behind l from n i)))
+  pub marks : MarkedBy (tabAt l (from + i)) (behind l from n i) (i + sizeAt l (from + i)) l m links
+  pub chained : LinksKept (behind l from n i) (i + sizeAt l (from + i)) l m links
+  pub only : Only l m to (links + n + 1)
 
 -- ---- one atom of a pass
 
--- the atoms after that at p, of the `left` words from p on, and the words of its equalities with them
-unfoldable pub restAt : List ℕ → ℕ → ℕ → List Tab
-restAt l p left = tabsIn l (p + sizeAt l p) (left - sizeAt l p)
-
-unfoldable pub dueAt : List ℕ → ℕ → ℕ → List ℕ
-dueAt l p left = wordsOf atomWords (clashes (tabAt l p) (restAt l p left))
-
-pub record MergeOneAsks (l : List ℕ) (p left eqs kept : ℕ) (t : Merged) : Type 0 where
-  pub first : At (tabWords (tabAt l p)) l p
-  pub fits : EncodableTab (tabAt l p)
-  pub rest : TabsAt (restAt l p left) l (p + sizeAt l p) (left - sizeAt l p)
-  pub some : sizeAt l p ≤ left
-  pub firsts : TabsAt (tabsIn l kept (t .kept)) l kept (t .kept)
-  pub apart : p + left ≤ kept
+-- of the atoms that are left those are marked that are alike to one of `firsts`
+pub record MergeOneAsks (l : List ℕ) (from n i eqs links : ℕ) (t : Merged) : Type 0 where
+  pub firsts : List Tab
+  pub tabs : TabsAt (tabAt l (from + i) ∷ behind l from n i) l (from + i) (n - i)
+  pub buckets : ℕ
+  pub linked : LinksAt buckets (tabAt l (from + i) ∷ behind l from n i) i l links
+  pub marks : MarksAt firsts (tabAt l (from + i) ∷ behind l from n i) i l links
+  pub inside : i < n
+  pub small : n < 0x1000_0000
+  pub down : t .kept ≤ i
   pub few : t .atoms ≤ t .kept
-  pub room-eqs : seen (tabAt l p) (tabsIn l kept (t .kept)) ≡ false → eqs + t .eqs + length (dueAt l p left) ≤ p
-  pub room-kept : seen (tabAt l p) (tabsIn l kept (t .kept)) ≡ false → kept + t .kept + sizeAt l p ≤ length l
+  pub below : links + n + 1 ≤ from
+  pub room : seen (tabAt l (from + i)) firsts ≡ false → eqs + t .eqs + length (groupWords (groupOf (tabAt l (from + i)) (behind l from n i))) ≤ links
 
--- no atom before it or after it is alike
-pub record Alone (l : List ℕ) (p left kept : ℕ) (t : Merged) : Type 0 where
-  pub new : seen (tabAt l p) (tabsIn l kept (t .kept)) ≡ false
-  pub calm : dueAt l p left ≡ []
-
--- the atom starts a group: its equalities are written, then it is copied
-pub record KeptOne (l m : List ℕ) (p left eqs kept : ℕ) (t r : Merged) : Type 0 where
-  pub mid : List ℕ
-  pub due : At (dueAt l p left) mid (eqs + t .eqs)
-  pub only : Only l mid (eqs + t .eqs) (eqs + t .eqs + length (dueAt l p left))
-  pub copied : m ≡ splice mid (kept + t .kept) (part mid p (sizeAt l p))
-  pub eqs-end : r .eqs ≡ t .eqs + length (dueAt l p left)
-  pub kept-end : r .kept ≡ t .kept + sizeAt l p
+-- a kept atom: its group is written, those alike behind it are marked, and it stands behind `firsts`
+pub record KeptOne (l m : List ℕ) (from n i eqs links : ℕ) (t r : Merged) : Type 0 where
+  pub at : At (groupWords (groupOf (tabAt l (from + i)) (behind l from n i))) m (eqs + t .eqs)
+  pub eqs-end : r .eqs ≡ t .eqs + length (groupWords (groupOf (tabAt l (from + i)) (behind l from n i)))
+  pub kept-end : r .kept ≡ t .kept + sizeAt l (from + i)
   pub atoms-end : r .atoms ≡ t .atoms + 1
+  pub moved : At (tabWords (tabAt l (from + i))) m (from + t .kept)
+  pub marks : MarkedBy (tabAt l (from + i)) (behind l from n i) (i + sizeAt l (from + i)) l m links
+  pub chained : LinksKept (behind l from n i) (i + sizeAt l (from + i)) l m links
+  pub only : Only l m (eqs + t .eqs) (from + i + sizeAt l (from + i))
+  -- what was kept before stays
+  pub before : (ws : List ℕ) (p : ℕ) → At ws l p → from ≤ p → p + length ws ≤ from + t .kept → At ws m p
 
-abbrev pub OneStep : (wasSeen : Bool) → List ℕ → List ℕ → ℕ → ℕ → ℕ → ℕ → Merged → Merged → Type 0
-OneStep true l m p left eqs kept t r = (r ≡ t) × (m ≡ l)
-OneStep false l m p left eqs kept t r = KeptOne l m p left eqs kept t r
+abbrev pub OneStep : (wasSeen : Bool) → List ℕ → List ℕ → (from n i eqs links : ℕ) → Merged → Merged → Type 0
+OneStep true l m from n i eqs links t r = (r ≡ t) × (m ≡ l)
+OneStep false l m from n i eqs links t r = KeptOne l m from n i eqs links t r
 
-pub record MergedOne (l m : List ℕ) (p left eqs kept : ℕ) (t r : Merged) : Type 0 where
-  pub step : OneStep (seen (tabAt l p) (tabsIn l kept (t .kept))) l m p left eqs kept t r
+pub record MergedOne (l m : List ℕ) (from n i eqs links : ℕ) (t r : Merged) : Type 0 where
+  pub step : (firsts : List Tab) → MarksAt firsts (tabAt l (from + i) ∷ behind l from n i) i l links → OneStep (seen (tabAt l (from + i)) firsts) l m from n i eqs links t r
 
 -- ---- a pass
 
-pub record MergeAsks (l : List ℕ) (from n eqs kept : ℕ) : Type 0 where
+pub record MergeAsks (l : List ℕ) (from n eqs links : ℕ) : Type 0 where
   pub tabs : TabsAt (tabsIn l from n) l from n
-  pub room-eqs : eqs + length (wordsOf atomWords (merged [] (tabsIn l from n))) ≤ from
-  pub apart : from + n ≤ kept
-  pub room-kept : kept + length (wordsOf tabWords (keep [] (tabsIn l from n))) ≤ length l
+  pub buckets : ℕ
+  pub linked : LinksAt buckets (tabsIn l from n) 0 l links
+  pub marks : MarksAt [] (tabsIn l from n) 0 l links
+  pub small : n < 0x1000_0000
+  pub below : links + n + 1 ≤ from
+  pub room : eqs + length (wordsOf groupWords (groupsOf [] (tabsIn l from n))) ≤ links
 
-pub record MergedAll (l m : List ℕ) (from n eqs kept : ℕ) (r : Merged) : Type 0 where
-  pub equals : AtomsAt (merged [] (tabsIn l from n)) m eqs (r .eqs)
-  pub tabs : TabsAt (keep [] (tabsIn l from n)) m kept (r .kept)
+pub record MergedAll (l m : List ℕ) (from n eqs links : ℕ) (r : Merged) : Type 0 where
+  pub groups : At (wordsOf groupWords (groupsOf [] (tabsIn l from n))) m eqs
+  pub size : r .eqs ≡ length (wordsOf groupWords (groupsOf [] (tabsIn l from n)))
+  pub tabs : TabsAt (keep [] (tabsIn l from n)) m from (r .kept)
   pub atoms : r .atoms ≡ length (keep [] (tabsIn l from n))
-  pub only : Only l m eqs (kept + r .kept)
+  pub only : Only l m eqs (from + n)
 
--- the keys of the atoms stand beyond what is kept
-pub record KeysAt (l : List ℕ) (from n kept keys k : ℕ) : Type 0 where
-  pub at : At (keysOf (tabsIn l from n)) l keys
-  pub count : k ≡ length (tabsIn l from n)
-  pub apart : kept + length (wordsOf tabWords (keep [] (tabsIn l from n))) ≤ keys
+pub record PassAsks (l : List ℕ) (from n eqs links table : ℕ) : Type 0 where
+  pub tabs : TabsAt (tabsIn l from n) l from n
+  pub small : n < 0x1000_0000
+  pub room-eqs : eqs + length (wordsOf groupWords (groupsOf [] (tabsIn l from n))) ≤ links
+  pub below : links + n + 1 ≤ from
+  pub beyond : from + n ≤ table
+  pub room : table + n + 1 ≤ length l
 
-pub record PassAsks (l : List ℕ) (from n eqs kept keys : ℕ) : Type 0 where
-  pub asks : MergeAsks l from n eqs kept
-  pub apart : kept + length (wordsOf tabWords (keep [] (tabsIn l from n))) ≤ keys
-  pub room : keys + length (tabsIn l from n) ≤ length l
-
-pub record Passed (l m : List ℕ) (from n eqs kept keys : ℕ) (r : Merged) : Type 0 where
-  pub equals : AtomsAt (merged [] (tabsIn l from n)) m eqs (r .eqs)
-  pub tabs : TabsAt (keep [] (tabsIn l from n)) m kept (r .kept)
+pub record Passed (l m : List ℕ) (from n eqs table : ℕ) (r : Merged) : Type 0 where
+  pub groups : At (wordsOf groupWords (groupsOf [] (tabsIn l from n))) m eqs
+  pub size : r .eqs ≡ length (wordsOf groupWords (groupsOf [] (tabsIn l from n)))
+  pub tabs : TabsAt (keep [] (tabsIn l from n)) m from (r .kept)
   pub atoms : r .atoms ≡ length (keep [] (tabsIn l from n))
-  pub only : Only l m eqs (keys + length (tabsIn l from n))
+  pub only : Only l m eqs (table + n + 1)
 
--- ---- the equalities of a pass in front of the atoms that it kept
+-- ---- groups where they stand
 
-pub record AgainAsks (l : List ℕ) (at e k kept to d : ℕ) : Type 0 where
-  pub eqs : AtomsAt (atomsIn l at e) l at e
-  pub equalities : All IsEqn (atomsIn l at e)
-  pub kepts : TabsAt (tabsIn l kept k) l kept k
-  pub clear : at + e + k ≤ to
-  pub below : to ≤ kept
-  pub room : to + weight (atomsIn l at e ++ map tab (tabsIn l kept k)) + 3 * length (atomsIn l at e ++ map tab (tabsIn l kept k)) + 3 ≤ d
-  pub top : d ≤ length l
+-- groups that are written have an equality each
+abbrev pub Some : Group → Type 0
+Some g = 1 ≤ length (g .rights)
+
+pub record GroupsAt (gs : List Group) (l : List ℕ) (p n : ℕ) : Type 0 where
+  pub some : All Some gs
+  pub few : All (λ (g : Group). length (g .rights) < unit) gs
+  pub size : n ≡ length (wordsOf groupWords gs)
+  pub at : At (wordsOf groupWords gs) l p

@@ -2,7 +2,7 @@
 -- Assumes nothing: these are definitions.
 use mathlib.Core.Path.{_≡_}
 use mathlib.Core.List.{List}
-use Prim.Native.Nat.{ℕ, _+_, _*_, _≤_}
+use Prim.Native.Nat.{ℕ, _+_, _*_, _<_, _≤_}
 use lib.ListN.{length}
 use Rattle.octets.specs.Regions.{At, Only}
 use Rattle.rules.specs.Signature.{Sig}
@@ -16,6 +16,7 @@ use Rattle.settling.specs.Canonicalize.{bindingWords}
 pub record SettleAsks (l : List ℕ) (at n : ℕ) : Type 0 where
   pub body : BodyAt (atomsIn l at n) l at n
   pub room : at + 8 * n + 3 ≤ length l
+  pub small : at + 2 * n < 0x1000_0000
 
 -- the settled atoms and the bindings stand where the result says, its counts are the definition's, and nothing changed but the words lent
 pub record SettledAt (s : Sig) (xs : List Atom) (l m : List ℕ) (at n : ℕ) (r : Settled) : Type 0 where

@@ -2,11 +2,11 @@
 //
 // For a body of n words at `at` the scratch holds
 //
-//     at          2n words   the body; later the equalities of a pass with the kept atoms behind them, canonicalized in place
-//     at + 2n     2n words   the atoms of the next pass
-//     at + 4n     2n words   the atoms that a pass keeps: here the settled atoms stand at the end
-//     at + 6n     n/2 words  the keys of a pass, one word an atom
-//     at + 8n + 3            the end of the bindings, three words each, which are written downward
+//     at             2n words      the body, and a table of spans behind it, up to 3n; later the groups of a pass
+//     at + 2n        2n + 1 words  the links of a pass; later what becomes of its equalities
+//     at + 4n + 1    2n words      the atoms of the next pass: here the settled atoms stand at the end
+//     at + 6n + 1    2n + 1 words  the buckets of a pass, one more than the atoms have words
+//     at + 8n + 3                  the end of the bindings, three words each, which are written downward
 //
 // That this suffices is a law of the definitions: settling never makes a body and its replacements heavier.
 ghost use mathlib.Core.Path.{_≡_};
@@ -19,9 +19,12 @@ ghost use Rattle.settling.specs.Standing.{BodyAt};
 ghost use Rattle.settling.specs.Settle.{SettleAsks, SettledAt};
 
 pub mod atoms;
+pub mod buckets;
 pub mod canonicalize;
-pub mod keys;
+pub mod chains;
+pub mod joining;
 pub mod remove_dup_vars;
+pub mod spans;
 pub mod terms;
 
 use crate::terms::Sign;
@@ -43,18 +46,28 @@ pub fn settle(s: &mut [u8], at: usize, n: usize, q: Sign) -> Settled
     requires { ⌜ SettleAsks (words (now s)) at n ⌝ }
     ensures { λ r. ⌜ ((g : Sig) (xs : List Atom) → Agrees q g → BodyAt xs (words (now (s .entry))) at n → SettledAt g xs (words (now (s .entry))) (words (now (s .exit))) at n r) ⌝ }
 {
-    let body = at + 2 * n;
-    let kept = at + 4 * n;
-    let keys = at + 6 * n;
+    if n == 0 {
+        return Settled {
+            at,
+            words: 0,
+            atoms: 0,
+            binds: at,
+            replacements: 0,
+            passes: 1,
+        };
+    }
+    let links = at + 2 * n;
+    let body = at + 4 * n + 1;
+    let table = at + 6 * n + 1;
     let end = at + 8 * n + 3;
     let mut c = canonicalize::canonicalize(s, at, n, body, end, q);
     let mut passes = 0;
     loop {
-        let t = remove_dup_vars::merge_pass(s, body, c.words, at, kept, keys);
+        let t = remove_dup_vars::merge_pass(s, body, c.words, at, links, table);
         passes += 1;
         if t.eqs == 0 {
             return Settled {
-                at: kept,
+                at: body,
                 words: t.kept,
                 atoms: t.atoms,
                 binds: c.binds,
@@ -62,6 +75,6 @@ pub fn settle(s: &mut [u8], at: usize, n: usize, q: Sign) -> Settled
                 passes,
             };
         }
-        c = remove_dup_vars::canonicalize_again(s, at, t.eqs, t.kept, kept, body, c.binds, q);
+        c = joining::canonicalize_again(s, at, t.eqs, body, t.kept, links, c.binds, q);
     }
 }

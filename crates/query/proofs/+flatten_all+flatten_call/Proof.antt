@@ -80,8 +80,7 @@ flatten-all-loop-holds t c =
     let cs = words (a .counters .now) in
     let s = words (a .scratch .now) in
     let q = c .before .before .before .pre .1 .0 in
-    let room = c .before .before .before .pre .1 .1 in
-    (
+    let room = c .before .before .before .pre .1 .1 in (
       refl,
       refl,
       going-start (a .at) (a .to) (a .sp) (a .log) 0 s cs,
@@ -254,8 +253,7 @@ flatten-all-loop-again t c =
     let w = c .before .before .before .before .before .get .result in
     let is : w ≡ getD ws (l .next) 0 = c .before .before .before .before .before .get .ensures .is in
     let p = c .before .before .put in
-    let r : Walk = record { next = l .next + 1; to = l .end; log = l .uses; term = w; refused = 0 } in
-    (
+    let r : Walk = record { next = l .next + 1; to = l .end; log = l .uses; term = w; refused = 0 } in (
       i .0,
       p .kept .0 ∙ i .1,
       going-here (left-going flattened flattenedAll flattened-row (q .sig) ws (a .depth) (a .n) (a .at) (a .to) (a .sp) (a .log) s cs (q .known .0) (l .left) (l .top) s1 cs1 v lt some now s1 cs1 r (λ y. leaf-way (q .sig) ws (a .depth) (l .next) (l .end) (l .top) (l .uses) s1 cs1 y (counted-kept (q .known .1) hc) w is (c .before .before .before .before .if1 .taken)) _ room (i .2) refl (p .ensures)),

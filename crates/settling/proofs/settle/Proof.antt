@@ -1,6 +1,7 @@
+-- `settle` meets its contract: the invariant of its loop is `Settling`. Assumes nothing.
 use mathlib.Core.List.{List}
 use mathlib.Core.Path.{_∙_, _≡_, refl}
-use Prim.Native.Nat.{_+_, _-_, ℕ}
+use Prim.Native.Nat.{_+_, _-_, _≤_, ℕ}
 use native.Mathlib.Omega.{arith}
 use lib.ListN.{length}
 use borrow.Author.Needs.{needs}
@@ -8,153 +9,157 @@ use Rattle.octets.proofs.Words.{length-words}
 use Rattle.octets.specs.Words.{words}
 use Rattle.settling.specs.Settle.{SettleAsks}
 use Rattle.settling.specs.Terms.{sig}
-use Rattle.settling.proofs.Settling.{Settling, atoms-two, few, first-asks, merge-asks, next-asks, settled, settling-next, settling-start}
+use Rattle.settling.proofs.Settling.{Settling, atoms-two, few, first-asks, merge-asks, next-asks, settled, settled-none, settling-next, settling-start}
 use Rattle.settling.proofs.settle.Statement.{statement}
 use Rattle.settling.proofs.settle.Tie as tie
 use Rattle.settling.proofs.settle.Reads as reads
 use Rattle.settling.proofs.settle.Lts as lts
 use Rattle.settling.proofs.canonicalize.canonicalize.Reads as canonicalize-reads
-use Rattle.settling.proofs.remove_dup_vars.canonicalize_again.Reads as canonicalize-again-reads
+use Rattle.settling.proofs.joining.canonicalize_again.Reads as canonicalize-again-reads
 use Rattle.settling.proofs.remove_dup_vars.merge_pass.Reads as merge-pass-reads
 
+-- the test in front has told that there are words
+some-words : (n : ℕ) → (n ≡ 0 → ⊥) → 1 ≤ n
+some-words n h = omega (arith, h)
+
 abbrev Inv-loop : tie.InvT-loop
-Inv-loop s₀ at n q body kept keys end c₀ passes₀ s c passes = (length s ≡ length s₀) × ((l : List ℕ) → SettleAsks l at n → Settling (sig q) l (words s₀) at n c₀ passes₀ → Settling (sig q) l (words s) at n c passes)
+Inv-loop s₀ at n q links body table end c₀ passes₀ s c passes = (length s ≡ length s₀) × ((l : List ℕ) → SettleAsks l at n → 1 ≤ n → Settling (sig q) l (words s₀) at n c₀ passes₀ → Settling (sig q) l (words s) at n c passes)
 
 abbrev μ-loop : tie.MeasureT-loop
-μ-loop s₀ at n q body kept keys end c₀ passes₀ s c passes = n + 1 - passes
+μ-loop s₀ at n q links body table end c₀ passes₀ s c passes = n + 1 - passes
 
--- src/lib.rt:44:21
+returns : tie.Need-returns Inv-loop μ-loop
+returns c = λ g ys b y. settled-none g ys (words (c .before .before .args .s .now)) (c .before .before .args .at) (c .before .before .args .n) (c .if1 .taken) y
+
+mul-links : tie.Need-mul-links Inv-loop μ-loop
+mul-links c = omega (arith, length-words (c .before .before .args .s .now), c .before .before .pre .1 .room)
+
+add-links : tie.Need-add-links Inv-loop μ-loop
+add-links c = omega (arith, length-words (c .before .before .args .s .now), c .before .before .pre .1 .room)
+
 mul-body : tie.Need-mul-body Inv-loop μ-loop
-mul-body c = omega (arith, length-words (c .before .args .s .now), c .before .pre .1 .room)
+mul-body c = omega (arith, length-words (c .before .before .args .s .now), c .before .before .pre .1 .room)
 
--- src/lib.rt:44:16
 add-body : tie.Need-add-body Inv-loop μ-loop
-add-body c = omega (arith, length-words (c .before .args .s .now), c .before .pre .1 .room)
+add-body c = omega (arith, length-words (c .before .before .args .s .now), c .before .before .pre .1 .room)
 
--- src/lib.rt:45:21
-mul-kept : tie.Need-mul-kept Inv-loop μ-loop
-mul-kept c = omega (arith, length-words (c .before .args .s .now), c .before .pre .1 .room)
+add-body-2 : tie.Need-add-body-2 Inv-loop μ-loop
+add-body-2 c = omega (arith, length-words (c .before .before .args .s .now), c .before .before .pre .1 .room)
 
--- src/lib.rt:45:16
-add-kept : tie.Need-add-kept Inv-loop μ-loop
-add-kept c = omega (arith, length-words (c .before .args .s .now), c .before .pre .1 .room)
+mul-table : tie.Need-mul-table Inv-loop μ-loop
+mul-table c = omega (arith, length-words (c .before .before .args .s .now), c .before .before .pre .1 .room)
 
--- src/lib.rt:46:21
-mul-keys : tie.Need-mul-keys Inv-loop μ-loop
-mul-keys c = omega (arith, length-words (c .before .args .s .now), c .before .pre .1 .room)
+add-table : tie.Need-add-table Inv-loop μ-loop
+add-table c = omega (arith, length-words (c .before .before .args .s .now), c .before .before .pre .1 .room)
 
--- src/lib.rt:46:16
-add-keys : tie.Need-add-keys Inv-loop μ-loop
-add-keys c = omega (arith, length-words (c .before .args .s .now), c .before .pre .1 .room)
+add-table-2 : tie.Need-add-table-2 Inv-loop μ-loop
+add-table-2 c = omega (arith, length-words (c .before .before .args .s .now), c .before .before .pre .1 .room)
 
--- src/lib.rt:47:20
 mul-end : tie.Need-mul-end Inv-loop μ-loop
-mul-end c = omega (arith, length-words (c .before .args .s .now), c .before .pre .1 .room)
+mul-end c = omega (arith, length-words (c .before .before .args .s .now), c .before .before .pre .1 .room)
 
--- src/lib.rt:47:15
 add-end : tie.Need-add-end Inv-loop μ-loop
-add-end c = omega (arith, length-words (c .before .args .s .now), c .before .pre .1 .room)
+add-end c = omega (arith, length-words (c .before .before .args .s .now), c .before .before .pre .1 .room)
 
--- src/lib.rt:47:15
 add-end-2 : tie.Need-add-end-2 Inv-loop μ-loop
-add-end-2 c = omega (arith, length-words (c .before .args .s .now), c .before .pre .1 .room)
+add-end-2 c = omega (arith, length-words (c .before .before .args .s .now), c .before .before .pre .1 .room)
 
--- src/lib.rt:48:9
 canonicalize-requires : tie.Need-canonicalize-requires Inv-loop μ-loop
-canonicalize-requires c κs = (c .before .before .pre .0, first-asks (sig (c .before .before .args .q)) (words (c .before .before .args .s .now)) (c .before .before .args .at) (c .before .before .args .n) (c .before .before .pre .1))
+canonicalize-requires c κs =
+    let a = c .before .before .before .args in
+    let h = some-words (a .n) (c .before .if1 .left) in
+    (c .before .before .before .pre .0, first-asks (sig (a .q)) (words (a .s .now)) (a .at) (a .n) (c .before .before .before .pre .1) h)
 
--- src/lib.rt:50:5
 loop-holds : tie.Need-loop-holds Inv-loop μ-loop
-loop-holds c = (refl, λ l s p. p)
+loop-holds c = (refl, λ l s h p. p)
 
--- src/lib.rt:51:13
 merge-pass-requires : tie.Need-merge-pass-requires Inv-loop μ-loop
 merge-pass-requires c κs =
-    let a = c .before .before .before .before .before .before .before .args in
+    let a = c .before .before .before .before .before .before .before .before .args in
+    let h = some-words (a .n) (c .before .before .before .before .before .before .if1 .left) in
     let l = words (a .s .now) in
-    let w₀ = settling-start (sig (a .q)) l (a .at) (a .n) (c .before .before .before .before .before .before .before .pre .1) _ (c .before .before .before .before .canonicalize .result) (c .before .before .before .before .canonicalize .ensures) in
-    let w = c .before .loop .inv .1 l (c .before .before .before .before .before .before .before .pre .1) w₀ in
+    let w₀ = settling-start (sig (a .q)) l (a .at) (a .n) (c .before .before .before .before .before .before .before .before .pre .1) h _ (c .before .before .before .before .canonicalize .result) (c .before .before .before .before .canonicalize .ensures) in
+    let w = c .before .loop .inv .1 l (c .before .before .before .before .before .before .before .before .pre .1) h w₀ in
     let m = words (c .before .loop .s) in
     let r = c .before .loop .c in
     let k = c .before .loop .passes in
-    merge-asks (sig (a .q)) l (a .at) (a .n) (c .before .before .before .before .before .before .before .pre .1) m r k w
+    merge-asks (sig (a .q)) l (a .at) (a .n) (c .before .before .before .before .before .before .before .before .pre .1) h m r k w
 
--- src/lib.rt:52:9
 add-passes : tie.Need-add-passes Inv-loop μ-loop
 add-passes c =
-    let a = c .before .before .before .before .before .before .before .before .before .before .args in
+    let a = c .before .before .before .before .before .before .before .before .before .before .before .args in
+    let h = some-words (a .n) (c .before .before .before .before .before .before .before .before .before .if1 .left) in
     let l = words (a .s .now) in
-    let w₀ = settling-start (sig (a .q)) l (a .at) (a .n) (c .before .before .before .before .before .before .before .before .before .before .pre .1) _ (c .before .before .before .before .before .before .before .canonicalize .result) (c .before .before .before .before .before .before .before .canonicalize .ensures) in
-    let w = c .before .before .before .before .loop .inv .1 l (c .before .before .before .before .before .before .before .before .before .before .pre .1) w₀ in
+    let w₀ = settling-start (sig (a .q)) l (a .at) (a .n) (c .before .before .before .before .before .before .before .before .before .before .before .pre .1) h _ (c .before .before .before .before .before .before .before .canonicalize .result) (c .before .before .before .before .before .before .before .canonicalize .ensures) in
+    let w = c .before .before .before .before .loop .inv .1 l (c .before .before .before .before .before .before .before .before .before .before .before .pre .1) h w₀ in
     let m = words (c .before .before .before .before .loop .s) in
     let r = c .before .before .before .before .loop .c in
     let k = c .before .before .before .before .loop .passes in
-    omega (arith, few (sig (a .q)) l (a .at) (a .n) (c .before .before .before .before .before .before .before .before .before .before .pre .1) m r k w, atoms-two l (a .at) (a .n) (c .before .before .before .before .before .before .before .before .before .before .pre .1), c .before .before .before .before .before .before .before .before .before .before .pre .1 .room, length-words (a .s .now))
+    omega (arith, few (sig (a .q)) l (a .at) (a .n) (c .before .before .before .before .before .before .before .before .before .before .before .pre .1) h m r k w, atoms-two l (a .at) (a .n) (c .before .before .before .before .before .before .before .before .before .before .before .pre .1), c .before .before .before .before .before .before .before .before .before .before .before .pre .1 .room, length-words (a .s .now))
 
--- src/lib.rt:59:32
-sub-t19 : tie.Need-sub-t19 Inv-loop μ-loop
-sub-t19 c =
-    let a = c .before .before .before .before .before .before .before .before .before .before .before .before .before .args in
+sub-t20 : tie.Need-sub-t20 Inv-loop μ-loop
+sub-t20 c =
+    let a = c .before .before .before .before .before .before .before .before .before .before .before .before .before .before .args in
+    let h = some-words (a .n) (c .before .before .before .before .before .before .before .before .before .before .before .before .if1 .left) in
     let l = words (a .s .now) in
-    let w₀ = settling-start (sig (a .q)) l (a .at) (a .n) (c .before .before .before .before .before .before .before .before .before .before .before .before .before .pre .1) _ (c .before .before .before .before .before .before .before .before .before .before .canonicalize .result) (c .before .before .before .before .before .before .before .before .before .before .canonicalize .ensures) in
-    let w = c .before .before .before .before .before .before .before .loop .inv .1 l (c .before .before .before .before .before .before .before .before .before .before .before .before .before .pre .1) w₀ in
+    let w₀ = settling-start (sig (a .q)) l (a .at) (a .n) (c .before .before .before .before .before .before .before .before .before .before .before .before .before .before .pre .1) h _ (c .before .before .before .before .before .before .before .before .before .before .canonicalize .result) (c .before .before .before .before .before .before .before .before .before .before .canonicalize .ensures) in
+    let w = c .before .before .before .before .before .before .before .loop .inv .1 l (c .before .before .before .before .before .before .before .before .before .before .before .before .before .before .pre .1) h w₀ in
     let m = words (c .before .before .before .before .before .before .before .loop .s) in
     let r = c .before .before .before .before .before .before .before .loop .c in
     let k = c .before .before .before .before .before .before .before .loop .passes in
     omega (arith, w .count)
 
--- src/lib.rt:54:13
 same-length : tie.Need-same-length Inv-loop μ-loop
 same-length c = search needs
 
--- src/lib.rt:54:13
-returns : tie.Need-returns Inv-loop μ-loop
-returns c =
-    let a = c .before .before .before .before .before .before .before .before .before .before .before .before .before .args in
+returns-2 : tie.Need-returns-2 Inv-loop μ-loop
+returns-2 c =
+    let a = c .before .before .before .before .before .before .before .before .before .before .before .before .before .before .args in
+    let h = some-words (a .n) (c .before .before .before .before .before .before .before .before .before .before .before .before .if1 .left) in
     let l = words (a .s .now) in
-    let w₀ = settling-start (sig (a .q)) l (a .at) (a .n) (c .before .before .before .before .before .before .before .before .before .before .before .before .before .pre .1) _ (c .before .before .before .before .before .before .before .before .before .before .canonicalize .result) (c .before .before .before .before .before .before .before .before .before .before .canonicalize .ensures) in
-    let w = c .before .before .before .before .before .before .before .loop .inv .1 l (c .before .before .before .before .before .before .before .before .before .before .before .before .before .pre .1) w₀ in
+    let w₀ = settling-start (sig (a .q)) l (a .at) (a .n) (c .before .before .before .before .before .before .before .before .before .before .before .before .before .before .pre .1) h _ (c .before .before .before .before .before .before .before .before .before .before .canonicalize .result) (c .before .before .before .before .before .before .before .before .before .before .canonicalize .ensures) in
+    let w = c .before .before .before .before .before .before .before .loop .inv .1 l (c .before .before .before .before .before .before .before .before .before .before .before .before .before .before .pre .1) h w₀ in
     let m = words (c .before .before .before .before .before .before .before .loop .s) in
     let r = c .before .before .before .before .before .before .before .loop .c in
     let k = c .before .before .before .before .before .before .before .loop .passes in
-    λ g ys b y. settled (sig (a .q)) l (a .at) (a .n) (c .before .before .before .before .before .before .before .before .before .before .before .before .before .pre .1) m r k w _ (c .before .before .before .before .before .merge-pass .result) (c .before .before .before .before .before .merge-pass .ensures) g ys (b .globals) (b .equals) y (c .before .if1 .taken)
+    λ g ys b y. settled (sig (a .q)) l (a .at) (a .n) (c .before .before .before .before .before .before .before .before .before .before .before .before .before .before .pre .1) h m r k w _ (c .before .before .before .before .before .merge-pass .result) (c .before .before .before .before .before .merge-pass .ensures) g ys (b .globals) (b .equals) y (c .before .if2 .taken)
 
--- src/lib.rt:63:9
 canonicalize-again-requires : tie.Need-canonicalize-again-requires Inv-loop μ-loop
 canonicalize-again-requires c κs =
-    let a = c .before .before .before .before .before .before .before .before .before .before .before .before .before .args in
+    let a = c .before .before .before .before .before .before .before .before .before .before .before .before .before .before .args in
+    let h = some-words (a .n) (c .before .before .before .before .before .before .before .before .before .before .before .before .if1 .left) in
     let l = words (a .s .now) in
-    let w₀ = settling-start (sig (a .q)) l (a .at) (a .n) (c .before .before .before .before .before .before .before .before .before .before .before .before .before .pre .1) _ (c .before .before .before .before .before .before .before .before .before .before .canonicalize .result) (c .before .before .before .before .before .before .before .before .before .before .canonicalize .ensures) in
-    let w = c .before .before .before .before .before .before .before .loop .inv .1 l (c .before .before .before .before .before .before .before .before .before .before .before .before .before .pre .1) w₀ in
+    let w₀ = settling-start (sig (a .q)) l (a .at) (a .n) (c .before .before .before .before .before .before .before .before .before .before .before .before .before .before .pre .1) h _ (c .before .before .before .before .before .before .before .before .before .before .canonicalize .result) (c .before .before .before .before .before .before .before .before .before .before .canonicalize .ensures) in
+    let w = c .before .before .before .before .before .before .before .loop .inv .1 l (c .before .before .before .before .before .before .before .before .before .before .before .before .before .before .pre .1) h w₀ in
     let m = words (c .before .before .before .before .before .before .before .loop .s) in
     let r = c .before .before .before .before .before .before .before .loop .c in
     let k = c .before .before .before .before .before .before .before .loop .passes in
-    (c .before .before .before .before .before .before .before .before .before .before .before .before .before .pre .0, next-asks (sig (a .q)) l (a .at) (a .n) (c .before .before .before .before .before .before .before .before .before .before .before .before .before .pre .1) m r k w _ (c .before .before .before .before .before .merge-pass .result) (c .before .before .before .before .before .merge-pass .ensures))
+    (c .before .before .before .before .before .before .before .before .before .before .before .before .before .before .pre .0, next-asks (sig (a .q)) l (a .at) (a .n) (c .before .before .before .before .before .before .before .before .before .before .before .before .before .before .pre .1) h m r k w _ (c .before .before .before .before .before .merge-pass .result) (c .before .before .before .before .before .merge-pass .ensures))
 
--- src/lib.rt:50:5
 loop-less : tie.Need-loop-less Inv-loop μ-loop
 loop-less c =
-    let a = c .before .before .before .before .before .before .before .before .before .before .before .before .before .before .before .before .args in
+    let a = c .before .before .before .before .before .before .before .before .before .before .before .before .before .before .before .before .before .args in
+    let h = some-words (a .n) (c .before .before .before .before .before .before .before .before .before .before .before .before .before .before .before .if1 .left) in
     let l = words (a .s .now) in
-    let w₀ = settling-start (sig (a .q)) l (a .at) (a .n) (c .before .before .before .before .before .before .before .before .before .before .before .before .before .before .before .before .pre .1) _ (c .before .before .before .before .before .before .before .before .before .before .before .before .before .canonicalize .result) (c .before .before .before .before .before .before .before .before .before .before .before .before .before .canonicalize .ensures) in
-    let w = c .before .before .before .before .before .before .before .before .before .before .loop .inv .1 l (c .before .before .before .before .before .before .before .before .before .before .before .before .before .before .before .before .pre .1) w₀ in
+    let w₀ = settling-start (sig (a .q)) l (a .at) (a .n) (c .before .before .before .before .before .before .before .before .before .before .before .before .before .before .before .before .before .pre .1) h _ (c .before .before .before .before .before .before .before .before .before .before .before .before .before .canonicalize .result) (c .before .before .before .before .before .before .before .before .before .before .before .before .before .canonicalize .ensures) in
+    let w = c .before .before .before .before .before .before .before .before .before .before .loop .inv .1 l (c .before .before .before .before .before .before .before .before .before .before .before .before .before .before .before .before .before .pre .1) h w₀ in
     let m = words (c .before .before .before .before .before .before .before .before .before .before .loop .s) in
     let r = c .before .before .before .before .before .before .before .before .before .before .loop .c in
     let k = c .before .before .before .before .before .before .before .before .before .before .loop .passes in
-    omega (arith, few (sig (a .q)) l (a .at) (a .n) (c .before .before .before .before .before .before .before .before .before .before .before .before .before .before .before .before .pre .1) m r k w, atoms-two l (a .at) (a .n) (c .before .before .before .before .before .before .before .before .before .before .before .before .before .before .before .before .pre .1))
+    omega (arith, few (sig (a .q)) l (a .at) (a .n) (c .before .before .before .before .before .before .before .before .before .before .before .before .before .before .before .before .before .pre .1) h m r k w, atoms-two l (a .at) (a .n) (c .before .before .before .before .before .before .before .before .before .before .before .before .before .before .before .before .before .pre .1))
 
--- src/lib.rt:50:5
 loop-again : tie.Need-loop-again Inv-loop μ-loop
 loop-again c =
-    let a = c .before .before .before .before .before .before .before .before .before .before .before .before .before .before .before .before .args in
+    let a = c .before .before .before .before .before .before .before .before .before .before .before .before .before .before .before .before .before .args in
+    let h = some-words (a .n) (c .before .before .before .before .before .before .before .before .before .before .before .before .before .before .before .if1 .left) in
     let l = words (a .s .now) in
-    let w₀ = settling-start (sig (a .q)) l (a .at) (a .n) (c .before .before .before .before .before .before .before .before .before .before .before .before .before .before .before .before .pre .1) _ (c .before .before .before .before .before .before .before .before .before .before .before .before .before .canonicalize .result) (c .before .before .before .before .before .before .before .before .before .before .before .before .before .canonicalize .ensures) in
-    let w = c .before .before .before .before .before .before .before .before .before .before .loop .inv .1 l (c .before .before .before .before .before .before .before .before .before .before .before .before .before .before .before .before .pre .1) w₀ in
+    let w₀ = settling-start (sig (a .q)) l (a .at) (a .n) (c .before .before .before .before .before .before .before .before .before .before .before .before .before .before .before .before .before .pre .1) h _ (c .before .before .before .before .before .before .before .before .before .before .before .before .before .canonicalize .result) (c .before .before .before .before .before .before .before .before .before .before .before .before .before .canonicalize .ensures) in
+    let w = c .before .before .before .before .before .before .before .before .before .before .loop .inv .1 l (c .before .before .before .before .before .before .before .before .before .before .before .before .before .before .before .before .before .pre .1) h w₀ in
     let m = words (c .before .before .before .before .before .before .before .before .before .before .loop .s) in
     let r = c .before .before .before .before .before .before .before .before .before .before .loop .c in
     let k = c .before .before .before .before .before .before .before .before .before .before .loop .passes in (
       c .before .before .canonicalize-again .kept .0 ∙ c .before .before .before .before .before .before .before .before .merge-pass .kept .0 ∙ c .before .before .before .before .before .before .before .before .before .before .loop .inv .0,
-      λ l s p. settling-next (sig (a .q)) l (a .at) (a .n) s m r k (c .before .before .before .before .before .before .before .before .before .before .loop .inv .1 l s p) _ (c .before .before .before .before .before .before .before .before .merge-pass .result) (c .before .before .before .before .before .before .before .before .merge-pass .ensures) _ (c .before .before .canonicalize-again .result) (c .before .before .before .before .if1 .left) (c .before .before .canonicalize-again .ensures),
+      λ l s h p. settling-next (sig (a .q)) l (a .at) (a .n) s h m r k (c .before .before .before .before .before .before .before .before .before .before .loop .inv .1 l s h p) _ (c .before .before .before .before .before .before .before .before .merge-pass .result) (c .before .before .before .before .before .before .before .before .merge-pass .ensures) _ (c .before .before .canonicalize-again .result) (c .before .before .before .before .if2 .left) (c .before .before .canonicalize-again .ensures),
     )
 
 pub settle-spec : {M : Type 1} → statement M
@@ -163,12 +168,15 @@ settle-spec =
     (tie.spec
     Inv-loop
     μ-loop
+    returns
+    mul-links
+    add-links
     mul-body
     add-body
-    mul-kept
-    add-kept
-    mul-keys
-    add-keys
+    add-body-2
+    mul-table
+    add-table
+    add-table-2
     mul-end
     add-end
     add-end-2
@@ -176,9 +184,9 @@ settle-spec =
     loop-holds
     merge-pass-requires
     add-passes
-    sub-t19
+    sub-t20
     same-length
-    returns
+    returns-2
     canonicalize-again-requires
     loop-less
     loop-again)

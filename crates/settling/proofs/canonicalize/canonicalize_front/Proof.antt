@@ -1,3 +1,4 @@
+-- `canonicalize::canonicalize_front` meets its contract. Assumes nothing.
 use mathlib.Core.Path.{_∙_, _≡_, refl}
 use Prim.Native.Nat.{_+_, _-_}
 use native.Mathlib.Omega.{arith}
@@ -9,21 +10,16 @@ use Rattle.settling.specs.Terms.{sig}
 use Rattle.settling.proofs.Fronts.{Fronting, front-one-asks, fronting-end, fronting-next, fronting-start}
 use Rattle.settling.proofs.canonicalize.canonicalize_front.Statement.{statement}
 use Rattle.settling.proofs.canonicalize.canonicalize_front.Tie as tie
-use Rattle.settling.proofs.canonicalize.canonicalize_front.Reads as reads
-use Rattle.settling.proofs.canonicalize.canonicalize_front.Lts as lts
-use Rattle.settling.proofs.canonicalize.front_one.Reads as front-one-reads
 
 abbrev Inv-loop : tie.InvT-loop
-Inv-loop s₀ at e k to d q i₀ t₀ s i t = (length s ≡ length s₀) × Fronting (sig q) (words s₀) (words s) at e k to d i t
+Inv-loop s₀ at e k to d spans q i₀ t₀ s i t = (length s ≡ length s₀) × Fronting (sig q) (words s₀) (words s) at e k to d (spans .at) (spans .count) i t
 
 abbrev μ-loop : tie.MeasureT-loop
-μ-loop s₀ at e k to d q i₀ t₀ s i t = e - i
+μ-loop s₀ at e k to d spans q i₀ t₀ s i t = e - i
 
--- src/canonicalize.rt:183:5
 loop-holds : tie.Need-loop-holds Inv-loop μ-loop
-loop-holds c = (refl, fronting-start (sig (c .before .args .q)) (words (c .before .args .s .now)) (c .before .args .at) (c .before .args .e) (c .before .args .k) (c .before .args .to) (c .before .args .d) (c .before .pre .1))
+loop-holds c = (refl, fronting-start (sig (c .before .args .q)) (words (c .before .args .s .now)) (c .before .args .at) (c .before .args .e) (c .before .args .k) (c .before .args .to) (c .before .args .d) (c .before .args .spans .at) (c .before .args .spans .count) (c .before .pre .1))
 
--- src/canonicalize.rt:184:32
 add-front-one : tie.Need-add-front-one Inv-loop μ-loop
 add-front-one c =
     let a = c .before .before .before .before .args in
@@ -33,11 +29,10 @@ add-front-one c =
     let i = c .before .before .loop .i in
     let t = c .before .before .loop .t in
     let w = c .before .before .loop .inv .1 in
-    let z = front-one-asks (sig (a .q)) l (a .at) (a .e) (a .k) (a .to) (a .d) (c .before .before .before .before .pre .1) m i t w (c .before .loop-test .taken) in
+    let z = front-one-asks (sig (a .q)) l (a .at) (a .e) (a .k) (a .to) (a .d) (a .spans .at) (a .spans .count) (c .before .before .before .before .pre .1) m i t w (c .before .loop-test .taken) in
     let same : length m ≡ length l = length-words-kept (c .before .before .loop .s) (a .s .now) (c .before .before .loop .inv .0) in
-    omega (arith, z .whole, z .clear, z .binds, z .top, c .before .before .before .before .pre .1 .clear, w .left, w .tabs .within)
+    omega (arith, z .whole, z .clear, z .binds, z .top, c .before .before .before .before .pre .1 .clear, c .before .before .before .before .pre .1 .spanned .beyond, w .left, w .tabs .within)
 
--- src/canonicalize.rt:184:40
 sub-front-one : tie.Need-sub-front-one Inv-loop μ-loop
 sub-front-one c =
     let a = c .before .before .before .before .args in
@@ -47,11 +42,10 @@ sub-front-one c =
     let i = c .before .before .loop .i in
     let t = c .before .before .loop .t in
     let w = c .before .before .loop .inv .1 in
-    let z = front-one-asks (sig (a .q)) l (a .at) (a .e) (a .k) (a .to) (a .d) (c .before .before .before .before .pre .1) m i t w (c .before .loop-test .taken) in
+    let z = front-one-asks (sig (a .q)) l (a .at) (a .e) (a .k) (a .to) (a .d) (a .spans .at) (a .spans .count) (c .before .before .before .before .pre .1) m i t w (c .before .loop-test .taken) in
     let same : length m ≡ length l = length-words-kept (c .before .before .loop .s) (a .s .now) (c .before .before .loop .inv .0) in
-    omega (arith, z .whole, z .clear, z .binds, z .top, c .before .before .before .before .pre .1 .clear, w .left, w .tabs .within)
+    omega (arith, z .whole, z .clear, z .binds, z .top, c .before .before .before .before .pre .1 .clear, c .before .before .before .before .pre .1 .spanned .beyond, w .left, w .tabs .within)
 
--- src/canonicalize.rt:184:40
 add-front-one-2 : tie.Need-add-front-one-2 Inv-loop μ-loop
 add-front-one-2 c =
     let a = c .before .before .before .before .args in
@@ -61,11 +55,10 @@ add-front-one-2 c =
     let i = c .before .before .loop .i in
     let t = c .before .before .loop .t in
     let w = c .before .before .loop .inv .1 in
-    let z = front-one-asks (sig (a .q)) l (a .at) (a .e) (a .k) (a .to) (a .d) (c .before .before .before .before .pre .1) m i t w (c .before .loop-test .taken) in
+    let z = front-one-asks (sig (a .q)) l (a .at) (a .e) (a .k) (a .to) (a .d) (a .spans .at) (a .spans .count) (c .before .before .before .before .pre .1) m i t w (c .before .loop-test .taken) in
     let same : length m ≡ length l = length-words-kept (c .before .before .loop .s) (a .s .now) (c .before .before .loop .inv .0) in
-    omega (arith, z .whole, z .clear, z .binds, z .top, c .before .before .before .before .pre .1 .clear, w .left, w .tabs .within)
+    omega (arith, z .whole, z .clear, z .binds, z .top, c .before .before .before .before .pre .1 .clear, c .before .before .before .before .pre .1 .spanned .beyond, w .left, w .tabs .within)
 
--- src/canonicalize.rt:184:51
 add-front-one-3 : tie.Need-add-front-one-3 Inv-loop μ-loop
 add-front-one-3 c =
     let a = c .before .before .before .before .before .args in
@@ -75,11 +68,10 @@ add-front-one-3 c =
     let i = c .before .before .before .loop .i in
     let t = c .before .before .before .loop .t in
     let w = c .before .before .before .loop .inv .1 in
-    let z = front-one-asks (sig (a .q)) l (a .at) (a .e) (a .k) (a .to) (a .d) (c .before .before .before .before .before .pre .1) m i t w (c .before .before .loop-test .taken) in
+    let z = front-one-asks (sig (a .q)) l (a .at) (a .e) (a .k) (a .to) (a .d) (a .spans .at) (a .spans .count) (c .before .before .before .before .before .pre .1) m i t w (c .before .before .loop-test .taken) in
     let same : length m ≡ length l = length-words-kept (c .before .before .before .loop .s) (a .s .now) (c .before .before .before .loop .inv .0) in
-    omega (arith, z .whole, z .clear, z .binds, z .top, c .before .before .before .before .before .pre .1 .clear, w .left, w .tabs .within)
+    omega (arith, z .whole, z .clear, z .binds, z .top, c .before .before .before .before .before .pre .1 .clear, c .before .before .before .before .before .pre .1 .spanned .beyond, w .left, w .tabs .within)
 
--- src/canonicalize.rt:184:13
 front-one-requires : tie.Need-front-one-requires Inv-loop μ-loop
 front-one-requires c κs =
     let a = c .before .before .before .before .before .args in
@@ -89,13 +81,12 @@ front-one-requires c κs =
     let i = c .before .before .before .loop .i in
     let t = c .before .before .before .loop .t in
     let w = c .before .before .before .loop .inv .1 in
-    let z = front-one-asks (sig (a .q)) l (a .at) (a .e) (a .k) (a .to) (a .d) (c .before .before .before .before .before .pre .1) m i t w (c .before .before .loop-test .taken) in
+    let z = front-one-asks (sig (a .q)) l (a .at) (a .e) (a .k) (a .to) (a .d) (a .spans .at) (a .spans .count) (c .before .before .before .before .before .pre .1) m i t w (c .before .before .loop-test .taken) in
     let same : length m ≡ length l = length-words-kept (c .before .before .before .loop .s) (a .s .now) (c .before .before .before .loop .inv .0) in
     (c .before .before .before .before .before .pre .0, z)
 
--- src/canonicalize.rt:186:20
-add-t14 : tie.Need-add-t14 Inv-loop μ-loop
-add-t14 c =
+add-t15 : tie.Need-add-t15 Inv-loop μ-loop
+add-t15 c =
     let a = c .before .before .before .before .before .before .before .before .before .before .args in
     let l = words (a .s .now) in
     let top = length-words (a .s .now) in
@@ -103,22 +94,19 @@ add-t14 c =
     let i = c .before .before .before .before .before .before .before .before .loop .i in
     let t = c .before .before .before .before .before .before .before .before .loop .t in
     let w = c .before .before .before .before .before .before .before .before .loop .inv .1 in
-    let z = front-one-asks (sig (a .q)) l (a .at) (a .e) (a .k) (a .to) (a .d) (c .before .before .before .before .before .before .before .before .before .before .pre .1) m i t w (c .before .before .before .before .before .before .before .loop-test .taken) in
+    let z = front-one-asks (sig (a .q)) l (a .at) (a .e) (a .k) (a .to) (a .d) (a .spans .at) (a .spans .count) (c .before .before .before .before .before .before .before .before .before .before .pre .1) m i t w (c .before .before .before .before .before .before .before .loop-test .taken) in
     let same : length m ≡ length l = length-words-kept (c .before .before .before .before .before .before .before .before .loop .s) (a .s .now) (c .before .before .before .before .before .before .before .before .loop .inv .0) in
     let m₂ = words (c .before .before .before .before .front-one .last .0) in
     let r = c .before .before .before .before .front-one .result in
-    let z₂ = fronting-next (sig (a .q)) l (a .at) (a .e) (a .k) (a .to) (a .d) (c .before .before .before .before .before .before .before .before .before .before .pre .1) m i t w (c .before .before .before .before .before .before .before .loop-test .taken) (c .before .before .before .before .before .before .before .before .before .before .pre .0 .equals) m₂ (i + 3) (record { words = t .words + r .words; binds = r .binds }) r (c .before .before .before .before .front-one .ensures) refl refl refl in
+    let z₂ = fronting-next (sig (a .q)) l (a .at) (a .e) (a .k) (a .to) (a .d) (a .spans .at) (a .spans .count) (c .before .before .before .before .before .before .before .before .before .before .pre .1) m i t w (c .before .before .before .before .before .before .before .loop-test .taken) (c .before .before .before .before .before .before .before .before .before .before .pre .0 .equals) m₂ (i + 3) (record { words = t .words + r .words; binds = r .binds }) r (c .before .before .before .before .front-one .ensures) refl refl refl in
     omega (arith, z₂ .tabs .within, z₂ .only .size)
 
--- src/canonicalize.rt:189:9
 add-i : tie.Need-add-i Inv-loop μ-loop
 add-i c = search needs
 
--- src/canonicalize.rt:183:5
 loop-less : tie.Need-loop-less Inv-loop μ-loop
 loop-less c = search needs
 
--- src/canonicalize.rt:183:5
 loop-again : tie.Need-loop-again Inv-loop μ-loop
 loop-again c =
     let a = c .before .before .before .before .before .before .before .before .before .before .args in
@@ -128,19 +116,17 @@ loop-again c =
     let i = c .before .before .before .before .before .before .before .before .loop .i in
     let t = c .before .before .before .before .before .before .before .before .loop .t in
     let w = c .before .before .before .before .before .before .before .before .loop .inv .1 in
-    let z = front-one-asks (sig (a .q)) l (a .at) (a .e) (a .k) (a .to) (a .d) (c .before .before .before .before .before .before .before .before .before .before .pre .1) m i t w (c .before .before .before .before .before .before .before .loop-test .taken) in
+    let z = front-one-asks (sig (a .q)) l (a .at) (a .e) (a .k) (a .to) (a .d) (a .spans .at) (a .spans .count) (c .before .before .before .before .before .before .before .before .before .before .pre .1) m i t w (c .before .before .before .before .before .before .before .loop-test .taken) in
     let same : length m ≡ length l = length-words-kept (c .before .before .before .before .before .before .before .before .loop .s) (a .s .now) (c .before .before .before .before .before .before .before .before .loop .inv .0) in (
       c .before .before .before .before .front-one .kept .0 ∙ c .before .before .before .before .before .before .before .before .loop .inv .0,
-      fronting-next (sig (a .q)) l (a .at) (a .e) (a .k) (a .to) (a .d) (c .before .before .before .before .before .before .before .before .before .before .pre .1) m i t w (c .before .before .before .before .before .before .before .loop-test .taken) (c .before .before .before .before .before .before .before .before .before .before .pre .0 .equals) _ _ _ (c .before .before .before .before .front-one .result) (c .before .before .before .before .front-one .ensures) refl refl refl,
+      fronting-next (sig (a .q)) l (a .at) (a .e) (a .k) (a .to) (a .d) (a .spans .at) (a .spans .count) (c .before .before .before .before .before .before .before .before .before .before .pre .1) m i t w (c .before .before .before .before .before .before .before .loop-test .taken) (c .before .before .before .before .before .before .before .before .before .before .pre .0 .equals) _ _ _ (c .before .before .before .before .front-one .result) (c .before .before .before .before .front-one .ensures) refl refl refl,
     )
 
--- src/canonicalize.rt:172:1
 same-length : tie.Need-same-length Inv-loop μ-loop
 same-length c = search needs
 
--- src/canonicalize.rt:172:1
 returns : tie.Need-returns Inv-loop μ-loop
-returns c = fronting-end (sig (c .before .before .before .args .q)) (words (c .before .before .before .args .s .now)) (c .before .before .before .args .at) (c .before .before .before .args .e) (c .before .before .before .args .k) (c .before .before .before .args .to) (c .before .before .before .args .d) (c .before .before .before .pre .1) (words (c .before .loop .s)) (c .before .loop .i) (c .before .loop .t) (c .before .loop .inv .1) (c .loop-test .left)
+returns c = fronting-end (sig (c .before .before .before .args .q)) (words (c .before .before .before .args .s .now)) (c .before .before .before .args .at) (c .before .before .before .args .e) (c .before .before .before .args .k) (c .before .before .before .args .to) (c .before .before .before .args .d) (c .before .before .before .args .spans .at) (c .before .before .before .args .spans .count) (c .before .before .before .pre .1) (words (c .before .loop .s)) (c .before .loop .i) (c .before .loop .t) (c .before .loop .inv .1) (c .loop-test .left)
 
 pub canonicalize-front-spec : {M : Type 1} → statement M
 canonicalize-front-spec =
@@ -154,7 +140,7 @@ canonicalize-front-spec =
     add-front-one-2
     add-front-one-3
     front-one-requires
-    add-t14
+    add-t15
     add-i
     loop-less
     loop-again

@@ -1,3 +1,4 @@
+-- `canonicalize::leading` meets its contract. Assumes nothing.
 use mathlib.Core.Path.{_∙_, _≡_, sym}
 use Prim.Native.Nat.{_+_, _-_}
 use native.Mathlib.Omega.{arith}
@@ -8,9 +9,6 @@ use Rattle.rules.specs.Words.{equalityWord}
 use Rattle.settling.proofs.Canonicalizing.{Leading, leading-inside, leading-next, leading-start, leads}
 use Rattle.settling.proofs.canonicalize.leading.Statement.{statement}
 use Rattle.settling.proofs.canonicalize.leading.Tie as tie
-use Rattle.settling.proofs.canonicalize.leading.Reads as reads
-use Rattle.settling.proofs.canonicalize.leading.Lts as lts
-use Rattle.octets.proofs.get.Reads as get-reads
 
 abbrev Inv-loop : tie.InvT-loop
 Inv-loop s at n i₀ i = Leading (words s) at n i
@@ -18,11 +16,9 @@ Inv-loop s at n i₀ i = Leading (words s) at n i
 abbrev μ-loop : tie.MeasureT-loop
 μ-loop s at n i₀ i = n - i
 
--- src/canonicalize.rt:200:5
 loop-holds : tie.Need-loop-holds Inv-loop μ-loop
 loop-holds c = leading-start (words (c .before .args .s .now)) (c .before .args .at) (c .before .args .n) (c .before .pre)
 
--- src/canonicalize.rt:201:27
 add-get : tie.Need-add-get Inv-loop μ-loop
 add-get c =
     let a = c .before .before .before .args in
@@ -32,7 +28,6 @@ add-get c =
     let w = c .before .loop .inv in
     omega (arith, c .before .before .before .pre .within)
 
--- src/canonicalize.rt:201:12
 get-requires : tie.Need-get-requires Inv-loop μ-loop
 get-requires c κs =
     let a = c .before .before .before .args in
@@ -42,7 +37,6 @@ get-requires c κs =
     let w = c .before .loop .inv in
     omega (arith, c .before .before .before .pre .within)
 
--- src/canonicalize.rt:202:13
 returns : tie.Need-returns Inv-loop μ-loop
 returns c =
     let a = c .before .before .before .before .before .args in
@@ -52,7 +46,6 @@ returns c =
     let w = c .before .before .before .loop .inv in
     leads l (a .at) (a .n) (c .before .before .before .before .before .pre) i w
 
--- src/canonicalize.rt:204:9
 add-i : tie.Need-add-i Inv-loop μ-loop
 add-i c =
     let a = c .before .before .before .before .before .args in
@@ -64,7 +57,6 @@ add-i c =
     let z = leading-inside l (a .at) (a .n) (c .before .before .before .before .before .pre) i w (c .before .before .loop-test .taken) e in
     omega (arith, c .before .before .before .before .before .pre .within)
 
--- src/canonicalize.rt:200:5
 loop-less : tie.Need-loop-less Inv-loop μ-loop
 loop-less c =
     let a = c .before .before .before .before .before .args in
@@ -76,7 +68,6 @@ loop-less c =
     let z = leading-inside l (a .at) (a .n) (c .before .before .before .before .before .pre) i w (c .before .before .loop-test .taken) e in
     omega arith
 
--- src/canonicalize.rt:200:5
 loop-again : tie.Need-loop-again Inv-loop μ-loop
 loop-again c =
     let a = c .before .before .before .before .before .args in
@@ -88,7 +79,6 @@ loop-again c =
     let z = leading-inside l (a .at) (a .n) (c .before .before .before .before .before .pre) i w (c .before .before .loop-test .taken) e in
     leading-next l (a .at) (a .n) (c .before .before .before .before .before .pre) i w (c .before .before .loop-test .taken) e
 
--- src/canonicalize.rt:195:1
 returns-2 : tie.Need-returns-2 Inv-loop μ-loop
 returns-2 c =
     let a = c .before .before .before .args in

@@ -1,3 +1,4 @@
+-- `canonicalize::replace_all` meets its contract. Assumes nothing.
 use mathlib.Core.Path.{_∙_, _≡_, ap, refl}
 use Prim.Native.Nat.{_+_, _-_, ℕ}
 use native.Mathlib.Omega.{arith}
@@ -11,73 +12,60 @@ use Rattle.settling.specs.Terms.{sig}
 use Rattle.settling.proofs.Replacing.{Replacing, next-atom, replacing-end, replacing-next, replacing-start}
 use Rattle.settling.proofs.canonicalize.replace_all.Statement.{statement}
 use Rattle.settling.proofs.canonicalize.replace_all.Tie as tie
-use Rattle.settling.proofs.canonicalize.replace_all.Reads as reads
-use Rattle.settling.proofs.canonicalize.replace_all.Lts as lts
-use Rattle.settling.proofs.atoms.size.Reads as size-reads
-use Rattle.settling.proofs.canonicalize.replace_step.Reads as replace-step-reads
 
 abbrev Inv-loop : tie.InvT-loop
-Inv-loop s₀ at n d q end p₀ e₀ s p e = (length s ≡ length s₀) × Replacing (sig q) (words s₀) (words s) at n d p e
+Inv-loop s₀ at n d t q end p₀ e₀ s p e = (length s ≡ length s₀) × Replacing (sig q) (words s₀) (words s) at n d (t .at) (t .count) p e
 
 abbrev μ-loop : tie.MeasureT-loop
-μ-loop s₀ at n d q end p₀ e₀ s p e = at + n - p
+μ-loop s₀ at n d t q end p₀ e₀ s p e = at + n - p
 
--- src/canonicalize.rt:92:15
 add-end : tie.Need-add-end Inv-loop μ-loop
 add-end c = omega (arith, length-words (c .before .args .s .now), c .before .pre .1 .atoms .within)
 
--- src/canonicalize.rt:95:5
 loop-holds : tie.Need-loop-holds Inv-loop μ-loop
-loop-holds c = (refl, replacing-start (sig (c .before .args .q)) (words (c .before .args .s .now)) (c .before .args .at) (c .before .args .n) (c .before .args .d) (c .before .pre .1))
+loop-holds c = (refl, replacing-start (sig (c .before .args .q)) (words (c .before .args .s .now)) (c .before .args .at) (c .before .args .n) (c .before .args .d) (c .before .args .t .at) (c .before .args .t .count) (c .before .pre .1))
 
--- src/canonicalize.rt:96:13
 size-requires : tie.Need-size-requires Inv-loop μ-loop
 size-requires c κs = omega (arith, c .before .before .loop .inv .1 .atoms .within)
 
--- src/canonicalize.rt:97:9
 replace-step-requires : tie.Need-replace-step-requires Inv-loop μ-loop
 replace-step-requires c κs =
     let a = c .before .before .before .before .before .before .args in
     let w = c .before .before .before .before .loop .inv .1 in
-    let t = next-atom (sig (a .q)) (words (a .s .now)) (words (c .before .before .before .before .loop .s)) (a .at) (a .n) (a .d) (c .before .before .before .before .loop .p) (c .before .before .before .before .loop .e) w (c .before .before .before .loop-test .taken) in
-    (c .before .before .before .before .before .before .pre .0, record { here = omega (arith, w .atoms .within); whole = t .whole; room = omega (arith, w .room); top = omega (arith, w .binds .within) })
+    let t = next-atom (sig (a .q)) (words (a .s .now)) (words (c .before .before .before .before .loop .s)) (a .at) (a .n) (a .d) (a .t .at) (a .t .count) (c .before .before .before .before .loop .p) (c .before .before .before .before .loop .e) w (c .before .before .before .loop-test .taken) in
+    (c .before .before .before .before .before .before .pre .0, record { here = omega (arith, w .atoms .within); whole = t .whole; spanned = w .spanned; room = omega (arith, w .room); top = omega (arith, w .binds .within) })
 
--- src/canonicalize.rt:98:9
 add-p : tie.Need-add-p Inv-loop μ-loop
 add-p c =
     let a = c .before .before .before .before .before .before .before .before .before .args in
     let w = c .before .before .before .before .before .before .before .loop .inv .1 in
-    let t = next-atom (sig (a .q)) (words (a .s .now)) (words (c .before .before .before .before .before .before .before .loop .s)) (a .at) (a .n) (a .d) (c .before .before .before .before .before .before .before .loop .p) (c .before .before .before .before .before .before .before .loop .e) w (c .before .before .before .before .before .before .loop-test .taken) in
+    let t = next-atom (sig (a .q)) (words (a .s .now)) (words (c .before .before .before .before .before .before .before .loop .s)) (a .at) (a .n) (a .d) (a .t .at) (a .t .count) (c .before .before .before .before .before .before .before .loop .p) (c .before .before .before .before .before .before .before .loop .e) w (c .before .before .before .before .before .before .loop-test .taken) in
     let k : c .before .before .before .before .size .result ≡ length (atomWords (t .atom)) = c .before .before .before .before .size .ensures ∙ t .size in
     omega (arith, t .inside, length-words (a .s .now), c .before .before .before .before .before .before .before .before .before .pre .1 .atoms .within)
 
--- src/canonicalize.rt:95:5
 loop-less : tie.Need-loop-less Inv-loop μ-loop
 loop-less c =
     let a = c .before .before .before .before .before .before .before .before .before .args in
     let w = c .before .before .before .before .before .before .before .loop .inv .1 in
-    let t = next-atom (sig (a .q)) (words (a .s .now)) (words (c .before .before .before .before .before .before .before .loop .s)) (a .at) (a .n) (a .d) (c .before .before .before .before .before .before .before .loop .p) (c .before .before .before .before .before .before .before .loop .e) w (c .before .before .before .before .before .before .loop-test .taken) in
+    let t = next-atom (sig (a .q)) (words (a .s .now)) (words (c .before .before .before .before .before .before .before .loop .s)) (a .at) (a .n) (a .d) (a .t .at) (a .t .count) (c .before .before .before .before .before .before .before .loop .p) (c .before .before .before .before .before .before .before .loop .e) w (c .before .before .before .before .before .before .loop-test .taken) in
     let k : c .before .before .before .before .size .result ≡ length (atomWords (t .atom)) = c .before .before .before .before .size .ensures ∙ t .size in
     omega (arith, t .inside, two-atom (t .atom))
 
--- src/canonicalize.rt:95:5
 loop-again : tie.Need-loop-again Inv-loop μ-loop
 loop-again c =
     let a = c .before .before .before .before .before .before .before .before .before .args in
     let w = c .before .before .before .before .before .before .before .loop .inv .1 in
-    let t = next-atom (sig (a .q)) (words (a .s .now)) (words (c .before .before .before .before .before .before .before .loop .s)) (a .at) (a .n) (a .d) (c .before .before .before .before .before .before .before .loop .p) (c .before .before .before .before .before .before .before .loop .e) w (c .before .before .before .before .before .before .loop-test .taken) in (
+    let t = next-atom (sig (a .q)) (words (a .s .now)) (words (c .before .before .before .before .before .before .before .loop .s)) (a .at) (a .n) (a .d) (a .t .at) (a .t .count) (c .before .before .before .before .before .before .before .loop .p) (c .before .before .before .before .before .before .before .loop .e) w (c .before .before .before .before .before .before .loop-test .taken) in (
       c .before .before .replace-step .kept .0 ∙ c .before .before .before .before .before .before .before .loop .inv .0,
-      replacing-next (sig (a .q)) (words (a .s .now)) (a .at) (a .n) (a .d) (words (c .before .before .before .before .before .before .before .loop .s)) _ (c .before .before .before .before .before .before .before .loop .p) _ (c .before .before .before .before .before .before .before .loop .e) _ w (c .before .before .before .before .before .before .loop-test .taken)
+      replacing-next (sig (a .q)) (words (a .s .now)) (a .at) (a .n) (a .d) (a .t .at) (a .t .count) (words (c .before .before .before .before .before .before .before .loop .s)) _ (c .before .before .before .before .before .before .before .loop .p) _ (c .before .before .before .before .before .before .before .loop .e) _ w (c .before .before .before .before .before .before .loop-test .taken)
           (c .before .before .replace-step .ensures .0) (c .before .before .replace-step .ensures .1) (ap (λ (k : ℕ). c .before .before .before .before .before .before .before .loop .p + k) (c .before .before .before .before .size .ensures)),
     )
 
--- src/canonicalize.rt:87:1
 same-length : tie.Need-same-length Inv-loop μ-loop
 same-length c = search needs
 
--- src/canonicalize.rt:87:1
 returns : tie.Need-returns Inv-loop μ-loop
-returns c = replacing-end (sig (c .before .before .before .args .q)) (words (c .before .before .before .args .s .now)) (c .before .before .before .args .at) (c .before .before .before .args .n) (c .before .before .before .args .d) (words (c .before .loop .s)) (c .before .loop .p) (c .before .loop .e) (c .before .loop .inv .1) (c .loop-test .left)
+returns c = replacing-end (sig (c .before .before .before .args .q)) (words (c .before .before .before .args .s .now)) (c .before .before .before .args .at) (c .before .before .before .args .n) (c .before .before .before .args .d) (c .before .before .before .args .t .at) (c .before .before .before .args .t .count) (words (c .before .loop .s)) (c .before .loop .p) (c .before .loop .e) (c .before .loop .inv .1) (c .loop-test .left)
 
 pub replace-all-spec : {M : Type 1} → statement M
 replace-all-spec =

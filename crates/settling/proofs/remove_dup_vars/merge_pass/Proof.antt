@@ -1,28 +1,48 @@
-use borrow.Author.Needs.{needs}
+-- A pass: links, then the loop.
+use native.Mathlib.Omega.{arith}
+use Rattle.octets.proofs.Words.{length-words}
 use Rattle.octets.specs.Words.{words}
-use Rattle.settling.proofs.MergingAll.{fill-asks, keyed-asks, keyed-at, pass-ends}
+use Rattle.settling.proofs.MergingAll.{link-asks, linked-asks, pass-ends}
+use borrow.Author.Needs.{needs}
 use Rattle.settling.proofs.remove_dup_vars.merge_pass.Statement.{statement}
 use Rattle.settling.proofs.remove_dup_vars.merge_pass.Tie as tie
 use Rattle.settling.proofs.remove_dup_vars.merge_pass.Reads as reads
 use Rattle.settling.proofs.remove_dup_vars.merge_pass.Lts as lts
-use Rattle.settling.proofs.keys.fill.Reads as fill-reads
+use Rattle.settling.proofs.chains.link.Reads as link-reads
 use Rattle.settling.proofs.remove_dup_vars.merge_all.Reads as merge-all-reads
 
--- src/remove_dup_vars.rt:159:9
-fill-requires : tie.Need-fill-requires
-fill-requires c κs = fill-asks (words (c .before .before .args .s .now)) (c .before .before .args .from) (c .before .before .args .n) (c .before .before .args .eqs) (c .before .before .args .kept) (c .before .before .args .keys) (c .before .before .pre)
+-- src/remove_dup_vars.rt:124:44
+add-link : tie.Need-add-link
+add-link c =
+    let a = c .before .before .args in
+    let top = length-words (a .s .now) in
+    omega (arith, c .before .before .pre .small)
 
--- src/remove_dup_vars.rt:160:5
+-- src/remove_dup_vars.rt:124:5
+link-requires : tie.Need-link-requires
+link-requires c κs =
+    let a = c .before .before .args in
+    let l = words (a .s .now) in
+    link-asks l (a .from) (a .n) (a .eqs) (a .links) (a .table) (c .before .before .pre)
+
+-- src/remove_dup_vars.rt:125:5
 merge-all-requires : tie.Need-merge-all-requires
-merge-all-requires c κs = (keyed-asks (words (c .before .before .before .before .before .before .args .s .now)) (c .before .before .before .before .before .before .args .from) (c .before .before .before .before .before .before .args .n) (c .before .before .before .before .before .before .args .eqs) (c .before .before .before .before .before .before .args .kept) (c .before .before .before .before .before .before .args .keys) (c .before .before .before .before .before .before .pre) _ (c .before .before .before .fill .result) (c .before .before .before .fill .ensures), keyed-at (words (c .before .before .before .before .before .before .args .s .now)) (c .before .before .before .before .before .before .args .from) (c .before .before .before .before .before .before .args .n) (c .before .before .before .before .before .before .args .eqs) (c .before .before .before .before .before .before .args .kept) (c .before .before .before .before .before .before .args .keys) (c .before .before .before .before .before .before .pre) _ (c .before .before .before .fill .result) (c .before .before .before .fill .ensures))
+merge-all-requires c κs =
+    let a = c .before .before .before .before .before .before .args in
+    let l = words (a .s .now) in
+    linked-asks l (a .from) (a .n) (a .eqs) (a .links) (a .table) (c .before .before .before .before .before .before .pre) _ (c .before .before .before .link .ensures)
 
--- src/remove_dup_vars.rt:155:1
+-- src/remove_dup_vars.rt:113:1
 same-length : tie.Need-same-length
 same-length c = search needs
 
--- src/remove_dup_vars.rt:155:1
+-- src/remove_dup_vars.rt:113:1
 returns : tie.Need-returns
-returns c = pass-ends (words (c .before .before .before .before .before .before .before .before .before .args .s .now)) (c .before .before .before .before .before .before .before .before .before .args .from) (c .before .before .before .before .before .before .before .before .before .args .n) (c .before .before .before .before .before .before .before .before .before .args .eqs) (c .before .before .before .before .before .before .before .before .before .args .kept) (c .before .before .before .before .before .before .before .before .before .args .keys) (c .before .before .before .before .before .before .before .before .before .pre) _ (c .before .before .before .before .before .before .fill .result) (c .before .before .before .before .before .before .fill .ensures) _ _ (c .before .before .merge-all .ensures)
+returns c =
+    let a = c .before .before .before .before .before .before .before .before .before .args in
+    let l = words (a .s .now) in
+    pass-ends l (a .from) (a .n) (a .eqs) (a .links) (a .table) (c .before .before .before .before .before .before .before .before .before .pre) _ (c .before .before .before .before .before .before .link .ensures) _ _ (c .before .before .merge-all .ensures)
 
 pub merge-pass-spec : {M : Type 1} → statement M
-merge-pass-spec = tie.close (tie.spec fill-requires merge-all-requires same-length returns)
+merge-pass-spec =
+    tie.close (tie.spec add-link link-requires merge-all-requires same-length returns)

@@ -1,0 +1,214 @@
+// The equalities of a pass, canonicalized in front of the atoms that it kept. They stand in groups, and the atoms apart from them, so that a
+// replacement runs over what is left of the groups and over the atoms.
+ghost use mathlib.Core.Path.{_≡_};
+ghost use mathlib.Core.List.{List, map, _++_};
+ghost use Prim.Native.Nat.{_+_, _≤_};
+ghost use lib.ListN.{length};
+ghost use Rattle.octets.specs.Words.{words};
+ghost use Rattle.octets.specs.Regions.{part, splice, swap};
+ghost use Rattle.rules.specs.Flat.{tab};
+ghost use Rattle.settling.specs.Terms.{sig, GoodSign};
+ghost use Rattle.settling.specs.Standing.{tabsIn};
+ghost use Rattle.settling.specs.Canonicalize.{CanonicalAt};
+ghost use Rattle.settling.specs.RemoveDupVars.{Group, allEqns, GroupsAt};
+ghost use Rattle.settling.specs.Joining.{hit, has, JoinOneAsks, JoinedOne, JoinGroupAsks, JoinedGroup, JoinedAll, AgainAsks};
+use crate::canonicalize::Canonical;
+use crate::canonicalize::LET;
+use crate::canonicalize::replacement_of;
+use crate::canonicalize::resolve_terms;
+use crate::terms::Sign;
+
+// 1 where w is x, else what was.
+fn met(x: u32, w: u32, was: u32) -> u32
+    ensures { λ r. ⌜ r ≡ hit x w was ⌝ }
+{
+    if w == x { 1 } else { was }
+}
+
+// Whether x is among the n words at p. The loop has no branch but its end, so that it runs on vectors.
+fn among(s: &[u8], p: usize, n: usize, x: u32) -> bool
+    requires { ⌜ p + n ≤ length (words (now s)) ⌝ }
+    ensures { λ r. ⌜ r ≡ has x (part (words (now (s .entry))) p n) ⌝ }
+{
+    let mut found: u32 = 0;
+    let mut i = 0;
+    while i < n {
+        found = met(x, octets::get(s, p + i), found);
+        i += 1;
+    }
+    found == 1
+}
+
+// Replaces x by y in the n words at p. Most often x is not there, and a loop that only reads is the faster one.
+fn replace_met(s: &mut [u8], p: usize, n: usize, x: u32, y: u32)
+    requires { ⌜ p + n ≤ length (words (now s)) ⌝ }
+    ensures { λ _. ⌜ words (now (s .exit)) ≡ splice (words (now (s .entry))) p (map (swap x y) (part (words (now (s .entry))) p n)) ⌝ }
+{
+    if among(s, p, n, x) {
+        octets::regions::replace(s, p, n, x, y);
+    }
+}
+
+// What is left of an equality that was canonicalized: what its left term became, how many words were written, and where the bindings begin.
+pub struct Joined {
+    pub left: u32,
+    pub words: usize,
+    pub binds: usize,
+}
+
+// The equality of `left` and the term at p, with n words of groups behind it and the k words of atoms at `body`. If it asks for a replacement,
+// that is made in both, and bound before d; else what becomes of it is written at `to`.
+fn join_one(
+    s: &mut [u8],
+    left: u32,
+    p: usize,
+    n: usize,
+    body: usize,
+    k: usize,
+    to: usize,
+    d: usize,
+    q: Sign,
+) -> Joined
+    requires { ⌜ GoodSign q ⌝ }
+    requires { ⌜ JoinOneAsks (sig q) (words (now s)) left p n body k to d ⌝ }
+    ensures { λ r. ⌜ JoinedOne (sig q) (words (now (s .entry))) (words (now (s .exit))) left p n body k to d r ⌝ }
+{
+    let right = octets::get(s, p);
+    let asked = replacement_of(q, left, right);
+    if !asked.yes {
+        let words = resolve_terms(s, to, left, right, q);
+        return Joined {
+            left,
+            words,
+            binds: d,
+        };
+    }
+    replace_met(s, p + 1, n, asked.old, asked.new);
+    octets::regions::replace(s, body, k, asked.old, asked.new);
+    octets::rows::put_three(s, d - 3, LET, asked.old, asked.new);
+    let now = if asked.old == left { asked.new } else { left };
+    Joined {
+        left: now,
+        words: 0,
+        binds: d - 3,
+    }
+}
+
+// The equalities of `left` and each of the m terms at p, with n words of groups from p on.
+fn join_group(
+    s: &mut [u8],
+    left: u32,
+    p: usize,
+    m: usize,
+    n: usize,
+    body: usize,
+    k: usize,
+    to: usize,
+    d: usize,
+    q: Sign,
+) -> Joined
+    requires { ⌜ GoodSign q ⌝ }
+    requires { ⌜ JoinGroupAsks (words (now s)) left p m n body k to d ⌝ }
+    ensures { λ r. ⌜ JoinedGroup (sig q) (words (now (s .entry))) (words (now (s .exit))) left p m n body k to d r ⌝ }
+{
+    let mut i = 0;
+    let mut t = Joined {
+        left,
+        words: 0,
+        binds: d,
+    };
+    while i < m {
+        let one = join_one(
+            s,
+            t.left,
+            p + i,
+            n - i - 1,
+            body,
+            k,
+            to + t.words,
+            t.binds,
+            q,
+        );
+        t = Joined {
+            left: one.left,
+            words: t.words + one.words,
+            binds: one.binds,
+        };
+        i += 1;
+    }
+    t
+}
+
+// The groups in the e words at `at`, one after the other, with the k words of atoms at `body`. What becomes of them is written at `to`.
+fn join_all(
+    s: &mut [u8],
+    at: usize,
+    e: usize,
+    body: usize,
+    k: usize,
+    to: usize,
+    d: usize,
+    q: Sign,
+) -> Canonical
+    requires { ⌜ GoodSign q ⌝ }
+    requires { ⌜ AgainAsks (words (now s)) at e body k to d ⌝ }
+    ensures { λ r. ⌜ JoinedAll (sig q) (words (now (s .entry))) (words (now (s .exit))) at e body k to d r ⌝ }
+{
+    let mut i = 0;
+    let mut t = Canonical { words: 0, binds: d };
+    while i < e {
+        let left = octets::get(s, at + i);
+        let m = octets::get(s, at + i + 1) as usize;
+        let one = join_group(
+            s,
+            left,
+            at + i + 2,
+            m,
+            e - i - 2,
+            body,
+            k,
+            to + t.words,
+            t.binds,
+            q,
+        );
+        t = Canonical {
+            words: t.words + one.words,
+            binds: one.binds,
+        };
+        i += m + 2;
+    }
+    t
+}
+
+// Canonicalizes the equalities of the groups in the e words at `at`, in front of the k words of atoms at `body`. What becomes of the equalities
+// is written at `to`; if it is anything, the atoms are put behind it there, and all of it is brought back to `body`.
+pub fn canonicalize_again(
+    s: &mut [u8],
+    at: usize,
+    e: usize,
+    body: usize,
+    k: usize,
+    to: usize,
+    d: usize,
+    q: Sign,
+) -> Canonical
+    requires { ⌜ GoodSign q ⌝ }
+    requires { ⌜ AgainAsks (words (now s)) at e body k to d ⌝ }
+    ensures { λ r. ⌜ ((gs : List Group) → GroupsAt gs (words (now (s .entry))) at e → CanonicalAt (sig q) (allEqns gs ++ map tab (tabsIn (words (now (s .entry))) body k))
+        (words (now (s .entry))) (words (now (s .exit))) at body d r) ⌝ }
+{
+    let t = join_all(s, at, e, body, k, to, d, q);
+    let v = t.words;
+    if v == 0 {
+        return Canonical {
+            words: k,
+            binds: t.binds,
+        };
+    }
+    octets::regions::carry(s, to + v, body, k);
+    octets::regions::carry(s, body, to, v + k);
+    Canonical {
+        words: v + k,
+        binds: t.binds,
+    }
+}
