@@ -107,7 +107,7 @@ module _ (gs ws : List ℕ) (g : Signature) (cs : List ℕ) (room : ℕ) (a : Lo
       body-at = record { fits = encodable; size = known .2 .body; at = known .2 .bodyThere }
 
       pub asks-settle : length m1 ≡ room → SettleAsks m1 0 (k .body)
-      asks-settle e = settle-asks (known .0 .body) m1 0 (k .body) body-at (omega (arith, small, a .under .short, a .scratch))
+      asks-settle e = settle-asks (known .0 .body) m1 0 (k .body) body-at (omega (arith, small, a .under .short, a .scratch)) (omega (arith, small, a .under .short))
 
       module _ (n : ℕ) (en : n ≡ length ws) (m2 : List ℕ) (b : Settled)
           (settles : (s : Sig) (xs : List Atom) → Agrees (termsOf g) s → BodyAt xs m1 0 (k .body) → SettledAt s xs m1 m2 0 (k .body) b) where

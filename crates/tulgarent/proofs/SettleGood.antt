@@ -138,7 +138,7 @@ module _ (ws : List ℕ) (g : Signature) (s : Sig) (f : FlatRule) (u : FlatUnder
           pub asks-room : SettleAsks m 0 (r .at - 1)
           asks-room =
               let e = ap (λ (k : List ℕ). length k) copied-atoms ∙ length-splice l 0 atomsThere room in
-              settle-asks (f .atoms) m 0 (r .at - 1) body-at (omega (arith, e, atoms-end, size, u .short))
+              settle-asks (f .atoms) m 0 (r .at - 1) body-at (omega (arith, e, atoms-end, size, u .short)) (omega (arith, e, atoms-end, size, u .short))
 
           pub good-sign : GoodSign (record { globals = g .globals; equals = g .equals })
           good-sign = record {
