@@ -36,6 +36,23 @@ pub struct Acted {
     pub count: usize,
 }
 
+// The same answer, field by field. A call writes its answer into memory; whoever goes on with this one may hold it in registers.
+pub fn apart(a: Acted) -> Acted
+    ensures { λ r. ⌜ r ≡ a ⌝ }
+{
+    Acted {
+        walk: Walk {
+            next: a.walk.next,
+            to: a.walk.to,
+            log: a.walk.log,
+            term: a.walk.term,
+            refused: a.walk.refused,
+        },
+        names: a.names,
+        count: a.count,
+    }
+}
+
 // A let, whose action word stands at `at`. Its name is tested before its expression, and bound behind it.
 pub fn lower_let(
     rule: &[u8],

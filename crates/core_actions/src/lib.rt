@@ -9,6 +9,7 @@ pub mod actions; // actions.rt: each action
 pub mod unions; // unions.rt: unions, and those that become sets
 
 use crate::actions::Acted;
+use crate::actions::apart;
 use crate::actions::lower_change;
 use crate::actions::lower_expression;
 use crate::actions::lower_let;
@@ -54,9 +55,9 @@ pub fn lower_action(
     let code = w - walks::ACTION;
     match code {
         1 => lower_let(rule, at, scope, counters, scratch, to, sp, log),
-        2 => lower_change(rule, at, w, 1, scope, counters, scratch, to, sp, log),
-        3 => lower_change(rule, at, w, 0, scope, counters, scratch, to, sp, log),
-        4 => lower_change(rule, at, w, 0, scope, counters, scratch, to, sp, log),
+        2 => apart(lower_change(rule, at, w, 1, scope, counters, scratch, to, sp, log)),
+        3 => apart(lower_change(rule, at, w, 0, scope, counters, scratch, to, sp, log)),
+        4 => apart(lower_change(rule, at, w, 0, scope, counters, scratch, to, sp, log)),
         5 => lower_union(signature, rule, at, scope, counters, scratch, to, sp, log),
         6 => lower_panic(rule, at, scope, counters, scratch, to, sp, log),
         8 => lower_expression(rule, at, scope, counters, scratch, to, sp, log),

@@ -68,6 +68,9 @@ lower-let-requires c κs =
     let here : getD ws (a .at) 0 ≡ actionWord 1 = sym is ∙ code in
     (record { sig = q .sig; known = (let-cases (q .sig) ws (a .at) x0 (λ y k. LetAt (q .sig) ws (a .at)) here (λ y. y), q .known .1, q .known .2) }, (room, (sr, top)))
 
+apart-requires : tie.Need-apart-requires
+apart-requires c κs = search needs
+
 lower-change-requires : tie.Need-lower-change-requires
 lower-change-requires c κs =
     let a = c .before .before .before .before .before .before .before .before .args in
@@ -86,6 +89,9 @@ lower-change-requires c κs =
     let here : getD ws (a .at) 0 ≡ actionWord 2 = sym is ∙ code in
     (record { sig = q .sig; known = (set-cases (q .sig) ws (a .at) x0 (λ y k. ChangeAt (q .sig) ws 1 (a .at)) here (λ y es e r. y), q .known .1, q .known .2) }, (room, (sr, omega arith)))
 
+apart-requires-2 : tie.Need-apart-requires-2
+apart-requires-2 c κs = search needs
+
 lower-change-requires-2 : tie.Need-lower-change-requires-2
 lower-change-requires-2 c κs =
     let a = c .before .before .before .before .before .before .before .before .args in
@@ -103,6 +109,9 @@ lower-change-requires-2 c κs =
     let code : w ≡ actionWord 3 = omega (arith, c .before .before .match .keys3) in
     let here : getD ws (a .at) 0 ≡ actionWord 3 = sym is ∙ code in
     (record { sig = q .sig; known = (delete-cases (q .sig) ws (a .at) x0 (λ y k. ChangeAt (q .sig) ws 0 (a .at)) here (λ y. y), q .known .1, q .known .2) }, (room, (sr, omega arith)))
+
+apart-requires-3 : tie.Need-apart-requires-3
+apart-requires-3 c κs = search needs
 
 lower-change-requires-3 : tie.Need-lower-change-requires-3
 lower-change-requires-3 c κs =
@@ -209,22 +218,22 @@ same-length-4 c = search needs
 
 returns-2 : tie.Need-returns-2
 returns-2 c =
-    let a = c .before .before .before .before .before .before .before .before .before .before .before .before .before .args in
+    let a = c .before .before .before .before .before .before .before .before .before .before .before .before .before .before .args in
     let ws = words (a .rule .now) in
     let cs = words (a .counters .now) in
     let s = words (a .scratch .now) in
-    let q = c .before .before .before .before .before .before .before .before .before .before .before .before .before .pre .0 in
-    let room = c .before .before .before .before .before .before .before .before .before .before .before .before .before .pre .1 .0 in
-    let sr = c .before .before .before .before .before .before .before .before .before .before .before .before .before .pre .1 .1 .0 in
-    let top = c .before .before .before .before .before .before .before .before .before .before .before .before .before .pre .1 .1 .1 in
+    let q = c .before .before .before .before .before .before .before .before .before .before .before .before .before .before .pre .0 in
+    let room = c .before .before .before .before .before .before .before .before .before .before .before .before .before .before .pre .1 .0 in
+    let sr = c .before .before .before .before .before .before .before .before .before .before .before .before .before .before .pre .1 .1 .0 in
+    let top = c .before .before .before .before .before .before .before .before .before .before .before .before .before .before .pre .1 .1 .1 in
     let x0 = q .known .0 in
-    let w = c .before .before .before .before .before .before .before .before .get .result in
-    let is : w ≡ getD ws (a .at) 0 = c .before .before .before .before .before .before .before .before .get .ensures .is in
+    let w = c .before .before .before .before .before .before .before .before .before .get .result in
+    let is : w ≡ getD ws (a .at) 0 = c .before .before .before .before .before .before .before .before .before .get .ensures .is in
     let high = action-high (q .sig) ws (a .at) x0 in
-    let code : w ≡ actionWord 2 = omega (arith, c .before .before .before .before .before .before .before .match .keys2) in
+    let code : w ≡ actionWord 2 = omega (arith, c .before .before .before .before .before .before .before .before .match .keys2) in
     let here : getD ws (a .at) 0 ≡ actionWord 2 = sym is ∙ code in
-    let k = c .before .before .before .before .lower-change in
-    λ sig x bound n sc sg. set-cases sig ws (a .at) x (λ y k′. Acts (lowerAction sig bound y cs) sig (a .scope) k′ (a .at) (a .to) (a .sp) (a .log) s cs (words (k .last .1 .1 .1 .1 .1 .1 .0)) (words (k .last .1 .1 .1 .1 .1 .0)) (k .result)) here (λ y es e r. set-acts sig bound ws (a .at) (a .to) (a .sp) (a .log) (a .scope) s cs (words (k .last .1 .1 .1 .1 .1 .1 .0)) (words (k .last .1 .1 .1 .1 .1 .0)) (k .result) w (k .ensures .0) sr sc y es e r code (k .ensures .1 sig y bound n sc))
+    let k = c .before .before .before .before .before .lower-change in
+    λ sig x bound n sc sg. rw (c .apart .ensures) (set-cases sig ws (a .at) x (λ y k′. Acts (lowerAction sig bound y cs) sig (a .scope) k′ (a .at) (a .to) (a .sp) (a .log) s cs (words (k .last .1 .1 .1 .1 .1 .1 .0)) (words (k .last .1 .1 .1 .1 .1 .0)) (k .result)) here (λ y es e r. set-acts sig bound ws (a .at) (a .to) (a .sp) (a .log) (a .scope) s cs (words (k .last .1 .1 .1 .1 .1 .1 .0)) (words (k .last .1 .1 .1 .1 .1 .0)) (k .result) w (k .ensures .0) sr sc y es e r code (k .ensures .1 sig y bound n sc)))
 
 same-length-5 : tie.Need-same-length-5
 same-length-5 c = search needs
@@ -234,22 +243,22 @@ same-length-6 c = search needs
 
 returns-3 : tie.Need-returns-3
 returns-3 c =
-    let a = c .before .before .before .before .before .before .before .before .before .before .before .before .before .args in
+    let a = c .before .before .before .before .before .before .before .before .before .before .before .before .before .before .args in
     let ws = words (a .rule .now) in
     let cs = words (a .counters .now) in
     let s = words (a .scratch .now) in
-    let q = c .before .before .before .before .before .before .before .before .before .before .before .before .before .pre .0 in
-    let room = c .before .before .before .before .before .before .before .before .before .before .before .before .before .pre .1 .0 in
-    let sr = c .before .before .before .before .before .before .before .before .before .before .before .before .before .pre .1 .1 .0 in
-    let top = c .before .before .before .before .before .before .before .before .before .before .before .before .before .pre .1 .1 .1 in
+    let q = c .before .before .before .before .before .before .before .before .before .before .before .before .before .before .pre .0 in
+    let room = c .before .before .before .before .before .before .before .before .before .before .before .before .before .before .pre .1 .0 in
+    let sr = c .before .before .before .before .before .before .before .before .before .before .before .before .before .before .pre .1 .1 .0 in
+    let top = c .before .before .before .before .before .before .before .before .before .before .before .before .before .before .pre .1 .1 .1 in
     let x0 = q .known .0 in
-    let w = c .before .before .before .before .before .before .before .before .get .result in
-    let is : w ≡ getD ws (a .at) 0 = c .before .before .before .before .before .before .before .before .get .ensures .is in
+    let w = c .before .before .before .before .before .before .before .before .before .get .result in
+    let is : w ≡ getD ws (a .at) 0 = c .before .before .before .before .before .before .before .before .before .get .ensures .is in
     let high = action-high (q .sig) ws (a .at) x0 in
-    let code : w ≡ actionWord 3 = omega (arith, c .before .before .before .before .before .before .before .match .keys3) in
+    let code : w ≡ actionWord 3 = omega (arith, c .before .before .before .before .before .before .before .before .match .keys3) in
     let here : getD ws (a .at) 0 ≡ actionWord 3 = sym is ∙ code in
-    let k = c .before .before .before .before .lower-change2 in
-    λ sig x bound n sc sg. delete-cases sig ws (a .at) x (λ y k′. Acts (lowerAction sig bound y cs) sig (a .scope) k′ (a .at) (a .to) (a .sp) (a .log) s cs (words (k .last .1 .1 .1 .1 .1 .1 .0)) (words (k .last .1 .1 .1 .1 .1 .0)) (k .result)) here (λ y. delete-acts sig bound ws (a .at) (a .to) (a .sp) (a .log) (a .scope) s cs (words (k .last .1 .1 .1 .1 .1 .1 .0)) (words (k .last .1 .1 .1 .1 .1 .0)) (k .result) w (k .ensures .0) sr sc y code (k .ensures .1 sig y bound n sc))
+    let k = c .before .before .before .before .before .lower-change2 in
+    λ sig x bound n sc sg. rw (c .apart2 .ensures) (delete-cases sig ws (a .at) x (λ y k′. Acts (lowerAction sig bound y cs) sig (a .scope) k′ (a .at) (a .to) (a .sp) (a .log) s cs (words (k .last .1 .1 .1 .1 .1 .1 .0)) (words (k .last .1 .1 .1 .1 .1 .0)) (k .result)) here (λ y. delete-acts sig bound ws (a .at) (a .to) (a .sp) (a .log) (a .scope) s cs (words (k .last .1 .1 .1 .1 .1 .1 .0)) (words (k .last .1 .1 .1 .1 .1 .0)) (k .result) w (k .ensures .0) sr sc y code (k .ensures .1 sig y bound n sc)))
 
 same-length-7 : tie.Need-same-length-7
 same-length-7 c = search needs
@@ -259,22 +268,22 @@ same-length-8 c = search needs
 
 returns-4 : tie.Need-returns-4
 returns-4 c =
-    let a = c .before .before .before .before .before .before .before .before .before .before .before .before .before .args in
+    let a = c .before .before .before .before .before .before .before .before .before .before .before .before .before .before .args in
     let ws = words (a .rule .now) in
     let cs = words (a .counters .now) in
     let s = words (a .scratch .now) in
-    let q = c .before .before .before .before .before .before .before .before .before .before .before .before .before .pre .0 in
-    let room = c .before .before .before .before .before .before .before .before .before .before .before .before .before .pre .1 .0 in
-    let sr = c .before .before .before .before .before .before .before .before .before .before .before .before .before .pre .1 .1 .0 in
-    let top = c .before .before .before .before .before .before .before .before .before .before .before .before .before .pre .1 .1 .1 in
+    let q = c .before .before .before .before .before .before .before .before .before .before .before .before .before .before .pre .0 in
+    let room = c .before .before .before .before .before .before .before .before .before .before .before .before .before .before .pre .1 .0 in
+    let sr = c .before .before .before .before .before .before .before .before .before .before .before .before .before .before .pre .1 .1 .0 in
+    let top = c .before .before .before .before .before .before .before .before .before .before .before .before .before .before .pre .1 .1 .1 in
     let x0 = q .known .0 in
-    let w = c .before .before .before .before .before .before .before .before .get .result in
-    let is : w ≡ getD ws (a .at) 0 = c .before .before .before .before .before .before .before .before .get .ensures .is in
+    let w = c .before .before .before .before .before .before .before .before .before .get .result in
+    let is : w ≡ getD ws (a .at) 0 = c .before .before .before .before .before .before .before .before .before .get .ensures .is in
     let high = action-high (q .sig) ws (a .at) x0 in
-    let code : w ≡ actionWord 4 = omega (arith, c .before .before .before .before .before .before .before .match .keys4) in
+    let code : w ≡ actionWord 4 = omega (arith, c .before .before .before .before .before .before .before .before .match .keys4) in
     let here : getD ws (a .at) 0 ≡ actionWord 4 = sym is ∙ code in
-    let k = c .before .before .before .before .lower-change3 in
-    λ sig x bound n sc sg. subsume-cases sig ws (a .at) x (λ y k′. Acts (lowerAction sig bound y cs) sig (a .scope) k′ (a .at) (a .to) (a .sp) (a .log) s cs (words (k .last .1 .1 .1 .1 .1 .1 .0)) (words (k .last .1 .1 .1 .1 .1 .0)) (k .result)) here (λ y. subsume-acts sig bound ws (a .at) (a .to) (a .sp) (a .log) (a .scope) s cs (words (k .last .1 .1 .1 .1 .1 .1 .0)) (words (k .last .1 .1 .1 .1 .1 .0)) (k .result) w (k .ensures .0) sr sc y code (k .ensures .1 sig y bound n sc))
+    let k = c .before .before .before .before .before .lower-change3 in
+    λ sig x bound n sc sg. rw (c .apart3 .ensures) (subsume-cases sig ws (a .at) x (λ y k′. Acts (lowerAction sig bound y cs) sig (a .scope) k′ (a .at) (a .to) (a .sp) (a .log) s cs (words (k .last .1 .1 .1 .1 .1 .1 .0)) (words (k .last .1 .1 .1 .1 .1 .0)) (k .result)) here (λ y. subsume-acts sig bound ws (a .at) (a .to) (a .sp) (a .log) (a .scope) s cs (words (k .last .1 .1 .1 .1 .1 .1 .0)) (words (k .last .1 .1 .1 .1 .1 .0)) (k .result) w (k .ensures .0) sr sc y code (k .ensures .1 sig y bound n sc)))
 
 same-length-9 : tie.Need-same-length-9
 same-length-9 c = search needs
@@ -377,8 +386,11 @@ lower-action-spec =
     sub-code
     lower-let-requires
     lower-change-requires
+    apart-requires
     lower-change-requires-2
+    apart-requires-2
     lower-change-requires-3
+    apart-requires-3
     lower-union-requires
     lower-panic-requires
     lower-expression-requires
