@@ -18,13 +18,13 @@ use Rattle.walks.specs.declared.Walk.{Walk}
 use Rattle.walks.proofs.Frames.{kept-none}
 use Rattle.walks.proofs.Steps.{went, stop, Own, full-last, last-done}
 use Rattle.walks.proofs.Read.{leaf-cases, call-cases, exprs-many}
-use Rattle.walks.proofs.Rows.{Going}
+use Rattle.walks.proofs.Rows.{Going, left-all, left-none}
 use Rattle.walks.proofs.Words.{head-word}
 use Rattle.core_actions.specs.Scopes.{Scoped, ScopeRoom}
 use Rattle.core_actions.specs.Lowered.{lowered, loweredAll}
 use Rattle.core_actions.specs.declared.scope.Scope.{Scope}
 use Rattle.core_actions.proofs.Scopes.{scoped-kept}
-use Rattle.core_actions.proofs.Pieces.{callPiece, lowered-leaf, lowered-call}
+use Rattle.core_actions.proofs.Pieces.{callPiece, lowered-leaf, lowered-call, lowered-row}
 
 -- ---- the scope on the way through a row
 
@@ -46,6 +46,16 @@ scope-going n r g h x =
 
 pub scope-in : {n at to sp : ℕ} {c : Scope} → ScopeRoom n at to sp c → ScopeRoom n (at + 1) to sp c
 scope-in r = record { few = r .few; body = r .body; names = omega (arith, r .names); top = r .top }
+
+-- a row of none, where the walk stands
+abbrev pub standing : (at to lg : ℕ) → Walk
+standing p t l = record { next = p; to = t; log = l; term = 0; refused = 0 }
+
+pub none-way : (sig : Sig) (bound ws : List ℕ) (d n at to sp lg : ℕ) (s cs : List ℕ) → n ≡ 0 → (es : ExprsAt sig ws d n at)
+    → Walked n (OnStack sp n lg s (standing at to lg)) (loweredAll sig bound (es .value) cs) (es .size) at to sp lg s cs s cs (standing at to lg)
+none-way sig bound ws d n at to sp lg s cs z es =
+    left-none (lowered sig bound) (loweredAll sig bound) (lowered-row sig bound) sig ws d n at to sp lg s cs es n sp s cs (standing at to lg)
+    (left-all (lowered sig bound) (loweredAll sig bound) (lowered-row sig bound) sig ws d n at to sp lg s cs es 0) refl z
 
 -- ---- ways out
 

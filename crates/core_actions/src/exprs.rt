@@ -2,10 +2,12 @@
 use crate::scope::Scope;
 use crate::scope::may_read;
 use walks::Walk;
+ghost use mathlib.Core.Path.{_≡_};
 ghost use mathlib.Core.List.{List};
-ghost use Prim.Native.Nat.{ℕ, _+_};
-ghost use lib.ListN.{length};
+ghost use Prim.Native.Nat.{ℕ, _+_, _<_};
+ghost use lib.ListN.{length, getD};
 ghost use Rattle.octets.specs.Words.{words};
+ghost use Rattle.rules.specs.Words.{literalBase, countOf};
 ghost use Rattle.rules.specs.Signature.{Sig};
 ghost use Rattle.walks.specs.Steps.{Walked, InAnswer, OnStack, Room, Under, Counted, ExprAt, ExprsAt};
 ghost use Rattle.core_actions.specs.Scopes.{Scoped, ScopeRoom, Names};
@@ -13,6 +15,45 @@ ghost use Rattle.core_actions.specs.Lowered.{lowered, loweredAll};
 
 // Action 7: a call whose answer is bound.
 const CALL: u32 = 0x0200_0007;
+
+// Lowers the call w at `at`, which has no arguments: nothing is put on the stack, and no walk over arguments is set up.
+fn lower_bare(
+    rule: &[u8],
+    at: usize,
+    depth: u32,
+    w: u32,
+    counters: &mut [u8],
+    scratch: &mut [u8],
+    to: usize,
+    sp: usize,
+    log: usize,
+) -> Walk
+    requires { ⌜ Under (λ sig. ExprAt sig (words (now rule)) depth at × Counted sig (words (now counters))) ⌝ }
+    requires { ⌜ Room (length (words (now rule))) at to sp log (length (words (now scratch))) ⌝ }
+    requires { ⌜ (w ≡ getD (words (now rule)) at 0) × (w < literalBase) × (countOf w ≡ 0) ⌝ }
+    ensures { λ r. ⌜ ((sig : Sig) (x : ExprAt sig (words (now (rule .entry))) depth at) (bound : List ℕ) → Counted sig (words (now (counters .entry)))
+        → Walked 1 (InAnswer log r) (lowered sig bound (x .value) (words (now (counters .entry)))) (x .size) at to sp log (words (now (scratch .entry))) (words (now (counters .entry))) (words (now (scratch .exit))) (words (now (counters .exit))) r) ⌝ }
+{
+    let h = (w - walks::HEAD) / walks::LIMIT_16;
+    let v = walks::take(counters, scratch, log, h);
+    if v == 0 {
+        return Walk {
+            next: at,
+            to,
+            log,
+            term: 0,
+            refused: walks::USED_UP,
+        };
+    }
+    let end = octets::rows::put_three(scratch, to, CALL, v, w);
+    Walk {
+        next: at + 1,
+        to: end,
+        log: log + 1,
+        term: v,
+        refused: 0,
+    }
+}
 
 // Lowers the expression at `at`, which is at most `depth` deep.
 pub fn lower(
@@ -53,6 +94,9 @@ pub fn lower(
     }
     let h = (w - walks::HEAD) / walks::LIMIT_16;
     let n = (w - walks::HEAD) % walks::LIMIT_16;
+    if n == 0 {
+        return lower_bare(rule, at, depth, w, counters, scratch, to, sp, log);
+    }
     let args = lower_all(
         rule,
         at + 1,

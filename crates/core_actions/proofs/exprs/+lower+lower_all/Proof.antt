@@ -24,6 +24,7 @@ use Rattle.core_actions.proofs.exprs.+lower+lower_all.Lts-lower as lowe
 use Rattle.core_actions.proofs.exprs.lower_all.Reads as lower-all
 use Rattle.core_actions.proofs.exprs.lower_all.Kinds as lower-all-kinds
 use Rattle.core_actions.proofs.exprs.+lower+lower_all.Lts-lower_all as lower-all-lts
+use Rattle.core_actions.proofs.exprs.lower_bare.Reads as lower-bare-reads
 use Rattle.core_actions.proofs.scope.may_read.Reads as may-read-reads
 use Rattle.octets.proofs.get.Reads as get-reads
 use Rattle.octets.proofs.put.Reads as put-reads
@@ -56,6 +57,8 @@ lower-get-requires : (t : ℕ) → lower-lts.Need-get-requires (
   get-reads.Learnt,
   may-read-reads.Asked,
   may-read-reads.Learnt,
+  lower-bare-reads.Asked,
+  lower-bare-reads.Learnt,
   lower-all-below t,
   lower-all.Post,
   take-reads.Asked,
@@ -79,6 +82,8 @@ lower-may-read-requires : (t : ℕ) → lower-lts.Need-may-read-requires (
   get-reads.Learnt,
   may-read-reads.Asked,
   may-read-reads.Learnt,
+  lower-bare-reads.Asked,
+  lower-bare-reads.Learnt,
   lower-all-below t,
   lower-all.Post,
   take-reads.Asked,
@@ -102,6 +107,8 @@ lower-add-t20 : (t : ℕ) → lower-lts.Need-add-t20 (
   get-reads.Learnt,
   may-read-reads.Asked,
   may-read-reads.Learnt,
+  lower-bare-reads.Asked,
+  lower-bare-reads.Learnt,
   lower-all-below t,
   lower-all.Post,
   take-reads.Asked,
@@ -125,6 +132,8 @@ lower-same-length : (t : ℕ) → lower-lts.Need-same-length (
   get-reads.Learnt,
   may-read-reads.Asked,
   may-read-reads.Learnt,
+  lower-bare-reads.Asked,
+  lower-bare-reads.Learnt,
   lower-all-below t,
   lower-all.Post,
   take-reads.Asked,
@@ -139,6 +148,8 @@ lower-returns : (t : ℕ) → lower-lts.Need-returns (
   get-reads.Learnt,
   may-read-reads.Asked,
   may-read-reads.Learnt,
+  lower-bare-reads.Asked,
+  lower-bare-reads.Learnt,
   lower-all-below t,
   lower-all.Post,
   take-reads.Asked,
@@ -163,6 +174,8 @@ lower-same-length-2 : (t : ℕ) → lower-lts.Need-same-length-2 (
   get-reads.Learnt,
   may-read-reads.Asked,
   may-read-reads.Learnt,
+  lower-bare-reads.Asked,
+  lower-bare-reads.Learnt,
   lower-all-below t,
   lower-all.Post,
   take-reads.Asked,
@@ -177,6 +190,8 @@ lower-returns-2 : (t : ℕ) → lower-lts.Need-returns-2 (
   get-reads.Learnt,
   may-read-reads.Asked,
   may-read-reads.Learnt,
+  lower-bare-reads.Asked,
+  lower-bare-reads.Learnt,
   lower-all-below t,
   lower-all.Post,
   take-reads.Asked,
@@ -201,6 +216,8 @@ lower-sub-h : (t : ℕ) → lower-lts.Need-sub-h (
   get-reads.Learnt,
   may-read-reads.Asked,
   may-read-reads.Learnt,
+  lower-bare-reads.Asked,
+  lower-bare-reads.Learnt,
   lower-all-below t,
   lower-all.Post,
   take-reads.Asked,
@@ -226,6 +243,8 @@ lower-sub-n : (t : ℕ) → lower-lts.Need-sub-n (
   get-reads.Learnt,
   may-read-reads.Asked,
   may-read-reads.Learnt,
+  lower-bare-reads.Asked,
+  lower-bare-reads.Learnt,
   lower-all-below t,
   lower-all.Post,
   take-reads.Asked,
@@ -246,11 +265,13 @@ lower-sub-n t c =
     let f = call-facts (q .sig) ws (a .depth) (a .at) cs w (q .known .0) (q .known .1) is (c .if1 .left) in
     omega (arith, f .high)
 
-lower-add-lower-all : (t : ℕ) → lower-lts.Need-add-lower-all (
+lower-lower-bare-requires : (t : ℕ) → lower-lts.Need-lower-bare-requires (
   get-reads.Asked,
   get-reads.Learnt,
   may-read-reads.Asked,
   may-read-reads.Learnt,
+  lower-bare-reads.Asked,
+  lower-bare-reads.Learnt,
   lower-all-below t,
   lower-all.Post,
   take-reads.Asked,
@@ -258,86 +279,14 @@ lower-add-lower-all : (t : ℕ) → lower-lts.Need-add-lower-all (
   put-call-reads.Asked,
   put-call-reads.Learnt,
 ) (lower-at t) lower.Post
-lower-add-lower-all t c =
-    let a = c .before .before .before .before .before .args in
+lower-lower-bare-requires t c κs =
+    let a = c .before .before .before .before .before .before .before .before .args in
     let ws = words (a .rule .now) in
-    let cs = words (a .counters .now) in
-    let s = words (a .scratch .now) in
-    let q = c .before .before .before .before .before .pre .1 .0 in
-    let room = c .before .before .before .before .before .pre .1 .1 .0 in
-    let sr = c .before .before .before .before .before .pre .1 .1 .1 in
-    let w = c .before .get .result in
-    let is : w ≡ getD ws (a .at) 0 = c .before .get .ensures .is in
-    let f = call-facts (q .sig) ws (a .depth) (a .at) cs w (q .known .0) (q .known .1) is (c .if1 .left) in
-    omega (arith, f .inside, length-words (a .rule .now))
-
-lower-cast-lower-all : (t : ℕ) → lower-lts.Need-cast-lower-all (
-  get-reads.Asked,
-  get-reads.Learnt,
-  may-read-reads.Asked,
-  may-read-reads.Learnt,
-  lower-all-below t,
-  lower-all.Post,
-  take-reads.Asked,
-  take-reads.Learnt,
-  put-call-reads.Asked,
-  put-call-reads.Learnt,
-) (lower-at t) lower.Post
-lower-cast-lower-all t c = search needs
-
-lower-sub-lower-all : (t : ℕ) → lower-lts.Need-sub-lower-all (
-  get-reads.Asked,
-  get-reads.Learnt,
-  may-read-reads.Asked,
-  may-read-reads.Learnt,
-  lower-all-below t,
-  lower-all.Post,
-  take-reads.Asked,
-  take-reads.Learnt,
-  put-call-reads.Asked,
-  put-call-reads.Learnt,
-) (lower-at t) lower.Post
-lower-sub-lower-all t c =
-    let a = c .before .before .before .before .before .args in
-    let ws = words (a .rule .now) in
-    let cs = words (a .counters .now) in
-    let s = words (a .scratch .now) in
-    let q = c .before .before .before .before .before .pre .1 .0 in
-    let room = c .before .before .before .before .before .pre .1 .1 .0 in
-    let sr = c .before .before .before .before .before .pre .1 .1 .1 in
-    let w = c .before .get .result in
-    let is : w ≡ getD ws (a .at) 0 = c .before .get .ensures .is in
-    let f = call-facts (q .sig) ws (a .depth) (a .at) cs w (q .known .0) (q .known .1) is (c .if1 .left) in
-    omega (arith, f .deep)
-
-lower-lower-all-requires : (t : ℕ) → lower-lts.Need-lower-all-requires (
-  get-reads.Asked,
-  get-reads.Learnt,
-  may-read-reads.Asked,
-  may-read-reads.Learnt,
-  lower-all-below t,
-  lower-all.Post,
-  take-reads.Asked,
-  take-reads.Learnt,
-  put-call-reads.Asked,
-  put-call-reads.Learnt,
-) (lower-at t) lower.Post
-lower-lower-all-requires t c κs =
-    let a = c .before .before .before .before .before .before .before .args in
-    let ws = words (a .rule .now) in
-    let cs = words (a .counters .now) in
-    let s = words (a .scratch .now) in
-    let q = c .before .before .before .before .before .before .before .pre .1 .0 in
-    let room = c .before .before .before .before .before .before .before .pre .1 .1 .0 in
-    let sr = c .before .before .before .before .before .before .before .pre .1 .1 .1 in
-    let w = c .before .before .before .get .result in
-    let is : w ≡ getD ws (a .at) 0 = c .before .before .before .get .ensures .is in
-    let f = call-facts (q .sig) ws (a .depth) (a .at) cs w (q .known .0) (q .known .1) is (c .before .before .if1 .left) in (
-      omega (arith, c .before .before .before .before .before .before .before .pre .0, f .inside, f .deep),
-      (
-        record { sig = q .sig; known = (f .args, q .known .1, q .known .2) },
-        (record { words = omega (arith, room .words); stack = omega (arith, room .stack); log = omega (arith, room .log) }, scope-in sr),
-      ),
+    let q = c .before .before .before .before .before .before .before .before .pre .1 .0 in
+    let w = c .before .before .before .before .get .result in
+    let is : w ≡ getD ws (a .at) 0 = c .before .before .before .before .get .ensures .is in (
+      record { sig = q .sig; known = (q .known .0, q .known .1) },
+      (c .before .before .before .before .before .before .before .before .pre .1 .1 .0, (is, c .before .before .before .if1 .left, c .before .before .if3 .taken)),
     )
 
 lower-same-length-3 : (t : ℕ) → lower-lts.Need-same-length-3 (
@@ -345,6 +294,8 @@ lower-same-length-3 : (t : ℕ) → lower-lts.Need-same-length-3 (
   get-reads.Learnt,
   may-read-reads.Asked,
   may-read-reads.Learnt,
+  lower-bare-reads.Asked,
+  lower-bare-reads.Learnt,
   lower-all-below t,
   lower-all.Post,
   take-reads.Asked,
@@ -359,6 +310,8 @@ lower-same-length-4 : (t : ℕ) → lower-lts.Need-same-length-4 (
   get-reads.Learnt,
   may-read-reads.Asked,
   may-read-reads.Learnt,
+  lower-bare-reads.Asked,
+  lower-bare-reads.Learnt,
   lower-all-below t,
   lower-all.Post,
   take-reads.Asked,
@@ -373,6 +326,8 @@ lower-returns-3 : (t : ℕ) → lower-lts.Need-returns-3 (
   get-reads.Learnt,
   may-read-reads.Asked,
   may-read-reads.Learnt,
+  lower-bare-reads.Asked,
+  lower-bare-reads.Learnt,
   lower-all-below t,
   lower-all.Post,
   take-reads.Asked,
@@ -380,29 +335,15 @@ lower-returns-3 : (t : ℕ) → lower-lts.Need-returns-3 (
   put-call-reads.Asked,
   put-call-reads.Learnt,
 ) (lower-at t) lower.Post
-lower-returns-3 t c =
-    let a = c .before .before .before .before .before .before .before .before .before .before .before .before .before .before .args in
-    let ws = words (a .rule .now) in
-    let cs = words (a .counters .now) in
-    let s = words (a .scratch .now) in
-    let q = c .before .before .before .before .before .before .before .before .before .before .before .before .before .before .pre .1 .0 in
-    let room = c .before .before .before .before .before .before .before .before .before .before .before .before .before .before .pre .1 .1 .0 in
-    let sr = c .before .before .before .before .before .before .before .before .before .before .before .before .before .before .pre .1 .1 .1 in
-    let w = c .before .before .before .before .before .before .before .before .before .before .get .result in
-    let is : w ≡ getD ws (a .at) 0 = c .before .before .before .before .before .before .before .before .before .before .get .ensures .is in
-    let f = call-facts (q .sig) ws (a .depth) (a .at) cs w (q .known .0) (q .known .1) is (c .before .before .before .before .before .before .before .before .before .if1 .left) in
-    let k = c .before .before .before .before .before .before .lower-all in
-    let s1 = words (k .last .1 .1 .1 .1 .1 .1 .0) in
-    let cs1 = words (k .last .1 .1 .1 .1 .1 .0) in
-    let hc : length cs1 ≡ length cs = length-words-kept (k .last .1 .1 .1 .1 .1 .0) (a .counters .now) (k .kept .1 .1 .1 .1 .1 .0) in
-    let hs : length s1 ≡ length s = length-words-kept (k .last .1 .1 .1 .1 .1 .1 .0) (a .scratch .now) (k .kept .1 .1 .1 .1 .1 .1 .0) in
-    λ sig x bound n sc. stop-way sig bound ws (a .depth) (a .at) (a .to) (a .sp) (a .log) s cs x n w is (c .before .before .before .before .before .before .before .before .before .if1 .left) s1 cs1 (k .result) (λ es. k .ensures sig es bound n sc) (c .if3 .taken)
+lower-returns-3 t c = λ sig x bound n sc. c .before .before .before .before .lower-bare .ensures sig x bound n
 
-lower-take-requires : (t : ℕ) → lower-lts.Need-take-requires (
+lower-add-lower-all : (t : ℕ) → lower-lts.Need-add-lower-all (
   get-reads.Asked,
   get-reads.Learnt,
   may-read-reads.Asked,
   may-read-reads.Learnt,
+  lower-bare-reads.Asked,
+  lower-bare-reads.Learnt,
   lower-all-below t,
   lower-all.Post,
   take-reads.Asked,
@@ -410,30 +351,101 @@ lower-take-requires : (t : ℕ) → lower-lts.Need-take-requires (
   put-call-reads.Asked,
   put-call-reads.Learnt,
 ) (lower-at t) lower.Post
-lower-take-requires t c κs =
-    let a = c .before .before .before .before .before .before .before .before .before .before .before .before .before .before .before .before .args in
+lower-add-lower-all t c =
+    let a = c .before .before .before .before .before .before .args in
     let ws = words (a .rule .now) in
     let cs = words (a .counters .now) in
     let s = words (a .scratch .now) in
-    let q = c .before .before .before .before .before .before .before .before .before .before .before .before .before .before .before .before .pre .1 .0 in
-    let room = c .before .before .before .before .before .before .before .before .before .before .before .before .before .before .before .before .pre .1 .1 .0 in
-    let sr = c .before .before .before .before .before .before .before .before .before .before .before .before .before .before .before .before .pre .1 .1 .1 in
-    let w = c .before .before .before .before .before .before .before .before .before .before .before .before .get .result in
-    let is : w ≡ getD ws (a .at) 0 = c .before .before .before .before .before .before .before .before .before .before .before .before .get .ensures .is in
-    let f = call-facts (q .sig) ws (a .depth) (a .at) cs w (q .known .0) (q .known .1) is (c .before .before .before .before .before .before .before .before .before .before .before .if1 .left) in
-    let k = c .before .before .before .before .before .before .before .before .lower-all in
-    let s1 = words (k .last .1 .1 .1 .1 .1 .1 .0) in
-    let cs1 = words (k .last .1 .1 .1 .1 .1 .0) in
-    let hc : length cs1 ≡ length cs = length-words-kept (k .last .1 .1 .1 .1 .1 .0) (a .counters .now) (k .kept .1 .1 .1 .1 .1 .0) in
-    let hs : length s1 ≡ length s = length-words-kept (k .last .1 .1 .1 .1 .1 .1 .0) (a .scratch .now) (k .kept .1 .1 .1 .1 .1 .1 .0) in
-    let r = call-room (q .sig) (q .known .2 .bound) ws (a .depth) (a .at) (a .to) (a .sp) (a .log) s cs (q .known .0) (q .known .1) w is (c .before .before .before .before .before .before .before .before .before .before .before .if1 .left) s1 cs1 (k .result) (λ es. k .ensures (q .sig) es (q .known .2 .bound) (q .known .1) (q .known .2 .scoped)) (c .before .before .if3 .left) room (length s1) hs in
-    (f .small, omega (arith, f .low, hc), r .0)
+    let q = c .before .before .before .before .before .before .pre .1 .0 in
+    let room = c .before .before .before .before .before .before .pre .1 .1 .0 in
+    let sr = c .before .before .before .before .before .before .pre .1 .1 .1 in
+    let w = c .before .before .get .result in
+    let is : w ≡ getD ws (a .at) 0 = c .before .before .get .ensures .is in
+    let f = call-facts (q .sig) ws (a .depth) (a .at) cs w (q .known .0) (q .known .1) is (c .before .if1 .left) in
+    omega (arith, f .inside, length-words (a .rule .now))
+
+lower-cast-lower-all : (t : ℕ) → lower-lts.Need-cast-lower-all (
+  get-reads.Asked,
+  get-reads.Learnt,
+  may-read-reads.Asked,
+  may-read-reads.Learnt,
+  lower-bare-reads.Asked,
+  lower-bare-reads.Learnt,
+  lower-all-below t,
+  lower-all.Post,
+  take-reads.Asked,
+  take-reads.Learnt,
+  put-call-reads.Asked,
+  put-call-reads.Learnt,
+) (lower-at t) lower.Post
+lower-cast-lower-all t c = search needs
+
+lower-sub-lower-all : (t : ℕ) → lower-lts.Need-sub-lower-all (
+  get-reads.Asked,
+  get-reads.Learnt,
+  may-read-reads.Asked,
+  may-read-reads.Learnt,
+  lower-bare-reads.Asked,
+  lower-bare-reads.Learnt,
+  lower-all-below t,
+  lower-all.Post,
+  take-reads.Asked,
+  take-reads.Learnt,
+  put-call-reads.Asked,
+  put-call-reads.Learnt,
+) (lower-at t) lower.Post
+lower-sub-lower-all t c =
+    let a = c .before .before .before .before .before .before .args in
+    let ws = words (a .rule .now) in
+    let cs = words (a .counters .now) in
+    let s = words (a .scratch .now) in
+    let q = c .before .before .before .before .before .before .pre .1 .0 in
+    let room = c .before .before .before .before .before .before .pre .1 .1 .0 in
+    let sr = c .before .before .before .before .before .before .pre .1 .1 .1 in
+    let w = c .before .before .get .result in
+    let is : w ≡ getD ws (a .at) 0 = c .before .before .get .ensures .is in
+    let f = call-facts (q .sig) ws (a .depth) (a .at) cs w (q .known .0) (q .known .1) is (c .before .if1 .left) in
+    omega (arith, f .deep)
+
+lower-lower-all-requires : (t : ℕ) → lower-lts.Need-lower-all-requires (
+  get-reads.Asked,
+  get-reads.Learnt,
+  may-read-reads.Asked,
+  may-read-reads.Learnt,
+  lower-bare-reads.Asked,
+  lower-bare-reads.Learnt,
+  lower-all-below t,
+  lower-all.Post,
+  take-reads.Asked,
+  take-reads.Learnt,
+  put-call-reads.Asked,
+  put-call-reads.Learnt,
+) (lower-at t) lower.Post
+lower-lower-all-requires t c κs =
+    let a = c .before .before .before .before .before .before .before .before .args in
+    let ws = words (a .rule .now) in
+    let cs = words (a .counters .now) in
+    let s = words (a .scratch .now) in
+    let q = c .before .before .before .before .before .before .before .before .pre .1 .0 in
+    let room = c .before .before .before .before .before .before .before .before .pre .1 .1 .0 in
+    let sr = c .before .before .before .before .before .before .before .before .pre .1 .1 .1 in
+    let w = c .before .before .before .before .get .result in
+    let is : w ≡ getD ws (a .at) 0 = c .before .before .before .before .get .ensures .is in
+    let f = call-facts (q .sig) ws (a .depth) (a .at) cs w (q .known .0) (q .known .1) is (c .before .before .before .if1 .left) in (
+      omega (arith, c .before .before .before .before .before .before .before .before .pre .0, f .inside, f .deep),
+      (
+        record { sig = q .sig; known = (f .args, q .known .1, q .known .2) },
+        (record { words = omega (arith, room .words); stack = omega (arith, room .stack); log = omega (arith, room .log) }, scope-in sr),
+      ),
+    )
 
 lower-same-length-5 : (t : ℕ) → lower-lts.Need-same-length-5 (
   get-reads.Asked,
   get-reads.Learnt,
   may-read-reads.Asked,
   may-read-reads.Learnt,
+  lower-bare-reads.Asked,
+  lower-bare-reads.Learnt,
   lower-all-below t,
   lower-all.Post,
   take-reads.Asked,
@@ -441,13 +453,15 @@ lower-same-length-5 : (t : ℕ) → lower-lts.Need-same-length-5 (
   put-call-reads.Asked,
   put-call-reads.Learnt,
 ) (lower-at t) lower.Post
-lower-same-length-5 t c = c .before .before .before .before .before .take .kept .0 ∙ c .before .before .before .before .before .before .before .before .before .before .before .before .before .before .lower-all .kept .1 .1 .1 .1 .1 .0
+lower-same-length-5 t c = search needs
 
 lower-same-length-6 : (t : ℕ) → lower-lts.Need-same-length-6 (
   get-reads.Asked,
   get-reads.Learnt,
   may-read-reads.Asked,
   may-read-reads.Learnt,
+  lower-bare-reads.Asked,
+  lower-bare-reads.Learnt,
   lower-all-below t,
   lower-all.Post,
   take-reads.Asked,
@@ -455,13 +469,15 @@ lower-same-length-6 : (t : ℕ) → lower-lts.Need-same-length-6 (
   put-call-reads.Asked,
   put-call-reads.Learnt,
 ) (lower-at t) lower.Post
-lower-same-length-6 t c = c .before .before .before .before .before .take .kept .1 .0 ∙ c .before .before .before .before .before .before .before .before .before .before .before .before .before .before .lower-all .kept .1 .1 .1 .1 .1 .1 .0
+lower-same-length-6 t c = search needs
 
 lower-returns-4 : (t : ℕ) → lower-lts.Need-returns-4 (
   get-reads.Asked,
   get-reads.Learnt,
   may-read-reads.Asked,
   may-read-reads.Learnt,
+  lower-bare-reads.Asked,
+  lower-bare-reads.Learnt,
   lower-all-below t,
   lower-all.Post,
   take-reads.Asked,
@@ -470,16 +486,113 @@ lower-returns-4 : (t : ℕ) → lower-lts.Need-returns-4 (
   put-call-reads.Learnt,
 ) (lower-at t) lower.Post
 lower-returns-4 t c =
-    let a = c .before .before .before .before .before .before .before .before .before .before .before .before .before .before .before .before .before .before .before .before .before .before .args in
+    let a = c .before .before .before .before .before .before .before .before .before .before .before .before .before .before .before .args in
     let ws = words (a .rule .now) in
     let cs = words (a .counters .now) in
     let s = words (a .scratch .now) in
-    let q = c .before .before .before .before .before .before .before .before .before .before .before .before .before .before .before .before .before .before .before .before .before .before .pre .1 .0 in
-    let room = c .before .before .before .before .before .before .before .before .before .before .before .before .before .before .before .before .before .before .before .before .before .before .pre .1 .1 .0 in
-    let sr = c .before .before .before .before .before .before .before .before .before .before .before .before .before .before .before .before .before .before .before .before .before .before .pre .1 .1 .1 in
-    let w = c .before .before .before .before .before .before .before .before .before .before .before .before .before .before .before .before .before .before .get .result in
-    let is : w ≡ getD ws (a .at) 0 = c .before .before .before .before .before .before .before .before .before .before .before .before .before .before .before .before .before .before .get .ensures .is in
-    let f = call-facts (q .sig) ws (a .depth) (a .at) cs w (q .known .0) (q .known .1) is (c .before .before .before .before .before .before .before .before .before .before .before .before .before .before .before .before .before .if1 .left) in
+    let q = c .before .before .before .before .before .before .before .before .before .before .before .before .before .before .before .pre .1 .0 in
+    let room = c .before .before .before .before .before .before .before .before .before .before .before .before .before .before .before .pre .1 .1 .0 in
+    let sr = c .before .before .before .before .before .before .before .before .before .before .before .before .before .before .before .pre .1 .1 .1 in
+    let w = c .before .before .before .before .before .before .before .before .before .before .before .get .result in
+    let is : w ≡ getD ws (a .at) 0 = c .before .before .before .before .before .before .before .before .before .before .before .get .ensures .is in
+    let f = call-facts (q .sig) ws (a .depth) (a .at) cs w (q .known .0) (q .known .1) is (c .before .before .before .before .before .before .before .before .before .before .if1 .left) in
+    let k = c .before .before .before .before .before .before .lower-all in
+    let s1 = words (k .last .1 .1 .1 .1 .1 .1 .0) in
+    let cs1 = words (k .last .1 .1 .1 .1 .1 .0) in
+    let hc : length cs1 ≡ length cs = length-words-kept (k .last .1 .1 .1 .1 .1 .0) (a .counters .now) (k .kept .1 .1 .1 .1 .1 .0) in
+    let hs : length s1 ≡ length s = length-words-kept (k .last .1 .1 .1 .1 .1 .1 .0) (a .scratch .now) (k .kept .1 .1 .1 .1 .1 .1 .0) in
+    λ sig x bound n sc. stop-way sig bound ws (a .depth) (a .at) (a .to) (a .sp) (a .log) s cs x n w is (c .before .before .before .before .before .before .before .before .before .before .if1 .left) s1 cs1 (k .result) (λ es. k .ensures sig es bound n sc) (c .if4 .taken)
+
+lower-take-requires : (t : ℕ) → lower-lts.Need-take-requires (
+  get-reads.Asked,
+  get-reads.Learnt,
+  may-read-reads.Asked,
+  may-read-reads.Learnt,
+  lower-bare-reads.Asked,
+  lower-bare-reads.Learnt,
+  lower-all-below t,
+  lower-all.Post,
+  take-reads.Asked,
+  take-reads.Learnt,
+  put-call-reads.Asked,
+  put-call-reads.Learnt,
+) (lower-at t) lower.Post
+lower-take-requires t c κs =
+    let a = c .before .before .before .before .before .before .before .before .before .before .before .before .before .before .before .before .before .args in
+    let ws = words (a .rule .now) in
+    let cs = words (a .counters .now) in
+    let s = words (a .scratch .now) in
+    let q = c .before .before .before .before .before .before .before .before .before .before .before .before .before .before .before .before .before .pre .1 .0 in
+    let room = c .before .before .before .before .before .before .before .before .before .before .before .before .before .before .before .before .before .pre .1 .1 .0 in
+    let sr = c .before .before .before .before .before .before .before .before .before .before .before .before .before .before .before .before .before .pre .1 .1 .1 in
+    let w = c .before .before .before .before .before .before .before .before .before .before .before .before .before .get .result in
+    let is : w ≡ getD ws (a .at) 0 = c .before .before .before .before .before .before .before .before .before .before .before .before .before .get .ensures .is in
+    let f = call-facts (q .sig) ws (a .depth) (a .at) cs w (q .known .0) (q .known .1) is (c .before .before .before .before .before .before .before .before .before .before .before .before .if1 .left) in
+    let k = c .before .before .before .before .before .before .before .before .lower-all in
+    let s1 = words (k .last .1 .1 .1 .1 .1 .1 .0) in
+    let cs1 = words (k .last .1 .1 .1 .1 .1 .0) in
+    let hc : length cs1 ≡ length cs = length-words-kept (k .last .1 .1 .1 .1 .1 .0) (a .counters .now) (k .kept .1 .1 .1 .1 .1 .0) in
+    let hs : length s1 ≡ length s = length-words-kept (k .last .1 .1 .1 .1 .1 .1 .0) (a .scratch .now) (k .kept .1 .1 .1 .1 .1 .1 .0) in
+    let r = call-room (q .sig) (q .known .2 .bound) ws (a .depth) (a .at) (a .to) (a .sp) (a .log) s cs (q .known .0) (q .known .1) w is (c .before .before .before .before .before .before .before .before .before .before .before .before .if1 .left) s1 cs1 (k .result) (λ es. k .ensures (q .sig) es (q .known .2 .bound) (q .known .1) (q .known .2 .scoped)) (c .before .before .if4 .left) room (length s1) hs in
+    (f .small, omega (arith, f .low, hc), r .0)
+
+lower-same-length-7 : (t : ℕ) → lower-lts.Need-same-length-7 (
+  get-reads.Asked,
+  get-reads.Learnt,
+  may-read-reads.Asked,
+  may-read-reads.Learnt,
+  lower-bare-reads.Asked,
+  lower-bare-reads.Learnt,
+  lower-all-below t,
+  lower-all.Post,
+  take-reads.Asked,
+  take-reads.Learnt,
+  put-call-reads.Asked,
+  put-call-reads.Learnt,
+) (lower-at t) lower.Post
+lower-same-length-7 t c = c .before .before .before .before .before .take .kept .0 ∙ c .before .before .before .before .before .before .before .before .before .before .before .before .before .before .lower-all .kept .1 .1 .1 .1 .1 .0
+
+lower-same-length-8 : (t : ℕ) → lower-lts.Need-same-length-8 (
+  get-reads.Asked,
+  get-reads.Learnt,
+  may-read-reads.Asked,
+  may-read-reads.Learnt,
+  lower-bare-reads.Asked,
+  lower-bare-reads.Learnt,
+  lower-all-below t,
+  lower-all.Post,
+  take-reads.Asked,
+  take-reads.Learnt,
+  put-call-reads.Asked,
+  put-call-reads.Learnt,
+) (lower-at t) lower.Post
+lower-same-length-8 t c = c .before .before .before .before .before .take .kept .1 .0 ∙ c .before .before .before .before .before .before .before .before .before .before .before .before .before .before .lower-all .kept .1 .1 .1 .1 .1 .1 .0
+
+lower-returns-5 : (t : ℕ) → lower-lts.Need-returns-5 (
+  get-reads.Asked,
+  get-reads.Learnt,
+  may-read-reads.Asked,
+  may-read-reads.Learnt,
+  lower-bare-reads.Asked,
+  lower-bare-reads.Learnt,
+  lower-all-below t,
+  lower-all.Post,
+  take-reads.Asked,
+  take-reads.Learnt,
+  put-call-reads.Asked,
+  put-call-reads.Learnt,
+) (lower-at t) lower.Post
+lower-returns-5 t c =
+    let a = c .before .before .before .before .before .before .before .before .before .before .before .before .before .before .before .before .before .before .before .before .before .before .before .args in
+    let ws = words (a .rule .now) in
+    let cs = words (a .counters .now) in
+    let s = words (a .scratch .now) in
+    let q = c .before .before .before .before .before .before .before .before .before .before .before .before .before .before .before .before .before .before .before .before .before .before .before .pre .1 .0 in
+    let room = c .before .before .before .before .before .before .before .before .before .before .before .before .before .before .before .before .before .before .before .before .before .before .before .pre .1 .1 .0 in
+    let sr = c .before .before .before .before .before .before .before .before .before .before .before .before .before .before .before .before .before .before .before .before .before .before .before .pre .1 .1 .1 in
+    let w = c .before .before .before .before .before .before .before .before .before .before .before .before .before .before .before .before .before .before .before .get .result in
+    let is : w ≡ getD ws (a .at) 0 = c .before .before .before .before .before .before .before .before .before .before .before .before .before .before .before .before .before .before .before .get .ensures .is in
+    let f = call-facts (q .sig) ws (a .depth) (a .at) cs w (q .known .0) (q .known .1) is (c .before .before .before .before .before .before .before .before .before .before .before .before .before .before .before .before .before .before .if1 .left) in
     let k = c .before .before .before .before .before .before .before .before .before .before .before .before .before .before .lower-all in
     let s1 = words (k .last .1 .1 .1 .1 .1 .1 .0) in
     let cs1 = words (k .last .1 .1 .1 .1 .1 .0) in
@@ -490,13 +603,15 @@ lower-returns-4 t c =
     let cs2 = words (t .last .0) in
     let hc2 : length cs2 ≡ length cs1 = length-words-kept (t .last .0) _ (t .kept .0) in
     let hs2 : length s2 ≡ length s = length-words-kept (t .last .1 .0) _ (t .kept .1 .0) ∙ hs in
-    λ sig x bound n sc. full-way sig bound ws (a .depth) (a .at) (a .to) (a .sp) (a .log) s cs x n w is (c .before .before .before .before .before .before .before .before .before .before .before .before .before .before .before .before .before .if1 .left) s1 cs1 (k .result) (λ es. k .ensures sig es bound n sc) (c .before .before .before .before .before .before .before .before .if3 .left) room (t .result) s2 cs2 (t .ensures) (c .if4 .taken)
+    λ sig x bound n sc. full-way sig bound ws (a .depth) (a .at) (a .to) (a .sp) (a .log) s cs x n w is (c .before .before .before .before .before .before .before .before .before .before .before .before .before .before .before .before .before .before .if1 .left) s1 cs1 (k .result) (λ es. k .ensures sig es bound n sc) (c .before .before .before .before .before .before .before .before .if4 .left) room (t .result) s2 cs2 (t .ensures) (c .if5 .taken)
 
 lower-cast-put-call : (t : ℕ) → lower-lts.Need-cast-put-call (
   get-reads.Asked,
   get-reads.Learnt,
   may-read-reads.Asked,
   may-read-reads.Learnt,
+  lower-bare-reads.Asked,
+  lower-bare-reads.Learnt,
   lower-all-below t,
   lower-all.Post,
   take-reads.Asked,
@@ -511,6 +626,8 @@ lower-put-call-requires : (t : ℕ) → lower-lts.Need-put-call-requires (
   get-reads.Learnt,
   may-read-reads.Asked,
   may-read-reads.Learnt,
+  lower-bare-reads.Asked,
+  lower-bare-reads.Learnt,
   lower-all-below t,
   lower-all.Post,
   take-reads.Asked,
@@ -519,16 +636,16 @@ lower-put-call-requires : (t : ℕ) → lower-lts.Need-put-call-requires (
   put-call-reads.Learnt,
 ) (lower-at t) lower.Post
 lower-put-call-requires t c κs =
-    let a = c .before .before .before .before .before .before .before .before .before .before .before .before .before .before .before .before .before .before .before .before .before .before .before .args in
+    let a = c .before .before .before .before .before .before .before .before .before .before .before .before .before .before .before .before .before .before .before .before .before .before .before .before .args in
     let ws = words (a .rule .now) in
     let cs = words (a .counters .now) in
     let s = words (a .scratch .now) in
-    let q = c .before .before .before .before .before .before .before .before .before .before .before .before .before .before .before .before .before .before .before .before .before .before .before .pre .1 .0 in
-    let room = c .before .before .before .before .before .before .before .before .before .before .before .before .before .before .before .before .before .before .before .before .before .before .before .pre .1 .1 .0 in
-    let sr = c .before .before .before .before .before .before .before .before .before .before .before .before .before .before .before .before .before .before .before .before .before .before .before .pre .1 .1 .1 in
-    let w = c .before .before .before .before .before .before .before .before .before .before .before .before .before .before .before .before .before .before .before .get .result in
-    let is : w ≡ getD ws (a .at) 0 = c .before .before .before .before .before .before .before .before .before .before .before .before .before .before .before .before .before .before .before .get .ensures .is in
-    let f = call-facts (q .sig) ws (a .depth) (a .at) cs w (q .known .0) (q .known .1) is (c .before .before .before .before .before .before .before .before .before .before .before .before .before .before .before .before .before .before .if1 .left) in
+    let q = c .before .before .before .before .before .before .before .before .before .before .before .before .before .before .before .before .before .before .before .before .before .before .before .before .pre .1 .0 in
+    let room = c .before .before .before .before .before .before .before .before .before .before .before .before .before .before .before .before .before .before .before .before .before .before .before .before .pre .1 .1 .0 in
+    let sr = c .before .before .before .before .before .before .before .before .before .before .before .before .before .before .before .before .before .before .before .before .before .before .before .before .pre .1 .1 .1 in
+    let w = c .before .before .before .before .before .before .before .before .before .before .before .before .before .before .before .before .before .before .before .before .get .result in
+    let is : w ≡ getD ws (a .at) 0 = c .before .before .before .before .before .before .before .before .before .before .before .before .before .before .before .before .before .before .before .before .get .ensures .is in
+    let f = call-facts (q .sig) ws (a .depth) (a .at) cs w (q .known .0) (q .known .1) is (c .before .before .before .before .before .before .before .before .before .before .before .before .before .before .before .before .before .before .before .if1 .left) in
     let k = c .before .before .before .before .before .before .before .before .before .before .before .before .before .before .before .lower-all in
     let s1 = words (k .last .1 .1 .1 .1 .1 .1 .0) in
     let cs1 = words (k .last .1 .1 .1 .1 .1 .0) in
@@ -539,14 +656,16 @@ lower-put-call-requires t c κs =
     let cs2 = words (t .last .0) in
     let hc2 : length cs2 ≡ length cs1 = length-words-kept (t .last .0) _ (t .kept .0) in
     let hs2 : length s2 ≡ length s = length-words-kept (t .last .1 .0) _ (t .kept .1 .0) ∙ hs in
-    let r = call-room (q .sig) (q .known .2 .bound) ws (a .depth) (a .at) (a .to) (a .sp) (a .log) s cs (q .known .0) (q .known .1) w is (c .before .before .before .before .before .before .before .before .before .before .before .before .before .before .before .before .before .before .if1 .left) s1 cs1 (k .result) (λ es. k .ensures (q .sig) es (q .known .2 .bound) (q .known .1) (q .known .2 .scoped)) (c .before .before .before .before .before .before .before .before .before .if3 .left) room (length s2) hs2 in
+    let r = call-room (q .sig) (q .known .2 .bound) ws (a .depth) (a .at) (a .to) (a .sp) (a .log) s cs (q .known .0) (q .known .1) w is (c .before .before .before .before .before .before .before .before .before .before .before .before .before .before .before .before .before .before .before .if1 .left) s1 cs1 (k .result) (λ es. k .ensures (q .sig) es (q .known .2 .bound) (q .known .1) (q .known .2 .scoped)) (c .before .before .before .before .before .before .before .before .before .if4 .left) room (length s2) hs2 in
     (r .1, r .2)
 
-lower-add-t23 : (t : ℕ) → lower-lts.Need-add-t23 (
+lower-add-t27 : (t : ℕ) → lower-lts.Need-add-t27 (
   get-reads.Asked,
   get-reads.Learnt,
   may-read-reads.Asked,
   may-read-reads.Learnt,
+  lower-bare-reads.Asked,
+  lower-bare-reads.Learnt,
   lower-all-below t,
   lower-all.Post,
   take-reads.Asked,
@@ -554,17 +673,17 @@ lower-add-t23 : (t : ℕ) → lower-lts.Need-add-t23 (
   put-call-reads.Asked,
   put-call-reads.Learnt,
 ) (lower-at t) lower.Post
-lower-add-t23 t c =
-    let a = c .before .before .before .before .before .before .before .before .before .before .before .before .before .before .before .before .before .before .before .before .before .before .before .before .before .before .before .args in
+lower-add-t27 t c =
+    let a = c .before .before .before .before .before .before .before .before .before .before .before .before .before .before .before .before .before .before .before .before .before .before .before .before .before .before .before .before .args in
     let ws = words (a .rule .now) in
     let cs = words (a .counters .now) in
     let s = words (a .scratch .now) in
-    let q = c .before .before .before .before .before .before .before .before .before .before .before .before .before .before .before .before .before .before .before .before .before .before .before .before .before .before .before .pre .1 .0 in
-    let room = c .before .before .before .before .before .before .before .before .before .before .before .before .before .before .before .before .before .before .before .before .before .before .before .before .before .before .before .pre .1 .1 .0 in
-    let sr = c .before .before .before .before .before .before .before .before .before .before .before .before .before .before .before .before .before .before .before .before .before .before .before .before .before .before .before .pre .1 .1 .1 in
-    let w = c .before .before .before .before .before .before .before .before .before .before .before .before .before .before .before .before .before .before .before .before .before .before .before .get .result in
-    let is : w ≡ getD ws (a .at) 0 = c .before .before .before .before .before .before .before .before .before .before .before .before .before .before .before .before .before .before .before .before .before .before .before .get .ensures .is in
-    let f = call-facts (q .sig) ws (a .depth) (a .at) cs w (q .known .0) (q .known .1) is (c .before .before .before .before .before .before .before .before .before .before .before .before .before .before .before .before .before .before .before .before .before .before .if1 .left) in
+    let q = c .before .before .before .before .before .before .before .before .before .before .before .before .before .before .before .before .before .before .before .before .before .before .before .before .before .before .before .before .pre .1 .0 in
+    let room = c .before .before .before .before .before .before .before .before .before .before .before .before .before .before .before .before .before .before .before .before .before .before .before .before .before .before .before .before .pre .1 .1 .0 in
+    let sr = c .before .before .before .before .before .before .before .before .before .before .before .before .before .before .before .before .before .before .before .before .before .before .before .before .before .before .before .before .pre .1 .1 .1 in
+    let w = c .before .before .before .before .before .before .before .before .before .before .before .before .before .before .before .before .before .before .before .before .before .before .before .before .get .result in
+    let is : w ≡ getD ws (a .at) 0 = c .before .before .before .before .before .before .before .before .before .before .before .before .before .before .before .before .before .before .before .before .before .before .before .before .get .ensures .is in
+    let f = call-facts (q .sig) ws (a .depth) (a .at) cs w (q .known .0) (q .known .1) is (c .before .before .before .before .before .before .before .before .before .before .before .before .before .before .before .before .before .before .before .before .before .before .before .if1 .left) in
     let k = c .before .before .before .before .before .before .before .before .before .before .before .before .before .before .before .before .before .before .before .lower-all in
     let s1 = words (k .last .1 .1 .1 .1 .1 .1 .0) in
     let cs1 = words (k .last .1 .1 .1 .1 .1 .0) in
@@ -575,13 +694,15 @@ lower-add-t23 t c =
     let cs2 = words (t .last .0) in
     let hc2 : length cs2 ≡ length cs1 = length-words-kept (t .last .0) _ (t .kept .0) in
     let hs2 : length s2 ≡ length s = length-words-kept (t .last .1 .0) _ (t .kept .1 .0) ∙ hs in
-    omega (arith, call-room (q .sig) (q .known .2 .bound) ws (a .depth) (a .at) (a .to) (a .sp) (a .log) s cs (q .known .0) (q .known .1) w is (c .before .before .before .before .before .before .before .before .before .before .before .before .before .before .before .before .before .before .before .before .before .before .if1 .left) s1 cs1 (k .result) (λ es. k .ensures (q .sig) es (q .known .2 .bound) (q .known .1) (q .known .2 .scoped)) (c .before .before .before .before .before .before .before .before .before .before .before .before .before .if3 .left) room (length s1) hs .0, length-words (a .scratch .now), hs, c .before .before .before .before .before .before .before .before .before .before .before .before .before .before .before .before .before .before .before .before .before .before .before .before .before .before .before .good)
+    omega (arith, call-room (q .sig) (q .known .2 .bound) ws (a .depth) (a .at) (a .to) (a .sp) (a .log) s cs (q .known .0) (q .known .1) w is (c .before .before .before .before .before .before .before .before .before .before .before .before .before .before .before .before .before .before .before .before .before .before .before .if1 .left) s1 cs1 (k .result) (λ es. k .ensures (q .sig) es (q .known .2 .bound) (q .known .1) (q .known .2 .scoped)) (c .before .before .before .before .before .before .before .before .before .before .before .before .before .if4 .left) room (length s1) hs .0, length-words (a .scratch .now), hs, c .before .before .before .before .before .before .before .before .before .before .before .before .before .before .before .before .before .before .before .before .before .before .before .before .before .before .before .before .good)
 
-lower-same-length-7 : (t : ℕ) → lower-lts.Need-same-length-7 (
+lower-same-length-9 : (t : ℕ) → lower-lts.Need-same-length-9 (
   get-reads.Asked,
   get-reads.Learnt,
   may-read-reads.Asked,
   may-read-reads.Learnt,
+  lower-bare-reads.Asked,
+  lower-bare-reads.Learnt,
   lower-all-below t,
   lower-all.Post,
   take-reads.Asked,
@@ -589,13 +710,15 @@ lower-same-length-7 : (t : ℕ) → lower-lts.Need-same-length-7 (
   put-call-reads.Asked,
   put-call-reads.Learnt,
 ) (lower-at t) lower.Post
-lower-same-length-7 t c = c .before .before .before .before .before .before .before .before .before .before .take .kept .0 ∙ c .before .before .before .before .before .before .before .before .before .before .before .before .before .before .before .before .before .before .before .lower-all .kept .1 .1 .1 .1 .1 .0
+lower-same-length-9 t c = c .before .before .before .before .before .before .before .before .before .before .take .kept .0 ∙ c .before .before .before .before .before .before .before .before .before .before .before .before .before .before .before .before .before .before .before .lower-all .kept .1 .1 .1 .1 .1 .0
 
-lower-same-length-8 : (t : ℕ) → lower-lts.Need-same-length-8 (
+lower-same-length-10 : (t : ℕ) → lower-lts.Need-same-length-10 (
   get-reads.Asked,
   get-reads.Learnt,
   may-read-reads.Asked,
   may-read-reads.Learnt,
+  lower-bare-reads.Asked,
+  lower-bare-reads.Learnt,
   lower-all-below t,
   lower-all.Post,
   take-reads.Asked,
@@ -603,13 +726,15 @@ lower-same-length-8 : (t : ℕ) → lower-lts.Need-same-length-8 (
   put-call-reads.Asked,
   put-call-reads.Learnt,
 ) (lower-at t) lower.Post
-lower-same-length-8 t c = c .before .before .before .put-call .kept .0 ∙ c .before .before .before .before .before .before .before .before .before .before .take .kept .1 .0 ∙ c .before .before .before .before .before .before .before .before .before .before .before .before .before .before .before .before .before .before .before .lower-all .kept .1 .1 .1 .1 .1 .1 .0
+lower-same-length-10 t c = c .before .before .before .put-call .kept .0 ∙ c .before .before .before .before .before .before .before .before .before .before .take .kept .1 .0 ∙ c .before .before .before .before .before .before .before .before .before .before .before .before .before .before .before .before .before .before .before .lower-all .kept .1 .1 .1 .1 .1 .1 .0
 
-lower-returns-5 : (t : ℕ) → lower-lts.Need-returns-5 (
+lower-returns-6 : (t : ℕ) → lower-lts.Need-returns-6 (
   get-reads.Asked,
   get-reads.Learnt,
   may-read-reads.Asked,
   may-read-reads.Learnt,
+  lower-bare-reads.Asked,
+  lower-bare-reads.Learnt,
   lower-all-below t,
   lower-all.Post,
   take-reads.Asked,
@@ -617,17 +742,17 @@ lower-returns-5 : (t : ℕ) → lower-lts.Need-returns-5 (
   put-call-reads.Asked,
   put-call-reads.Learnt,
 ) (lower-at t) lower.Post
-lower-returns-5 t c =
-    let a = c .before .before .before .before .before .before .before .before .before .before .before .before .before .before .before .before .before .before .before .before .before .before .before .before .before .before .before .args in
+lower-returns-6 t c =
+    let a = c .before .before .before .before .before .before .before .before .before .before .before .before .before .before .before .before .before .before .before .before .before .before .before .before .before .before .before .before .args in
     let ws = words (a .rule .now) in
     let cs = words (a .counters .now) in
     let s = words (a .scratch .now) in
-    let q = c .before .before .before .before .before .before .before .before .before .before .before .before .before .before .before .before .before .before .before .before .before .before .before .before .before .before .before .pre .1 .0 in
-    let room = c .before .before .before .before .before .before .before .before .before .before .before .before .before .before .before .before .before .before .before .before .before .before .before .before .before .before .before .pre .1 .1 .0 in
-    let sr = c .before .before .before .before .before .before .before .before .before .before .before .before .before .before .before .before .before .before .before .before .before .before .before .before .before .before .before .pre .1 .1 .1 in
-    let w = c .before .before .before .before .before .before .before .before .before .before .before .before .before .before .before .before .before .before .before .before .before .before .before .get .result in
-    let is : w ≡ getD ws (a .at) 0 = c .before .before .before .before .before .before .before .before .before .before .before .before .before .before .before .before .before .before .before .before .before .before .before .get .ensures .is in
-    let f = call-facts (q .sig) ws (a .depth) (a .at) cs w (q .known .0) (q .known .1) is (c .before .before .before .before .before .before .before .before .before .before .before .before .before .before .before .before .before .before .before .before .before .before .if1 .left) in
+    let q = c .before .before .before .before .before .before .before .before .before .before .before .before .before .before .before .before .before .before .before .before .before .before .before .before .before .before .before .before .pre .1 .0 in
+    let room = c .before .before .before .before .before .before .before .before .before .before .before .before .before .before .before .before .before .before .before .before .before .before .before .before .before .before .before .before .pre .1 .1 .0 in
+    let sr = c .before .before .before .before .before .before .before .before .before .before .before .before .before .before .before .before .before .before .before .before .before .before .before .before .before .before .before .before .pre .1 .1 .1 in
+    let w = c .before .before .before .before .before .before .before .before .before .before .before .before .before .before .before .before .before .before .before .before .before .before .before .before .get .result in
+    let is : w ≡ getD ws (a .at) 0 = c .before .before .before .before .before .before .before .before .before .before .before .before .before .before .before .before .before .before .before .before .before .before .before .before .get .ensures .is in
+    let f = call-facts (q .sig) ws (a .depth) (a .at) cs w (q .known .0) (q .known .1) is (c .before .before .before .before .before .before .before .before .before .before .before .before .before .before .before .before .before .before .before .before .before .before .before .if1 .left) in
     let k = c .before .before .before .before .before .before .before .before .before .before .before .before .before .before .before .before .before .before .before .lower-all in
     let s1 = words (k .last .1 .1 .1 .1 .1 .1 .0) in
     let cs1 = words (k .last .1 .1 .1 .1 .1 .0) in
@@ -638,7 +763,7 @@ lower-returns-5 t c =
     let cs2 = words (t .last .0) in
     let hc2 : length cs2 ≡ length cs1 = length-words-kept (t .last .0) _ (t .kept .0) in
     let hs2 : length s2 ≡ length s = length-words-kept (t .last .1 .0) _ (t .kept .1 .0) ∙ hs in
-    λ sig x bound n sc. done-way sig bound ws (a .depth) (a .at) (a .to) (a .sp) (a .log) s cs x n w is (c .before .before .before .before .before .before .before .before .before .before .before .before .before .before .before .before .before .before .before .before .before .before .if1 .left) s1 cs1 (k .result) (λ es. k .ensures sig es bound n sc) (c .before .before .before .before .before .before .before .before .before .before .before .before .before .if3 .left) room (t .result) s2 cs2 (t .ensures) _ _ (c .before .before .before .before .before .if4 .left) hc2 hs2 (c .before .before .before .put-call .ensures .0) (c .before .before .before .put-call .ensures .1)
+    λ sig x bound n sc. done-way sig bound ws (a .depth) (a .at) (a .to) (a .sp) (a .log) s cs x n w is (c .before .before .before .before .before .before .before .before .before .before .before .before .before .before .before .before .before .before .before .before .before .before .before .if1 .left) s1 cs1 (k .result) (λ es. k .ensures sig es bound n sc) (c .before .before .before .before .before .before .before .before .before .before .before .before .before .if4 .left) room (t .result) s2 cs2 (t .ensures) _ _ (c .before .before .before .before .before .if5 .left) hc2 hs2 (c .before .before .before .put-call .ensures .0) (c .before .before .before .put-call .ensures .1)
 
 abbrev lower-all-Inv-loop : lower-all-lts.InvT-loop
 lower-all-Inv-loop rule at n depth scope counters₀ scratch₀ to sp log left₀ top₀ walk₀ counters scratch left top walk =
@@ -911,6 +1036,8 @@ pub +lower+lower-all-spec : {M : Type 1} → statement M
   get-reads.Learnt,
   may-read-reads.Asked,
   may-read-reads.Learnt,
+  lower-bare-reads.Asked,
+  lower-bare-reads.Learnt,
   lower-all-below t,
   lower-all.Post,
   take-reads.Asked,
@@ -929,23 +1056,27 @@ pub +lower+lower-all-spec : {M : Type 1} → statement M
     (lower-returns-2 t)
     (lower-sub-h t)
     (lower-sub-n t)
+    (lower-lower-bare-requires t)
+    (lower-same-length-3 t)
+    (lower-same-length-4 t)
+    (lower-returns-3 t)
     (lower-add-lower-all t)
     (lower-cast-lower-all t)
     (lower-sub-lower-all t)
     (lower-lower-all-requires t)
-    (lower-same-length-3 t)
-    (lower-same-length-4 t)
-    (lower-returns-3 t)
-    (lower-take-requires t)
     (lower-same-length-5 t)
     (lower-same-length-6 t)
     (lower-returns-4 t)
-    (lower-cast-put-call t)
-    (lower-put-call-requires t)
-    (lower-add-t23 t)
+    (lower-take-requires t)
     (lower-same-length-7 t)
     (lower-same-length-8 t)
-    (lower-returns-5 t))
+    (lower-returns-5 t)
+    (lower-cast-put-call t)
+    (lower-put-call-requires t)
+    (lower-add-t27 t)
+    (lower-same-length-9 t)
+    (lower-same-length-10 t)
+    (lower-returns-6 t))
     λ t. lower-all-lts.spec
     (lower-below t, lower.Post, put-reads.Asked, put-reads.Learnt)
     (lower-all-at t)
