@@ -1,6 +1,7 @@
 pub mod Slices
 pub mod Fronts
 pub mod Ends
+pub mod Lent
 pub mod FreeVars
 pub mod Emitting
 pub mod SettleGood

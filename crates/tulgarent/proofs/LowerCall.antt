@@ -1,10 +1,10 @@
 -- What `tulgarent_lower` answers and leaves, by how far it came. Assumes nothing.
-use Prim.Native.Nat.{ℕ, _/_, _%_, _≤_, _<_}
+use Prim.Native.Nat.{ℕ, _*_, _/_, _%_, _≤_, _<_}
 use native.Mathlib.Omega.{arith}
 use mathlib.Core.Path.{_≡_, refl, sym, _∙_, ap, subst}
 use mathlib.Core.Bool.{Bool, true, false}
 use mathlib.Core.List.{List, [], _∷_}
-use lib.ListN.{length, getD}
+use lib.ListN.{length, getD, take}
 use lib.Dec.{leb, eqb}
 use borrow.Author.Tests.{leb-true, eqb-true}
 use Rattle.octets.specs.Words.{words, bytesOf}
@@ -28,6 +28,7 @@ use Rattle.tulgarent.specs.Lower.{WrittenUnder, LowerAsks, LoweredTo, Lo
 use Rattle.tulgarent.proofs.Fronts.{sign-known}
 use Rattle.tulgarent.proofs.WrittenFronts.{fits, after, front-some}
 use Rattle.tulgarent.proofs.Ends.{ends-short, ends-written}
+use Rattle.tulgarent.proofs.Lent.{front-words}
 
 -- ---- the definition, behind the tests in front
 
@@ -166,8 +167,21 @@ module _ (sb rb cb ob : List ℕ) (sc : ℕ) where
                 short = way .short;
               }
 
-          pub asks-lower : (room : ℕ) → room ≡ sc / 4 → LowerAsks (words sb) (words rb) g (words cb) room
-          asks-lower room e = record { sig = passed .0; rule = way .rule; under = under; counters = way .many; scratch = omega (arith, way .enough) }
+          pub rule-short : length (words rb) ≤ maxWritten
+          rule-short = way .short
+
+          -- the scratch has a front of 32 words for each word of the rule
+          pub lent-fits : {cut : ℕ} → cut ≤ 128 * length (words rb) → cut ≤ sc
+          lent-fits h = omega (arith, way .enough, way .short)
+
+          pub asks-lower : (tb : List ℕ) {cut : ℕ} → cut ≤ length tb → 128 * length (words rb) ≤ cut → LowerAsks (words sb) (words rb) g (words cb) (length (words (take cut tb)))
+          asks-lower tb {cut} fits h = record {
+            sig = passed .0;
+            rule = way .rule;
+            under = under;
+            counters = way .many;
+            scratch = omega (arith, front-words cut tb fits);
+          }
 
           module _ (w : Lowered) (m d : List ℕ)
               (did : (s : Sig) (r : Rule) → WrittenUnder (words sb) (words rb) g s r → LowersTo s (toCoreRule s r (words cb)) (words cb) (words d) ob m w)

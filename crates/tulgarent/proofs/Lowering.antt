@@ -103,6 +103,10 @@ module _ (gs ws : List ℕ) (g : Signature) (cs : List ℕ) (room : ℕ) (a : Lo
           let e : length (wordsOf atomWords (body-of .0 .atoms)) ≡ length (wordsOf atomWords (known .0 .body)) = ap (λ (xs : List Atom). length (wordsOf atomWords xs)) (body-of .2) in
           omega (arith, w, e, known .2 .body, rule-size (a .sig) ws (a .rule) (a .under .written))
 
+      -- the body has few words
+      few-words : 0 + k .body < 0x1000_0000
+      few-words = omega (arith, small, a .under .short)
+
       body-at : BodyAt (known .0 .body) m1 0 (k .body)
       body-at = record { fits = encodable; size = known .2 .body; at = known .2 .bodyThere }
 

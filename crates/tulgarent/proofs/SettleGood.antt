@@ -10,7 +10,7 @@ use Rattle.octets.specs.Words.{Got}
 use Rattle.octets.specs.Regions.{splice, part, At}
 use Rattle.octets.proofs.Places.{at-splice, at-left, at-right}
 use Rattle.octets.proofs.Splice.{part-all, length-splice}
-use Rattle.rules.specs.Words.{limit12, scratchWords, headerBase, headerWord, isHeaderWord, factsOf, actionsOf}
+use Rattle.rules.specs.Words.{limit12, headerBase, headerWord, isHeaderWord, factsOf, actionsOf}
 use Rattle.rules.specs.Refusals.{ok, unfit}
 use Rattle.rules.specs.Signature.{Sig}
 use Rattle.rules.specs.Written.{readWord, readRow}
@@ -115,7 +115,7 @@ module _ (ws : List ℕ) (g : Signature) (s : Sig) (f : FlatRule) (u : FlatUnder
       actions-at : At actionsThere ws (r .at)
       actions-at = at-right atomsThere (r .at) behind atoms-end
 
-      module _ (l : List ℕ) (enough : scratchWords ≤ length l) where
+      module _ (l : List ℕ) (enough : 16 * length ws ≤ length l) where
         pub copy-asks : (0 + (r .at - 1) ≤ length l) × (1 + (r .at - 1) ≤ length ws)
         copy-asks = (omega (arith, atoms-end, size, u .short), omega (arith, atoms-end, size))
 
@@ -134,6 +134,10 @@ module _ (ws : List ℕ) (g : Signature) (s : Sig) (f : FlatRule) (u : FlatUnder
             size = omega (arith, atoms-end);
             at = subst (λ (k : List ℕ). At atomsThere k 0) (sym copied-atoms) (at-splice l 0 atomsThere room);
           }
+
+          -- the body has few words
+          few-words : 0 + (r .at - 1) < 0x1000_0000
+          few-words = omega (arith, atoms-end, size, u .short)
 
           pub asks-room : SettleAsks m 0 (r .at - 1)
           asks-room =

@@ -1,10 +1,10 @@
 -- What `tulgarent_settle` answers and leaves, by how far it came. Assumes nothing.
-use Prim.Native.Nat.{ℕ, _/_, _%_, _≤_, _<_}
+use Prim.Native.Nat.{ℕ, _*_, _/_, _%_, _≤_, _<_}
 use native.Mathlib.Omega.{arith}
 use mathlib.Core.Path.{_≡_, refl, sym, _∙_, ap, subst}
 use mathlib.Core.Bool.{Bool, true, false, _&&_}
 use mathlib.Core.List.{List, [], _∷_}
-use lib.ListN.{length, getD}
+use lib.ListN.{length, getD, take}
 use lib.Dec.{leb, eqb}
 use borrow.Author.Tests.{eqb-true, leb-true}
 use Rattle.octets.specs.Words.{words}
@@ -28,6 +28,7 @@ use Rattle.tulgarent.specs.Fronts.{flatFront}
 use Rattle.tulgarent.specs.Settle.{FlatUnder, SomeFlat, EndedWith}
 use Rattle.tulgarent.proofs.Fronts.{sign-known, front-some}
 use Rattle.tulgarent.proofs.Ends.{ends-short, ends-written}
+use Rattle.tulgarent.proofs.Lent.{front-words}
 
 -- what is to be written
 abbrev result : Sig → FlatRule → Result
@@ -160,8 +161,15 @@ module _ (sb rb ob tb : List ℕ) where
           pub some-flat : SomeFlat (words rb) g
           some-flat = record { sig = passed .0; rule = way .rule; under = under }
 
-          pub enough-scratch : scratchWords ≤ length (words tb)
-          enough-scratch = omega (arith, way .enough, length-words tb)
+          pub rule-short : length (words rb) ≤ maxFlat
+          rule-short = way .short
+
+          -- the scratch has a front of 16 words for each word of the rule
+          pub lent-fits : {cut : ℕ} → cut ≤ 64 * length (words rb) → cut ≤ length tb
+          lent-fits h = omega (arith, way .enough, way .short)
+
+          pub enough-scratch : {cut : ℕ} → cut ≤ length tb → 64 * length (words rb) ≤ cut → 16 * length (words rb) ≤ length (words (take cut tb))
+          enough-scratch {cut} fits h = omega (arith, front-words cut tb fits)
 
           module _ (e : Ended) (m : List ℕ) (ends : (s : Sig) (f : FlatRule) → FlatUnder (words rb) g s f → EndedWith s f e ob m) where
             abbrev written : Result

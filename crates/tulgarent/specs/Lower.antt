@@ -1,10 +1,10 @@
 -- 01, "Turned back" and "Around it": what lowering behind the tests asks and gives, by the definition's result. Assumes nothing: these are definitions.
-use Prim.Native.Nat.{ℕ, _≤_, _<_}
+use Prim.Native.Nat.{ℕ, _*_, _≤_, _<_}
 use mathlib.Core.Path.{_≡_}
 use mathlib.Core.List.{List, _++_}
 use lib.ListN.{length}
 use Rattle.octets.specs.Words.{words}
-use Rattle.rules.specs.Words.{maxWritten, scratchWords}
+use Rattle.rules.specs.Words.{maxWritten}
 use Rattle.rules.specs.Refusals.{Res, ok, refuse}
 use Rattle.rules.specs.Signature.{Sig, heads, readSignature}
 use Rattle.rules.specs.Written.{Rule, readWritten}
@@ -24,13 +24,13 @@ pub record WrittenUnder (gs ws : List ℕ) (sign : Signature) (s : Sig) (r : Rul
   pub written : readWritten s ws ≡ ok r
   pub short : length ws ≤ maxWritten
 
--- there are such, a counter for each head, and scratch
+-- there are such, a counter for each head, and scratch: 32 words for each word of the rule
 pub record LowerAsks (gs ws : List ℕ) (sign : Signature) (cs : List ℕ) (room : ℕ) : Type 0 where
   pub sig : Sig
   pub rule : Rule
   pub under : WrittenUnder gs ws sign sig rule
   pub counters : heads sig ≤ length cs
-  pub scratch : scratchWords ≤ room
+  pub scratch : 32 * length ws ≤ room
 
 -- a refusal: its number and place; counters, words, and output, bytes, are as they were
 pub record TurnedBack (number place : ℕ) (cs cs′ l l′ : List ℕ) (r : Lowered) : Type 0 where

@@ -16,7 +16,7 @@ ghost use Rattle.rules.specs.Written.{Rule};
 ghost use Rattle.rules.specs.ToCoreActions.{toCoreRule};
 ghost use Rattle.rules.specs.Calls.{wholeWords, lower};
 ghost use Rattle.records.specs.Signature.{signOf};
-ghost use Rattle.tulgarent.specs.Answers.{GivesBoth};
+ghost use Rattle.tulgarent.specs.Answers.{GivesBoth, scratchWritten, Beyond};
 ghost use Rattle.tulgarent.specs.Fronts.{writtenFront};
 ghost use Rattle.tulgarent.specs.Lower.{WrittenUnder, LowerAsks, LowersTo};
 
@@ -27,6 +27,9 @@ const FEW_COUNTERS: u32 = 2;
 const HEAD: usize = 24;
 
 const LOG: usize = 30;
+
+// The bytes of scratch that are lent on for each word of the rule: 32 words.
+const LENT: usize = 128;
 
 // What lowering comes to. Where `refused` is 0: the words that the result needs, its replacements and passes. Else `refused` is the refusal's number and
 // `place` its place.
@@ -126,7 +129,7 @@ fn both_whole(a: &[u8], b: &[u8]) -> bool
     crate::whole(b)
 }
 
-// A written rule, lowered and settled.
+// A written rule, lowered and settled. The scratch is cut before it is lent on, so that nothing behind the cut can be read or written.
 #[no_mangle]
 pub extern "C" fn tulgarent_lower(
     signature: &[u8],
@@ -136,6 +139,7 @@ pub extern "C" fn tulgarent_lower(
     scratch: &mut [u8],
 ) -> Answer
     ensures { λ r. ⌜ GivesBoth (lower (now (signature .entry)) (now (rule .entry)) (now (counters .entry)) (now (output .entry)) (length (now (scratch .entry)))) r (now (output .exit)) (now (counters .exit)) ⌝ }
+    ensures { λ _. ⌜ Beyond (scratchWritten (now (rule .entry))) (now (scratch .entry)) (now (scratch .exit)) ⌝ }
 {
     let rest = both_whole(output, scratch);
     if !crate::all_whole(signature, rule, counters, rest) {
@@ -147,7 +151,15 @@ pub extern "C" fn tulgarent_lower(
     if sign.refused != 0 {
         return crate::refused(sign.refused, sign.place);
     }
-    let lowered = lower_good(signature, rule, sign, counters, output, scratch);
+    let n = octets::count(rule);
+    let lowered = lower_good(
+        signature,
+        rule,
+        sign,
+        counters,
+        output,
+        &mut scratch[..LENT * n],
+    );
     if lowered.refused != 0 {
         return crate::refused(lowered.refused, lowered.place);
     }

@@ -7,20 +7,22 @@ use crate::flat_front;
 use crate::refused;
 use crate::whole;
 use records::signature::Signature;
-ghost use Prim.Native.Nat.{_≤_};
+ghost use Prim.Native.Nat.{_*_, _≤_};
 ghost use lib.ListN.{length};
 ghost use Rattle.octets.specs.Words.{words};
-ghost use Rattle.rules.specs.Words.{scratchWords};
 ghost use Rattle.rules.specs.Signature.{Sig};
 ghost use Rattle.rules.specs.Flat.{FlatRule};
 ghost use Rattle.rules.specs.Calls.{settled};
-ghost use Rattle.tulgarent.specs.Answers.{Gives};
+ghost use Rattle.tulgarent.specs.Answers.{Gives, scratchFlat, Beyond};
 ghost use Rattle.tulgarent.specs.Settle.{FlatUnder, SomeFlat, EndedWith};
 
 // The first word of a header, and its facts' unit.
 const HEADER: u32 = 0x0400_0000;
 
 const LIMIT_12: u32 = 4096;
+
+// The bytes of scratch that are lent on for each word of the rule: 16 words.
+const LENT: usize = 64;
 
 // How settling ended: the words that the settled rule takes, and the two counts that are answered.
 pub struct Ended {
@@ -32,7 +34,7 @@ pub struct Ended {
 // Settles a rule that is known to be good. The body is settled at the front of the scratch; the actions are copied from where they stand.
 fn settle_good(rule: &[u8], sign: Signature, output: &mut [u8], scratch: &mut [u8]) -> Ended
     requires { ⌜ SomeFlat (words (now rule)) sign ⌝ }
-    requires { ⌜ scratchWords ≤ length (words (now scratch)) ⌝ }
+    requires { ⌜ 16 * length (words (now rule)) ≤ length (words (now scratch)) ⌝ }
     ensures { λ r. ⌜ ((s : Sig) (f : FlatRule) → FlatUnder (words (now (rule .entry))) sign s f → EndedWith s f r (now (output .entry)) (now (output .exit))) ⌝ }
 {
     let counts = octets::get(rule, 0) - HEADER;
@@ -63,7 +65,8 @@ fn settle_good(rule: &[u8], sign: Signature, output: &mut [u8], scratch: &mut [u
     }
 }
 
-// A flat rule settled: variables that must be equal are one, and no two atoms of a head have the same inputs.
+// A flat rule settled: variables that must be equal are one, and no two atoms of a head have the same inputs. The scratch is cut before it is lent on, so
+// that nothing behind the cut can be read or written.
 #[no_mangle]
 pub extern "C" fn tulgarent_settle(
     signature: &[u8],
@@ -72,6 +75,7 @@ pub extern "C" fn tulgarent_settle(
     scratch: &mut [u8],
 ) -> Answer
     ensures { λ r. ⌜ Gives (settled (now (signature .entry)) (now (rule .entry)) (now (output .entry)) (length (now (scratch .entry)))) r (now (output .exit)) ⌝ }
+    ensures { λ _. ⌜ Beyond (scratchFlat (now (rule .entry))) (now (scratch .entry)) (now (scratch .exit)) ⌝ }
 {
     let rest = whole(scratch);
     if !all_whole(signature, rule, output, rest) {
@@ -81,7 +85,8 @@ pub extern "C" fn tulgarent_settle(
     if sign.refused != 0 {
         return refused(sign.refused, sign.place);
     }
-    let ended = settle_good(rule, sign, output, scratch);
+    let n = octets::count(rule);
+    let ended = settle_good(rule, sign, output, &mut scratch[..LENT * n]);
     if octets::count(output) < ended.needed {
         return refused(SHORT_OUTPUT, ended.needed);
     }

@@ -61,7 +61,7 @@ returns c =
     let asks = c .before .before .before .before .before .before .before .before .before .before .before .before .before .before .before .before .before .before .pre in
     let least = c .before .before .before .before .before .before .before .before .before .before .before .before .least in
     let signature = c .before .before .before .before .before .before .before .before .before .before .before .before .before .signature-length in
-    tells-all (a .given .now) (a .count) (signature .result) (least .result) (a .counters .now) (a .output .now) (length (a .scratch .now)) (asks .0 .0) (asks .0 .1) (signature .ensures) (least .ensures) (asks .1 .0) (asks .1 .1 .0) (asks .1 .1 .1) (c .before .before .before .before .before .before .tulgarent-lower .ensures)
+    tells-all (a .given .now) (a .count) (signature .result) (least .result) (a .counters .now) (a .output .now) (length (a .scratch .now)) (asks .0 .0) (asks .0 .1) (signature .ensures) (least .ensures) (asks .1 .0) (asks .1 .1 .0) (asks .1 .1 .1) (c .before .before .before .before .before .before .tulgarent-lower .ensures .0)
 
 pub lower-words-spec : {M : Type 1} → statement M
 lower-words-spec =
