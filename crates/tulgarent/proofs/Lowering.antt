@@ -104,14 +104,14 @@ module _ (gs ws : List ℕ) (g : Signature) (cs : List ℕ) (room : ℕ) (a : Lo
           omega (arith, w, e, known .2 .body, rule-size (a .sig) ws (a .rule) (a .under .written))
 
       -- the body has few words
-      few-words : 0 + k .body < 0x1000_0000
+      few-words : 0 + 2 * k .body < 0x1000_0000
       few-words = omega (arith, small, a .under .short)
 
       body-at : BodyAt (known .0 .body) m1 0 (k .body)
       body-at = record { fits = encodable; size = known .2 .body; at = known .2 .bodyThere }
 
       pub asks-settle : length m1 ≡ room → SettleAsks m1 0 (k .body)
-      asks-settle e = settle-asks (known .0 .body) m1 0 (k .body) body-at (omega (arith, small, a .under .short, a .scratch)) (omega (arith, small, a .under .short))
+      asks-settle e = settle-asks (known .0 .body) m1 0 (k .body) body-at (omega (arith, small, a .under .short, a .scratch)) few-words
 
       module _ (n : ℕ) (en : n ≡ length ws) (m2 : List ℕ) (b : Settled)
           (settles : (s : Sig) (xs : List Atom) → Agrees (termsOf g) s → BodyAt xs m1 0 (k .body) → SettledAt s xs m1 m2 0 (k .body) b) where

@@ -136,13 +136,13 @@ module _ (ws : List ℕ) (g : Signature) (s : Sig) (f : FlatRule) (u : FlatUnder
           }
 
           -- the body has few words
-          few-words : 0 + (r .at - 1) < 0x1000_0000
+          few-words : 0 + 2 * (r .at - 1) < 0x1000_0000
           few-words = omega (arith, atoms-end, size, u .short)
 
           pub asks-room : SettleAsks m 0 (r .at - 1)
           asks-room =
               let e = ap (λ (k : List ℕ). length k) copied-atoms ∙ length-splice l 0 atomsThere room in
-              settle-asks (f .atoms) m 0 (r .at - 1) body-at (omega (arith, e, atoms-end, size, u .short)) (omega (arith, e, atoms-end, size, u .short))
+              settle-asks (f .atoms) m 0 (r .at - 1) body-at (omega (arith, e, atoms-end, size, u .short)) few-words
 
           pub good-sign : GoodSign (record { globals = g .globals; equals = g .equals })
           good-sign = record {
