@@ -1,4 +1,4 @@
-//! Rounds on both sides by turns. Each part of a round is timed by itself, and a side's time is the sum of the least times
+//! Rounds on both sides by turns, some rounds a turn. Each part of a round is timed by itself, and a side's time is the sum of the least times
 //! of its parts: a part is short enough to run undisturbed now and then, where a whole round would not.
 
 use crate::clock::time;
@@ -10,7 +10,9 @@ use tulgarent::Lowered;
 
 /// Rounds go on for so long for each family, both sides together.
 const LONG_ENOUGH: Duration = Duration::from_secs(3);
-/// At least so many rounds.
+/// At least so many turns.
+const TURNS: usize = 2;
+/// A side runs so many rounds in its turn, so that what it runs again and again it finds as it left it.
 const ROUNDS: usize = 20;
 /// A part has about so many words, and at least one rule.
 const PART_WORDS: usize = 1_000;
@@ -75,15 +77,19 @@ fn least_rounds(family: &Family, ours: &mut Ours, rust: &mut Rust) -> Least {
     let parts = parts(family);
     let mut ours_least = vec![Duration::MAX; parts.len()];
     let mut rust_least = ours_least.clone();
-    let (begun, mut rounds) = (Instant::now(), 0);
-    while rounds < ROUNDS || begun.elapsed() < LONG_ENOUGH {
-        rust.clear();
-        time_parts(&parts, &mut rust_least, |part| rust.part(part));
-        ours.clear();
-        time_parts(&parts, &mut ours_least, |part| ours.part(part));
-        rounds += 1;
+    let (begun, mut turns) = (Instant::now(), 0);
+    while turns < TURNS || begun.elapsed() < LONG_ENOUGH {
+        for _ in 0..ROUNDS {
+            rust.clear();
+            time_parts(&parts, &mut rust_least, |part| rust.part(part));
+        }
+        for _ in 0..ROUNDS {
+            ours.clear();
+            time_parts(&parts, &mut ours_least, |part| ours.part(part));
+        }
+        turns += 1;
     }
-    Least { ours: ours_least.iter().sum(), rust: rust_least.iter().sum(), rounds }
+    Least { ours: ours_least.iter().sum(), rust: rust_least.iter().sum(), rounds: turns * ROUNDS }
 }
 
 /// The family's rules in parts, all alike in size but the last.
