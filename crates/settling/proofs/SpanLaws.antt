@@ -5,7 +5,6 @@ use mathlib.Core.List.{List, [], _++_, _∷_, map}
 use mathlib.Core.Logic.{_⊎_, inl, inr}
 use mathlib.Core.Path.{_∙_, _≡_, ap, refl, subst, sym}
 use Prim.Native.Nat.{ℕ, suc, zero, _*_, _+_, _-_, _<_, _≤_}
-use native.Mathlib.Nat.{mul-lt-mul-of-pos-right}
 use native.Mathlib.Omega.{arith}
 use lib.Dec.{eqb, ltb}
 use lib.ListN.{drop, getD, getD-replicate, length, length-map, length-replicate, length-set, replicate, set, take, take-append-drop}
@@ -14,18 +13,9 @@ use borrow.Author.Tests.{eq-eqb, eqb-false, eqb-true, le-ltb, lt-ltb, ltb-false,
 use Rattle.octets.proofs.Places.{getD-only-before, only-splice, only-then, only-wide}
 use Rattle.octets.proofs.Splice.{getD-part, getD-splice-after, getD-splice-before, getD-splice-inside, length-part, splice-is, splice-nil}
 use Rattle.octets.specs.Regions.{Only, part, splice, swap}
-use Rattle.settling.specs.Buckets.{bucketOf, mix}
+use Rattle.settling.specs.Buckets.{bucketOf}
 use Rattle.settling.specs.Spans.{Built, InSpan, Replacing, SpanAsks, Spanned, WidenAsks, greater, lesser, widened}
-
--- ---- a bucket is one of those there are
-
-mix-word : (k w : ℕ) → mix k w < 0x1_0000_0000
-unfolding mix
-mix-word k w = omega arith
-
-bucket-in : (count w : ℕ) → 0 < count → bucketOf count w < count
-unfolding bucketOf
-bucket-in count w h = omega (arith, mul-lt-mul-of-pos-right (mix-word w 0) h)
+use Rattle.settling.proofs.BucketLaws.{bucket-in}
 
 -- ---- the lesser and the greater of two
 
