@@ -1,5 +1,6 @@
 //! Written rules that lean on one thing each.
 
+use super::written::{broad, cascade, links};
 use super::{C, F, FIRST, Family, G, GLOBAL, largest, lowered};
 use crate::records::joined;
 use crate::words::{EQUALITY, EXPRESSION, LET, NAMES, SET, UNION, action, call, literal, name};
@@ -23,6 +24,9 @@ pub fn all() -> Vec<Family> {
         lets_of_calls(),
         reads(),
         union_as_set(),
+        lowered("merges, a tenth", "the cascade in 51 words", 64, cascade(51)),
+        lowered("chain, a tenth", "12 times x = f(y)", 64, links(12)),
+        lowered("wide, a tenth", "one call of 49 names", 128, broad(49)),
     ]
 }
 
@@ -79,7 +83,7 @@ fn bare() -> Family {
     lowered("bare names", "511 names as facts: no atoms", 32, joined(&facts, &[]))
 }
 
-/// Calls that are not alike, though the settling crate (`keys.rt`) has one key for all of them.
+/// Calls that are not alike, though the settling crate (`buckets.rt`) has one key for all of them.
 fn one_key() -> Family {
     let third = |first: u32| {
         (0..=0xffff).find_map(|second: u32| {

@@ -21,7 +21,11 @@ pub fn large() -> Family {
 /// Equalities x = f(..f(w)) in pairs over one beginning, calls as deep as they may be. A pass finds one pair of calls
 /// alike, which makes the next pair alike.
 pub fn merges() -> Family {
-    let longest = WRITTEN_WORDS - 1;
+    lowered("merges", "a long cascade: one merge a pass", 1, cascade(WRITTEN_WORDS - 1))
+}
+
+/// A rule of at most so many words.
+pub fn cascade(longest: usize) -> Vec<u32> {
     let (mut facts, mut used) = (Vec::new(), 1);
     let (mut ends, mut names) = ([name(FIRST); 2], (FIRST + 1..).map(name));
     while used + 10 <= longest {
@@ -32,7 +36,7 @@ pub fn merges() -> Family {
             used += depth + 3;
         }
     }
-    lowered("merges", "a long cascade: one merge a pass", 1, joined(&facts, &[]))
+    joined(&facts, &[])
 }
 
 pub fn equalities() -> Family {
@@ -41,8 +45,12 @@ pub fn equalities() -> Family {
 }
 
 pub fn chain() -> Family {
-    let facts: Vec<Vec<u32>> = (FIRST..).map(|n| vec![EQUALITY, name(n), call(F, 1), name(n + 1)]).take(127).collect();
-    lowered("chain", "x = f(y), y = f(z), ..", 8, joined(&facts, &[]))
+    lowered("chain", "x = f(y), y = f(z), ..", 8, links(127))
+}
+
+pub fn links(count: usize) -> Vec<u32> {
+    let fact = |n| vec![EQUALITY, name(n), call(F, 1), name(n + 1)];
+    joined(&(FIRST..).map(fact).take(count).collect::<Vec<_>>(), &[])
 }
 
 pub fn same() -> Family {
@@ -50,8 +58,12 @@ pub fn same() -> Family {
 }
 
 pub fn wide() -> Family {
-    let fact = std::iter::once(call(F, 510)).chain((FIRST..).map(name).take(510)).collect();
-    lowered("wide", "one call of 510 names, nothing to settle", 32, joined(&[fact], &[]))
+    lowered("wide", "one call of 510 names, nothing to settle", 32, broad(510))
+}
+
+pub fn broad(names: usize) -> Vec<u32> {
+    let fact = std::iter::once(call(F, names)).chain((FIRST..).map(name).take(names)).collect();
+    joined(&[fact], &[])
 }
 
 /// Actions of every code by turns, reading the global and literals, as many as fit.
