@@ -2,4 +2,5 @@
 pub mod WrittenWalk
 pub mod WrittenEnds
 pub mod WrittenLaws
+pub mod WrittenRun
 pub mod WrittenWhole

@@ -5,14 +5,14 @@ use words::LITERAL_BASE;
 use words::NAME_BASE;
 use words::Word;
 ghost use mathlib.Core.Path.{_≡_};
-ghost use Prim.Native.Nat.{_+_, _<_};
-ghost use mathlib.Core.Bool.{_&&_};
+ghost use Prim.Native.Nat.{_+_, _≤_, _<_};
+ghost use mathlib.Core.Bool.{true, _&&_};
 ghost use lib.ListN.{length, getD};
 ghost use lib.Dec.{leb, ltb};
 ghost use Rattle.octets.specs.Words.{words};
-ghost use Rattle.rules.specs.Words.{maxDepth, aLet, aSet, aPanic};
+ghost use Rattle.rules.specs.Words.{limit16, maxDepth, aLet, aSet, aPanic};
 ghost use Rattle.rules.specs.Written.{shapeAt, readMany, readExpr, readTarget, readEqual, readFact, readCode, readAction, readRow, readWritten};
-ghost use Rattle.records.specs.Written.{withHeads, walkOf, wholeOf, wordAt, startOf, leafWord, leafAt, readRule};
+ghost use Rattle.records.specs.Written.{withHeads, walk, walkOf, wholeOf, wordAt, startOf, leafWord, leafAt, readRule};
 
 // The refusals' numbers.
 pub const UNFIT: u32 = 5;
@@ -21,6 +21,9 @@ pub const TOO_DEEP: u32 = 6;
 
 // An expression holds expressions up to 32 deep, itself counted.
 pub const MAX_DEPTH: u32 = 32;
+
+// With so few calls in all, the innermost of them is no deeper than it may be, and neither is what stands in it.
+const MOST_CALLS: u32 = MAX_DEPTH - 1;
 
 // The first words that are no name and no literal any more.
 const NAME_END: u32 = NAME_BASE + LIMIT_12;
@@ -31,6 +34,12 @@ const LITERAL_END: u32 = LITERAL_BASE + LIMIT_16;
 pub struct Walk {
     pub refused: u32,
     pub at: usize,
+}
+
+// What a pass over words without recursion answers: the index after what it read, if it read the whole.
+struct Scanned {
+    whole: bool,
+    at: usize,
 }
 
 // How an expression begins: with a word that takes so many arguments. Any other word begins none.
@@ -141,18 +150,58 @@ pub fn arguments(rule: &[u8], heads: u32, at: usize, count: u32, depth: u32) -> 
     }
 }
 
-// An expression that stands in no other. Here, too, a name or a literal takes no call.
+// Where `count` expressions end that stand in no other, found in one pass over their words: a word settles one expression, and a call asks for its
+// arguments besides. Expressions with fewer calls than 32 in all are nowhere too deep, so nothing is kept of where a call ends. With more calls, or a
+// word that does not fit, nothing is said.
+fn scan(rule: &[u8], heads: u32, at: usize, count: u32) -> Scanned
+    requires { ⌜ count ≤ limit16 ⌝ }
+    ensures { λ r. ⌜ (r .whole ≡ true → walk 0 (r .at) ≡ walkOf (readMany (readExpr (withHeads heads) (words (now (rule .entry))) maxDepth) count at)) ⌝ }
+{
+    let mut next = at;
+    let mut left = count;
+    let mut calls = 0;
+    while 0 < left {
+        if leaf_at(rule, next) {
+            left -= 1;
+            next += 1;
+        } else {
+            let Start::Takes(more) = start_at(rule, heads, next) else {
+                return Scanned { whole: false, at };
+            };
+            if calls == MOST_CALLS {
+                return Scanned { whole: false, at };
+            }
+            calls += 1;
+            left = left - 1 + more;
+            next += 1;
+        }
+    }
+    Scanned {
+        whole: true,
+        at: next,
+    }
+}
+
+// `count` expressions that stand in no other. Those that the scan does not settle are read one inside the other, which tells a refusal and its place.
+fn all_outermost(rule: &[u8], heads: u32, at: usize, count: u32) -> Walk
+    requires { ⌜ count ≤ limit16 ⌝ }
+    ensures { λ r. ⌜ r ≡ walkOf (readMany (readExpr (withHeads heads) (words (now (rule .entry))) maxDepth) count at) ⌝ }
+{
+    let read = scan(rule, heads, at, count);
+    if read.whole {
+        return Walk {
+            refused: 0,
+            at: read.at,
+        };
+    }
+    arguments(rule, heads, at, count, MAX_DEPTH)
+}
+
+// An expression that stands in no other.
 fn outermost(rule: &[u8], heads: u32, at: usize) -> Walk
     ensures { λ r. ⌜ r ≡ walkOf (readExpr (withHeads heads) (words (now (rule .entry))) maxDepth at) ⌝ }
 {
-    if leaf_at(rule, at) {
-        let next = at + 1;
-        return Walk {
-            refused: 0,
-            at: next,
-        };
-    }
-    expression(rule, heads, at, MAX_DEPTH)
+    all_outermost(rule, heads, at, 1)
 }
 
 // The two expressions behind the word at an index, which is an equality's or a union's.
@@ -173,7 +222,7 @@ pub fn fact(rule: &[u8], heads: u32, at: usize) -> Walk
 {
     let w = word_at(rule, at);
     let Word::Equality(count) = w else {
-        return expression(rule, heads, at, MAX_DEPTH);
+        return outermost(rule, heads, at);
     };
     if count == 2 {
         pair(rule, heads, at)
@@ -211,7 +260,7 @@ pub fn target(rule: &[u8], heads: u32, at: usize) -> Walk
         return Walk { refused: UNFIT, at };
     };
     if head < heads {
-        arguments(rule, heads, at + 1, count, MAX_DEPTH)
+        all_outermost(rule, heads, at + 1, count)
     } else {
         Walk { refused: UNFIT, at }
     }
@@ -278,7 +327,7 @@ pub fn action(rule: &[u8], heads: u32, at: usize) -> Walk
         3..=4 => target(rule, heads, at + 1),
         5 => pair(rule, heads, at),
         6 => panic_action(rule, heads, at),
-        8 => expression(rule, heads, at + 1, MAX_DEPTH),
+        8 => outermost(rule, heads, at + 1),
         _ => Walk { refused: UNFIT, at },
     }
 }

@@ -44,14 +44,14 @@ panic-action-requires c κs =
     let a = c .before .before .before .before .before .before .args in
     action-inside (withHeads (a .heads)) (words (now (a .rule))) (a .at) _ (sym (c .before .before .before .before .word-at .ensures) ∙ c .before .before .w .given .1)
 
-add-expression : tie.Need-add-expression
-add-expression c =
+add-outermost : tie.Need-add-outermost
+add-outermost c =
     let a = c .before .before .before .before .before .before .args in
     let h = action-inside (withHeads (a .heads)) (words (now (a .rule))) (a .at) _ (sym (c .before .before .before .before .word-at .ensures) ∙ c .before .before .w .given .1) in
     omega (arith, length-words (now (a .rule)))
 
-expression-requires : tie.Need-expression-requires
-expression-requires c κs = search needs
+outermost-requires : tie.Need-outermost-requires
+outermost-requires c κs = search needs
 
 add-target : tie.Need-add-target
 add-target c =
@@ -85,7 +85,7 @@ returns-5 c =
 returns-6 : tie.Need-returns-6
 returns-6 c =
     let a = c .before .before .before .before .before .before .before .args in
-    expression-goes (withHeads (a .heads)) (words (now (a .rule))) (a .at) _ (sym (c .before .before .before .before .before .word-at .ensures) ∙ c .before .before .before .w .given .1) (c .before .match2 .keys5) (c .expression .ensures)
+    expression-goes (withHeads (a .heads)) (words (now (a .rule))) (a .at) _ (sym (c .before .before .before .before .before .word-at .ensures) ∙ c .before .before .before .w .given .1) (c .before .match2 .keys5) (c .outermost .ensures)
 
 returns-7 : tie.Need-returns-7
 returns-7 c =
@@ -116,8 +116,8 @@ action-spec =
     set-action-requires
     pair-requires
     panic-action-requires
-    add-expression
-    expression-requires
+    add-outermost
+    outermost-requires
     add-target
     target-requires
     returns-2

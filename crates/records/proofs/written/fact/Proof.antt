@@ -16,13 +16,13 @@ word-at-requires c κs = search needs
 enum-known-w : tie.Need-enum-known-w
 enum-known-w c = search needs
 
-expression-requires : tie.Need-expression-requires
-expression-requires c κs = search needs
+outermost-requires : tie.Need-outermost-requires
+outermost-requires c κs = search needs
 
 returns : tie.Need-returns
 returns c =
     let a = c .before .before .before .before .args in
-    c .expression .ensures ∙ fact-holds (withHeads (a .heads)) (words (now (a .rule))) (a .at) (rw (c .before .before .word-at .ensures) at (other-kind 4 (c .before .before .word-at .result) tt (c .before .match .keys2)))
+    c .outermost .ensures ∙ fact-holds (withHeads (a .heads)) (words (now (a .rule))) (a .at) (rw (c .before .before .word-at .ensures) at (other-kind 4 (c .before .before .word-at .result) tt (c .before .match .keys2)))
 
 pair-requires : tie.Need-pair-requires
 pair-requires c κs =
@@ -45,7 +45,7 @@ fact-spec =
     (tie.spec
     word-at-requires
     enum-known-w
-    expression-requires
+    outermost-requires
     returns
     pair-requires
     returns-2

@@ -6,6 +6,7 @@ use denote.Ref.{now}
 use Rattle.octets.specs.Words.{words}
 use Rattle.octets.proofs.Words.{length-words}
 use Rattle.words.proofs.Tags.{other-kind}
+use Rattle.words.proofs.WordLaws.{head-numbers}
 use Rattle.records.proofs.WrittenLaws.{word-there, target-other, target-high, target-goes}
 use borrow.Author.Needs.{needs}
 use Rattle.records.proofs.written.target.Statement.{statement}
@@ -22,19 +23,22 @@ returns c =
     let a = c .before .before .before .args in
     target-other (a .heads) (words (now (a .rule))) (a .at) (rw (c .before .word-at .ensures) at (other-kind 3 (c .before .word-at .result) tt (c .match .keys2)))
 
-add-arguments : tie.Need-add-arguments
-add-arguments c =
+add-all-outermost : tie.Need-add-all-outermost
+add-all-outermost c =
     let a = c .before .before .before .before .before .before .args in
     let t = word-there (words (now (a .rule))) (a .at) (sym (c .before .before .before .before .word-at .ensures) ∙ c .before .before .w .given .1) (lit< tt) in
     omega (arith, length-words (now (a .rule)))
 
-arguments-requires : tie.Need-arguments-requires
-arguments-requires c κs = search needs
+all-outermost-requires : tie.Need-all-outermost-requires
+all-outermost-requires c κs =
+    let a = c .before .before .before .before .before .before .args in
+    let t = word-there (words (now (a .rule))) (a .at) (sym (c .before .before .before .before .word-at .ensures) ∙ c .before .before .w .given .1) (lit< tt) in
+    omega (arith, head-numbers _ _ _ (t .1) .1)
 
 returns-2 : tie.Need-returns-2
 returns-2 c =
     let a = c .before .before .before .before .before .before .before .args in
-    c .arguments .ensures ∙ target-goes (a .heads) (words (now (a .rule))) (a .at) _ _ (sym (c .before .before .before .before .before .word-at .ensures) ∙ c .before .before .before .w .given .1) (c .before .if1 .taken)
+    c .all-outermost .ensures ∙ target-goes (a .heads) (words (now (a .rule))) (a .at) _ _ (sym (c .before .before .before .before .before .word-at .ensures) ∙ c .before .before .before .w .given .1) (c .before .if1 .taken)
 
 returns-3 : tie.Need-returns-3
 returns-3 c =
@@ -48,7 +52,7 @@ target-spec =
     word-at-requires
     enum-known-w
     returns
-    add-arguments
-    arguments-requires
+    add-all-outermost
+    all-outermost-requires
     returns-2
     returns-3)
