@@ -43,7 +43,7 @@ module _ (s : Sig) (ws : List ℕ) where
   went-args : (d n p : ℕ) → Went ws p 0 (readMany (readExpr s ws d) n p)
   went-args d n p = went-many (readExpr s ws d) (went-expr d) n p
 
-  pub went-target : (p : ℕ) → Went ws p 1 (readTarget s ws p)
+  went-target : (p : ℕ) → Went ws p 1 (readTarget s ws p)
   went-target p =
       went-then ws p 1 0 (readWord ws (isHeadWord (heads s)) p) _ (went-word ws (isHeadWord (heads s)) p)
       (λ w. went-made ws (w .at) 0 (readMany (readExpr s ws maxDepth) (countOf (w .value)) (w .at)) _ (went-args maxDepth (countOf (w .value)) (w .at)))

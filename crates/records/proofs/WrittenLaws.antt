@@ -3,27 +3,28 @@ use mathlib.Core.Path.{_≡_, refl, sym, ap, _∙_}
 use mathlib.Core.Bool.{Bool, true, false, _&&_, _||_, cond}
 use mathlib.Core.Logic.{⊎-elim}
 use mathlib.Core.List.{List}
-use Prim.Native.Nat.{ℕ, zero, suc, _+_, _-_, _≤_, _<_, min}
+use Prim.Native.Nat.{ℕ, zero, suc, _+_, _-_, _*_, _%_, _≤_, _<_, min}
 use native.Mathlib.Nat.{min-le-left, min-le-right, le-min, eq-or-lt-of-le}
 use native.Mathlib.Numerals.{add-one}
 use native.Mathlib.Omega.{arith}
 use lib.ListN.{length, getD, length-replicate}
 use lib.Dec.{ltb, eqb, lit<}
 use borrow.Author.Tests.{ltb-true, ltb-false, lt-ltb, le-ltb, ne-eqb, eq-eqb}
-use Rattle.rules.specs.Words.{limit12, maxDepth, equalityWord, actionWord, isNameWord, isLiteralWord, isHeadWord, isEqualityWord, isHeaderWord, countOf, Code, aLet, aSet, aDelete, aSubsume, aUnion, aPanic, anExpression, noCode, codeOf}
+use Rattle.rules.specs.Words.{limit12, limit16, maxDepth, nameBase, literalBase, headBase, equalityWord, actionWord, isNameWord, isLiteralWord, isHeadWord, isEqualityWord, isHeaderWord, headOf, countOf, Code, aLet, aSet, aDelete, aSubsume, aUnion, aPanic, anExpression, noCode, codeOf}
 use Rattle.rules.specs.Refusals.{Res, ok, refuse, _>>=_, demand, unfit, tooDeep}
 use Rattle.rules.specs.Signature.{Sig, heads}
 use Rattle.rules.specs.Written.{Expr, Read, Shape, isLeaf, isCall, isBad, shape, shapeAt, readWord, readRow, readMany, readShape, readExpr, readTarget, readEqual, readFact, readCode, codeAt, readAction, Fact, equal, union′, Rule}
 use Rattle.words.specs.Word.{wordOf, kind}
 use Rattle.words.specs.declared.Word.{Word}
 use Rattle.words.specs.declared.Word.the-variants.{Fresh, Name, Literal, Head, Equality, Header, Action, Signature, Unfit}
+use Rattle.words.proofs.Ranges.{within-true, false-below, heads-below}
 use Rattle.words.proofs.WordLaws.{name-kind, literal-kind, header-kind, equality-kind, said, head-numbers, head-below, no-head, header-numbers, no-action}
 use Rattle.records.specs.declared.written.Walk.{Walk}
 use Rattle.records.specs.declared.written.Start.{Start}
 use Rattle.records.specs.declared.written.Start.the-variants.{Takes, Other}
 use Rattle.records.specs.Written.{withHeads, walk, walkOf, wordAt, startOf, leafWord, leafAt, readRule}
-use Rattle.records.proofs.WrittenWalk.{stops, made, both}
-use Rattle.records.proofs.WrittenEnds.{went-expr, went-target, went-facts}
+use Rattle.records.proofs.WrittenWalk.{stops, made, both, then-made, moved, just-one, last-one}
+use Rattle.records.proofs.WrittenEnds.{went-facts}
 
 -- ---- the word at an index
 
@@ -139,7 +140,22 @@ with-below H h small = rw (heads-with H) (go (ltb h H) refl)
 pub head-with : (H w h n : ℕ) → wordOf w ≡ Head h n → isHeadWord (heads (withHeads H)) w ≡ ltb h H
 head-with H w h n says = head-below w h n says (heads (withHeads H)) ∙ with-below H h (said w says (lit< tt) .1 .0)
 
--- ---- how an expression begins, by its first word
+-- ---- how an expression begins, by the range of its first word
+
+pub leaf-there : (ws : List ℕ) (p : ℕ) {w : ℕ} → p < length ws → w ≡ getD ws p 0 → leafWord w ≡ true → leafAt ws p ≡ true
+leaf-there ws p here is h = rw (lt-ltb p (length ws) here) (rw is at h)
+
+-- below the literals, only a kind 3 word begins an expression
+pub call-starts : (H : ℕ) (ws : List ℕ) (p : ℕ) {w : ℕ} → p < length ws → w ≡ getD ws p 0 → w < literalBase → isHeadWord H w ≡ true
+    → startOf (shapeAt (withHeads H) ws p) (getD ws p 0) ≡ Takes (w % limit16)
+call-starts H ws p {w} here is low h =
+    let b = within-true headBase (H * limit16) w h in
+    let head : isHeadWord (heads (withHeads H)) w ≡ true =
+    heads-below headBase (heads (withHeads H)) w (b .0) ∙ with-below H (headOf w) (omega arith) ∙ sym (heads-below headBase H w (b .0)) ∙ h in
+    let count : countOf w ≡ w % limit16 = omega arith in
+    rw (← is) (simp (lt-ltb p (length ws) here, false-below nameBase limit12 w (omega arith), false-below literalBase limit16 w low, head, count))
+
+-- ---- how it begins, by what that word says
 
 abbrev pub startWith : ℕ → Word → Start
 startWith H (Fresh h n) = Other
@@ -183,12 +199,17 @@ start-at ws H p = go (ltb p (length ws))
 -- ---- facts
 
 module _ (s : Sig) (ws : List ℕ) (p : ℕ) where
-  -- two expressions behind a word
-  pub pair-stops : {w : Walk} → w ≡ walkOf (readExpr s ws maxDepth (p + 1)) → ¬ (w .refused ≡ 0) → w ≡ walkOf (readEqual s ws p)
-  pair-stops e h = stops (readExpr s ws maxDepth (suc p)) _ (rw (add-one p) at e) h
-
-  pub pair-goes : {w z : Walk} → w ≡ walkOf (readExpr s ws maxDepth (p + 1)) → w .refused ≡ 0 → z ≡ walkOf (readExpr s ws maxDepth (w .at)) → z ≡ walkOf (readEqual s ws p)
-  pair-goes e h g = both ws (suc p) 1 (readExpr s ws maxDepth (suc p)) (readExpr s ws maxDepth) _ (went-expr s ws maxDepth (suc p)) (rw (add-one p) at e) h g
+  -- two expressions behind a word, as a row of two
+  pub pair-goes : walkOf (readMany (readExpr s ws maxDepth) 2 (p + 1)) ≡ walkOf (readEqual s ws p)
+  pair-goes =
+      rw (add-one p)
+      (then-made (readExpr s ws maxDepth (suc p)) (readMany (readExpr s ws maxDepth) 1) _
+      ∙ go (readExpr s ws maxDepth (suc p))
+      ∙ sym (then-made (readExpr s ws maxDepth (suc p)) (readExpr s ws maxDepth) _))
+    where
+      go : (x : Res (Read Expr)) → walkOf (_>>=_ x (λ a. readMany (readExpr s ws maxDepth) 1 (a .at))) ≡ walkOf (_>>=_ x (λ a. readExpr s ws maxDepth (a .at)))
+      go (ok a) = just-one (readExpr s ws maxDepth) (a .at)
+      go (refuse n q) = refl
 
   -- any word but 08000002 begins an expression, or is unfit
   fact-by : (b : Bool) → ltb p (length ws) && eqb (getD ws p 0) equalityWord ≡ b
@@ -256,9 +277,6 @@ module _ (s : Sig) (ws : List ℕ) (p q : ℕ) where
   pub set-stops : {w : Walk} → w ≡ walkOf (readTarget s ws q) → ¬ (w .refused ≡ 0) → w ≡ walkOf (readCode s ws p aSet q)
   set-stops e h = stops (readTarget s ws q) _ e h
 
-  pub set-goes : {w z : Walk} → w ≡ walkOf (readTarget s ws q) → w .refused ≡ 0 → z ≡ walkOf (readExpr s ws maxDepth (w .at)) → z ≡ walkOf (readCode s ws p aSet q)
-  set-goes e h g = both ws q 1 (readTarget s ws q) (readExpr s ws maxDepth) _ (went-target s ws q) e h g
-
   pub panic-other : eqb (kind (wordAt ws q)) 2 ≡ false → walk unfit q ≡ walkOf (readCode s ws p aPanic q)
   panic-other h = rw (word-unfit ws q isLiteralWord (λ l. literal-kind (getD ws q 0) ∙ word-other ws q 2 h l))
 
@@ -266,6 +284,17 @@ module _ (s : Sig) (ws : List ℕ) (p q : ℕ) where
   panic-goes n says =
       let t = word-there ws q says (lit< tt) in
       rw (word-fits ws q isLiteralWord (t .0) (literal-kind (getD ws q 0) ∙ rw (t .1) refl), add-one q) refl
+
+-- a set's arguments and its value, as a row
+pub set-goes : (H : ℕ) (ws : List ℕ) (p q h n : ℕ) → wordAt ws q ≡ Head h n → h < H
+    → walkOf (readMany (readExpr (withHeads H) ws maxDepth) (n + 1) (q + 1)) ≡ walkOf (readCode (withHeads H) ws p aSet q)
+set-goes H ws p q h n says low =
+    let t = word-there ws q says (lit< tt) in
+    let count = head-numbers (getD ws q 0) h n (t .1) .1 in
+    rw (word-fits ws q (isHeadWord (heads (withHeads H))) (t .0) (head-with H (getD ws q 0) h n (t .1) ∙ lt-ltb h H low), add-one n, add-one q, ← count)
+    (sym (last-one (readExpr (withHeads H) ws maxDepth) (countOf (getD ws q 0)) (suc q))
+    ∙ sym (moved (readMany (readExpr (withHeads H) ws maxDepth) (countOf (getD ws q 0)) (suc q)) _ (readExpr (withHeads H) ws maxDepth))
+    ∙ sym (then-made (_>>=_ (readMany (readExpr (withHeads H) ws maxDepth) (countOf (getD ws q 0)) (suc q)) _) (readExpr (withHeads H) ws maxDepth) _))
 
 -- ---- an action, by its code
 

@@ -1,16 +1,12 @@
 -- Expressions read word by word, without recursion: as long as they have fewer calls than they may be deep, they end where the walk ends. Assumes nothing.
-use mathlib.Core.Path.{_≡_, refl, sym, ap, _∙_}
-use mathlib.Core.Bool.{Bool, true, false}
+use mathlib.Core.Path.{_≡_, refl, _∙_}
 use mathlib.Core.List.{List}
 use Prim.Native.Nat.{ℕ, zero, suc, _+_, _-_, _≤_, _<_}
 use native.Mathlib.Omega.{arith}
-use lib.ListN.{length, getD}
-use Rattle.rules.specs.Words.{limit16, countOf}
-use Rattle.rules.specs.Refusals.{Res, ok, refuse, _>>=_}
+use lib.ListN.{getD}
 use Rattle.rules.specs.Signature.{Sig}
-use Rattle.rules.specs.Written.{Expr, Exprs, _then_, Read, Reader, Shape, isLeaf, isCall, isBad, shapeAt, readMany, readExpr}
-use Rattle.records.specs.declared.written.Walk.{Walk}
-use Rattle.records.specs.declared.written.Start.the-variants.{Takes, Other}
+use Rattle.rules.specs.Written.{shapeAt, readMany, readExpr}
+use Rattle.records.specs.declared.written.Start.the-variants.{Takes}
 use Rattle.records.specs.Written.{walk, walkOf, startOf}
 use Rattle.records.proofs.WrittenWalk.{one-less}
 use Rattle.records.proofs.WrittenEnds.{exprs}
@@ -111,20 +107,3 @@ module _ (s : Sig) (ws : List ℕ) (count at : ℕ) where
   pub goes-end : (left next calls d : ℕ) → left ≡ 0 → calls < d → Goes s ws count at left next calls → walk 0 next ≡ walkOf (readMany (readExpr s ws d) count at)
   goes-end zero next calls d z l g = run-read d (omega arith) (g next 0 done)
   goes-end (suc n) next calls d z l g = absurd (omega arith)
-
--- a call takes fewer than 65,536 arguments
-pub takes-few : (s : Sig) (ws : List ℕ) (p m : ℕ) → startOf (shapeAt s ws p) (getD ws p 0) ≡ Takes m → m < limit16
-takes-few s ws p m = go (shapeAt s ws p)
-  where
-    go : (sh : Shape) → startOf sh (getD ws p 0) ≡ Takes m → m < limit16
-    go isLeaf h = let none : m ≡ 0 = cc in omega arith
-    go isCall h = let same : m ≡ countOf (getD ws p 0) = cc in omega arith
-    go isBad h = let z : _≡_ {A = ℕ} 0 1 = cc in absurd (omega arith)
-
--- one expression
-pub just-one : (one : Reader Expr) (p : ℕ) → walkOf (readMany one 1 p) ≡ walkOf (one p)
-just-one one p = go (one p)
-  where
-    go : (x : Res (Read Expr)) → walkOf (_>>=_ x (λ e. _>>=_ (readMany one 0 (e .at)) (λ es. ok (record { value = e .value then es .value; at = es .at })))) ≡ walkOf x
-    go (ok r) = refl
-    go (refuse n q) = refl

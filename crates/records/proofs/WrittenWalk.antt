@@ -8,7 +8,7 @@ use lib.ListN.{length, getD}
 use lib.Dec.{ltb}
 use borrow.Author.Tests.{ltb-true}
 use Rattle.rules.specs.Refusals.{Res, ok, refuse, _>>=_, demand, unfit}
-use Rattle.rules.specs.Written.{Expr, Read, Reader, readWord, readMany, readRow}
+use Rattle.rules.specs.Written.{Expr, Exprs, _then_, Read, Reader, readWord, readMany, readRow}
 use Rattle.records.specs.declared.written.Walk.{Walk}
 use Rattle.records.specs.Written.{walk, walkOf}
 
@@ -90,7 +90,7 @@ pub record Several {A B : Type 0} (ws : List ℕ) (one : Reader A) (several : �
   pub none : (p : ℕ) → walkOf (several 0 p) ≡ walk 0 p
   pub more : (n p : ℕ) → walkOf (several (suc n) p) ≡ walkOf (_>>=_ (one p) (λ x. several n (x .at)))
 
-then-made : {A B C : Type 0} (x : Res (Read A)) (one : Reader B) (f : Read A → Read B → C)
+pub then-made : {A B C : Type 0} (x : Res (Read A)) (one : Reader B) (f : Read A → Read B → C)
     → walkOf (_>>=_ x (λ a. _>>=_ (one (a .at)) (λ b. ok (record { value = f a b; at = b .at })))) ≡ walkOf (_>>=_ x (λ a. one (a .at)))
 then-made (ok a) one f = made (one (a .at)) (f a)
 then-made (refuse n p) one f = refl
@@ -116,3 +116,30 @@ module _ {A B : Type 0} {ws : List ℕ} {one : Reader A} {several : ℕ → Read
     where
       down : suc n - 1 ≡ n
       down = omega arith
+
+-- ---- a row of expressions, and one more
+
+-- what is read behind a value begins where that was made
+pub moved : {A B C : Type 0} (x : Res (Read A)) (f : Read A → B) (one : Reader C)
+    → walkOf (_>>=_ {A = Read B} (_>>=_ x (λ a. ok (record { value = f a; at = a .at }))) (λ b. one (b .at))) ≡ walkOf (_>>=_ x (λ a. one (a .at)))
+moved (ok a) f one = refl
+moved (refuse n p) f one = refl
+
+-- one expression
+pub just-one : (one : Reader Expr) (p : ℕ) → walkOf (readMany one 1 p) ≡ walkOf (one p)
+just-one one p = go (one p)
+  where
+    go : (x : Res (Read Expr)) → walkOf (_>>=_ x (λ e. _>>=_ (readMany one 0 (e .at)) (λ es. ok (record { value = e .value then es .value; at = es .at })))) ≡ walkOf x
+    go (ok r) = refl
+    go (refuse n q) = refl
+
+-- what is read behind a row is one more of it
+pub last-one : (one : Reader Expr) (n p : ℕ) → walkOf (_>>=_ (readMany one n p) (λ es. one (es .at))) ≡ walkOf (readMany one (suc n) p)
+last-one one zero p = sym (just-one one p)
+last-one one (suc n) p = go (one p) (λ q. last-one one n q)
+  where
+    go : (x : Res (Read Expr)) → ((q : ℕ) → walkOf (_>>=_ (readMany one n q) (λ es. one (es .at))) ≡ walkOf (readMany one (suc n) q))
+        → walkOf (_>>=_ {A = Read Exprs} (_>>=_ x (λ e. _>>=_ (readMany one n (e .at)) (λ es. ok (record { value = e .value then es .value; at = es .at })))) (λ es. one (es .at)))
+        ≡ walkOf (_>>=_ x (λ e. _>>=_ (readMany one (suc n) (e .at)) (λ es. ok (record { value = e .value then es .value; at = es .at }))))
+    go (ok e) h = moved (readMany one n (e .at)) _ one ∙ h (e .at) ∙ sym (made (readMany one (suc n) (e .at)) _)
+    go (refuse m q) h = refl

@@ -1,4 +1,5 @@
 // Reads written rules: whether their words fit, which is refusal 5, and how deep their expressions are, which is refusal 6.
+use words::HEAD_BASE;
 use words::LIMIT_12;
 use words::LIMIT_16;
 use words::LITERAL_BASE;
@@ -10,7 +11,7 @@ ghost use mathlib.Core.Bool.{true, _&&_};
 ghost use lib.ListN.{length, getD};
 ghost use lib.Dec.{leb, ltb};
 ghost use Rattle.octets.specs.Words.{words};
-ghost use Rattle.rules.specs.Words.{limit16, maxDepth, aLet, aSet, aPanic};
+ghost use Rattle.rules.specs.Words.{limit16, maxDepth, isHeadWord, aLet, aSet, aPanic};
 ghost use Rattle.rules.specs.Written.{shapeAt, readMany, readExpr, readTarget, readEqual, readFact, readCode, readAction, readRow, readWritten};
 ghost use Rattle.records.specs.Written.{withHeads, walk, walkOf, wholeOf, wordAt, startOf, leafWord, leafAt, readRule};
 
@@ -92,6 +93,13 @@ fn is_leaf(w: u32) -> bool
     between(w, NAME_BASE, NAME_END) | between(w, LITERAL_BASE, LITERAL_END)
 }
 
+// A kind 3 word of a head below `heads`, which begins a call. By the range and the head, as `is_leaf`.
+fn is_call(w: u32, heads: u32) -> bool
+    ensures { λ r. ⌜ r ≡ isHeadWord heads w ⌝ }
+{
+    HEAD_BASE <= w && (w - HEAD_BASE) / LIMIT_16 < heads
+}
+
 // A name or a literal stands at an index.
 fn leaf_at(rule: &[u8], at: usize) -> bool
     ensures { λ r. ⌜ r ≡ leafAt (words (now (rule .entry))) at ⌝ }
@@ -152,32 +160,37 @@ pub fn arguments(rule: &[u8], heads: u32, at: usize, count: u32, depth: u32) -> 
 
 // Where `count` expressions end that stand in no other, found in one pass over their words: a word settles one expression, and a call asks for its
 // arguments besides. Expressions with fewer calls than 32 in all are nowhere too deep, so nothing is kept of where a call ends. With more calls, or a
-// word that does not fit, nothing is said.
+// word that does not fit, nothing is said. The loop has one branch on a word, which tells a call from a leaf; whether the word fits only goes into a
+// flag. Where fewer words are left than expressions asked for, they do not all fit: to stop there also bounds how many are asked for.
 fn scan(rule: &[u8], heads: u32, at: usize, count: u32) -> Scanned
     requires { ⌜ count ≤ limit16 ⌝ }
     ensures { λ r. ⌜ (r .whole ≡ true → walk 0 (r .at) ≡ walkOf (readMany (readExpr (withHeads heads) (words (now (rule .entry))) maxDepth) count at)) ⌝ }
 {
+    let end = octets::count(rule);
+    if end < at {
+        return Scanned { whole: false, at };
+    }
     let mut next = at;
-    let mut left = count;
+    let mut left = count as usize;
     let mut calls = 0;
+    let mut good = true;
     while 0 < left {
-        if leaf_at(rule, next) {
-            left -= 1;
-            next += 1;
-        } else {
-            let Start::Takes(more) = start_at(rule, heads, next) else {
-                return Scanned { whole: false, at };
-            };
-            if calls == MOST_CALLS {
-                return Scanned { whole: false, at };
-            }
+        if end - next < left {
+            return Scanned { whole: false, at };
+        }
+        let w = octets::get(rule, next);
+        left -= 1;
+        next += 1;
+        if w < LITERAL_BASE {
+            good = good & is_call(w, heads);
+            left += (w % LIMIT_16) as usize;
             calls += 1;
-            left = left - 1 + more;
-            next += 1;
+        } else {
+            good = good & is_leaf(w);
         }
     }
     Scanned {
-        whole: true,
+        whole: good & (calls <= MOST_CALLS as usize),
         at: next,
     }
 }
@@ -204,16 +217,12 @@ fn outermost(rule: &[u8], heads: u32, at: usize) -> Walk
     all_outermost(rule, heads, at, 1)
 }
 
-// The two expressions behind the word at an index, which is an equality's or a union's.
+// The two expressions behind the word at an index, which is an equality's or a union's, in one scan.
 fn pair(rule: &[u8], heads: u32, at: usize) -> Walk
     requires { ⌜ at < length (words (now rule)) ⌝ }
     ensures { λ r. ⌜ r ≡ walkOf (readEqual (withHeads heads) (words (now (rule .entry))) at) ⌝ }
 {
-    let left = outermost(rule, heads, at + 1);
-    if left.refused != 0 {
-        return left;
-    }
-    outermost(rule, heads, left.at)
+    all_outermost(rule, heads, at + 1, 2)
 }
 
 // A fact: an expression, or an equality of two.
@@ -282,16 +291,27 @@ fn let_action(rule: &[u8], heads: u32, at: usize) -> Walk
     outermost(rule, heads, name + 1)
 }
 
-// A set: a kind 3 word, its arguments and a value.
+// A set: a kind 3 word, its arguments and a value. The value is read with the arguments, as one more of them.
 fn set_action(rule: &[u8], heads: u32, at: usize) -> Walk
     requires { ⌜ at < length (words (now rule)) ⌝ }
     ensures { λ r. ⌜ r ≡ walkOf (readCode (withHeads heads) (words (now (rule .entry))) at aSet (at + 1)) ⌝ }
 {
-    let inputs = target(rule, heads, at + 1);
-    if inputs.refused != 0 {
-        return inputs;
+    let set = at + 1;
+    let w = word_at(rule, set);
+    let Word::Head(head, count) = w else {
+        return Walk {
+            refused: UNFIT,
+            at: set,
+        };
+    };
+    if head < heads {
+        all_outermost(rule, heads, set + 1, count + 1)
+    } else {
+        Walk {
+            refused: UNFIT,
+            at: set,
+        }
     }
-    outermost(rule, heads, inputs.at)
 }
 
 // A panic: a literal.

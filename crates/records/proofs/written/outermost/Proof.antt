@@ -5,7 +5,7 @@ use Rattle.octets.specs.Words.{words}
 use Rattle.rules.specs.Words.{maxDepth}
 use Rattle.rules.specs.Written.{readExpr}
 use Rattle.records.specs.Written.{withHeads}
-use Rattle.records.proofs.WrittenRun.{just-one}
+use Rattle.records.proofs.WrittenWalk.{just-one}
 use borrow.Author.Needs.{needs}
 use Rattle.records.proofs.written.outermost.Statement.{statement}
 use Rattle.records.proofs.written.outermost.Tie as tie
