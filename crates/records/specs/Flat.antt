@@ -2,7 +2,7 @@
 -- The readings themselves are those of `rules`.
 -- Assumes nothing: these are definitions.
 use Prim.Native.Nat.{ℕ}
-use mathlib.Core.Bool.{_&&_, cond}
+use mathlib.Core.Bool.{Bool, _&&_, cond}
 use mathlib.Core.List.{List}
 use lib.ListN.{length, getD}
 use lib.Dec.{ltb, leb}
@@ -10,10 +10,14 @@ use Rattle.rules.specs.Words.{equalityBase, literalBase, isHeaderWord, factsOf,
 use Rattle.rules.specs.Refusals.{ok, _>>=_}
 use Rattle.rules.specs.Signature.{Sig}
 use Rattle.rules.specs.Written.{Reader, readWord, readRow}
-use Rattle.rules.specs.Flat.{CoreAction, FlatRule, readAtom, readCoreCode, readCoreAction}
+use Rattle.rules.specs.Flat.{CoreAction, FlatRule, isTerm, readAtom, readCoreCode, readCoreAction}
 use Rattle.words.specs.Atom.{atomOf}
 use Rattle.records.specs.declared.flat.First.{First}
 use Rattle.records.specs.declared.flat.First.the-variants.{Atom, Other}
+
+-- a term stands at an index
+abbrev pub termAt : Sig → List ℕ → ℕ → Bool
+termAt s ws p = ltb p (length ws) && isTerm s (getD ws p 0)
 
 -- how the atom at an index begins: a word of kind 3 or 4 has a head or the equality sign, and a count
 unfoldable pub firstAt : List ℕ → ℕ → First

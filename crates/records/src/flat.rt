@@ -1,18 +1,21 @@
 // Reads flat rules: whether their words fit, which is refusal 5, and whether each atom has the terms it needs, which are refusals 11 and 12.
 use super::written::UNFIT;
 use super::written::Walk;
+use super::written::is_leaf;
 use super::written::word_at;
 use words::Atom;
+use words::FRESH_BASE;
 use words::HeadOrEq;
 use words::LIMIT_12;
+use words::LIMIT_16;
 use words::Word;
 ghost use mathlib.Core.Path.{_≡_};
 ghost use Rattle.octets.specs.Words.{words};
 ghost use Rattle.rules.specs.Words.{isNameWord, isLiteralWord, aLet, aSet, aCall};
 ghost use Rattle.rules.specs.Written.{readWord, readRow};
-ghost use Rattle.rules.specs.Flat.{isTarget, readTerm, readTerms, readAtom, readCoreAction, readFlat};
+ghost use Rattle.rules.specs.Flat.{isTarget, isTerm, readTerm, readTerms, readAtom, readCoreAction, readFlat};
 ghost use Rattle.records.specs.Written.{withHeads, walkOf, wholeOf};
-ghost use Rattle.records.specs.Flat.{firstAt, readBehind, readFlatRule};
+ghost use Rattle.records.specs.Flat.{termAt, firstAt, readBehind, readFlatRule};
 
 // The refusals' numbers.
 pub const NO_TERMS: u32 = 11;
@@ -69,29 +72,57 @@ pub fn target(rule: &[u8], heads: u32, at: usize) -> Walk
     }
 }
 
+// A term's word: a name's or a literal's, or a fresh variable's of a head below H. By ranges, since it is asked of nearly every word of a flat rule
+// and only this answer is wanted.
+fn is_term(w: u32, heads: u32) -> bool
+    ensures { λ r. ⌜ r ≡ isTerm (withHeads heads) w ⌝ }
+{
+    if w < FRESH_BASE {
+        return is_leaf(w);
+    }
+    let head = (w - FRESH_BASE) / LIMIT_16;
+    (head < heads) & (head < LIMIT_12)
+}
+
+// A term stands at an index.
+fn is_term_at(rule: &[u8], heads: u32, at: usize) -> bool
+    ensures { λ r. ⌜ r ≡ termAt (withHeads heads) (words (now (rule .entry))) at ⌝ }
+{
+    if at < octets::count(rule) {
+        is_term(octets::get(rule, at), heads)
+    } else {
+        false
+    }
+}
+
 // A term: what may be bound, or a literal.
 pub fn term(rule: &[u8], heads: u32, at: usize) -> Walk
     ensures { λ r. ⌜ r ≡ walkOf (readTerm (withHeads heads) (words (now (rule .entry))) at) ⌝ }
 {
-    let read = target(rule, heads, at);
-    if read.refused == 0 {
-        return read;
+    if is_term_at(rule, heads, at) {
+        Walk {
+            refused: 0,
+            at: at + 1,
+        }
+    } else {
+        Walk { refused: UNFIT, at }
     }
-    literal(rule, at)
 }
 
-// `count` terms, one after the other.
+// `count` terms, one after the other. Each is one word, so the first that is none is refused where it stands.
 pub fn terms(rule: &[u8], heads: u32, at: usize, count: u32) -> Walk
     ensures { λ r. ⌜ r ≡ walkOf (readRow (readTerm (withHeads heads) (words (now (rule .entry)))) count at) ⌝ }
 {
     let mut next = at;
     let mut left = count;
     while 0 < left {
-        let read = term(rule, heads, next);
-        if read.refused != 0 {
-            return read;
+        if !is_term_at(rule, heads, next) {
+            return Walk {
+                refused: UNFIT,
+                at: next,
+            };
         }
-        next = read.at;
+        next += 1;
         left -= 1;
     }
     Walk {

@@ -87,7 +87,7 @@ fn between(w: u32, low: u32, end: u32) -> bool
 }
 
 // A name's or a literal's word. By ranges, since it is asked of nearly every word of a rule and only this answer is wanted.
-fn is_leaf(w: u32) -> bool
+pub fn is_leaf(w: u32) -> bool
     ensures { λ r. ⌜ r ≡ leafWord w ⌝ }
 {
     between(w, NAME_BASE, NAME_END) | between(w, LITERAL_BASE, LITERAL_END)

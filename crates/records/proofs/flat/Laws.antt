@@ -3,32 +3,32 @@ use mathlib.Core.Path.{_≡_, refl, sym, ap, _∙_}
 use mathlib.Core.Logic.{⊎-elim}
 use mathlib.Core.Bool.{Bool, true, false, _&&_, _||_, cond}
 use mathlib.Core.List.{List, _∷_}
-use Prim.Native.Nat.{ℕ, zero, suc, _+_, _*_, _-_, _≤_, _<_, min}
-use native.Mathlib.Nat.{le-min, eq-or-lt-of-le}
+use Prim.Native.Nat.{ℕ, zero, suc, _+_, _*_, _-_, _/_, _≤_, _<_, min}
+use native.Mathlib.Nat.{min-le-left, min-le-right, le-min, eq-or-lt-of-le}
 use native.Mathlib.Numerals.{add-one}
 use native.Mathlib.Omega.{arith}
 use lib.ListN.{length, getD}
 use lib.Dec.{ltb, leb, eqb, lit<}
-use borrow.Author.Tests.{lt-ltb, le-ltb, le-leb, lt-leb, eq-eqb, ne-eqb, ltb-true, leb-true, leb-false}
-use Rattle.rules.specs.Words.{limit12, limit16, equalityBase, headBase, literalBase, equalityWord, isNameWord, isLiteralWord, isHeadWord, isEqualityWord, headOf, countOf, actionWord, Code, aLet, aSet, aDelete, aSubsume, aUnion, aPanic, aCall, noCode, codeOf}
+use borrow.Author.Tests.{lt-ltb, le-ltb, le-leb, lt-leb, eq-eqb, ne-eqb, ltb-true, ltb-false, leb-true, leb-false}
+use Rattle.rules.specs.Words.{limit12, limit16, freshBase, nameBase, equalityBase, headBase, literalBase, equalityWord, isNameWord, isLiteralWord, isHeadWord, isEqualityWord, headOf, countOf, actionWord, Code, aLet, aSet, aDelete, aSubsume, aUnion, aPanic, aCall, noCode, codeOf}
 use Rattle.rules.specs.Refusals.{Res, ok, refuse, _>>=_, demand, unfit, noTerms, notTwo}
 use Rattle.rules.specs.Signature.{Sig, heads}
 use Rattle.rules.specs.Written.{Read, Reader, readWord, readRow, codeAt}
-use Rattle.rules.specs.Flat.{isNone, isTarget, atomShape, readTerm, readAtomShape, readAtom, readTerms, readCoreCode, readCoreAction}
+use Rattle.rules.specs.Flat.{isNone, isTarget, isTerm, atomShape, readTerm, readAtomShape, readAtom, readTerms, readCoreCode, readCoreAction}
 use Rattle.words.specs.Word.{wordOf, kind}
 use Rattle.words.specs.declared.Word.{Word}
-use Rattle.words.proofs.Ranges.{within-true, true-within, false-above}
+use Rattle.words.proofs.Ranges.{within-true, true-within, false-below, false-above, heads-below}
 use Rattle.words.proofs.WordLaws.{is-head, name-kind, fresh-below, head-numbers, no-head, no-fresh, no-action, said}
 use Rattle.words.specs.Atom.{atomOf, atomWith, headKind}
 use Rattle.words.specs.declared.HeadOrEq.the-variants.{Head, Eq}
 use Rattle.words.specs.declared.Atom.{Atom as Begun}
 use Rattle.words.proofs.AtomLaws.{atom-head, atom-equality}
-use Rattle.records.specs.Flat.{firstAt, readBehind}
+use Rattle.records.specs.Flat.{termAt, firstAt, readBehind}
 use Rattle.records.specs.declared.written.Walk.{Walk}
-use Rattle.records.specs.Written.{withHeads, walk, walkOf, wordAt}
+use Rattle.records.specs.Written.{withHeads, walk, walkOf, wordAt, leafWord}
 use Rattle.records.proofs.WrittenWalk.{Went, stops, made, both, row}
 use Rattle.records.proofs.WrittenWhole.{then-then}
-use Rattle.records.proofs.WrittenLaws.{word-there, word-other, word-fits, word-unfit, heads-with, heads-most, head-with}
+use Rattle.records.proofs.WrittenLaws.{both-true, word-there, word-other, word-fits, word-unfit, heads-with, heads-most, head-with}
 use Rattle.records.proofs.flat.Ends.{went-term, went-target, went-terms}
 use Rattle.words.specs.declared.Word.the-variants as Said
 use Rattle.records.specs.declared.flat.First.the-variants as First
@@ -69,27 +69,38 @@ module _ (H : ℕ) (ws : List ℕ) (p : ℕ) where
         let above : ltb h (heads (withHeads H)) ≡ false = rw (heads-with H) (le-ltb h (min H limit12) high) in
         rw (word-unfit ws p (isTarget (withHeads H)) (λ l. rw (fresh-below (getD ws p 0) h n (t .1) (heads (withHeads H)) ∙ above) (name-kind (getD ws p 0) ∙ rw (t .1) refl)))
 
--- ---- a term is what may be bound, or a literal
+-- ---- a term, by the range of its word
+
+module _ (H w : ℕ) where
+  pub leaf-term : w < freshBase → leafWord w ≡ isTerm (withHeads H) w
+  leaf-term low = simp (false-below freshBase (heads (withHeads H) * limit16) w low)
+
+  pub fresh-term : freshBase ≤ w → ltb ((w - freshBase) / limit16) H && ltb ((w - freshBase) / limit16) limit12 ≡ isTerm (withHeads H) w
+  fresh-term high =
+      rw (heads-below freshBase (heads (withHeads H)) w high, heads-with H, false-above nameBase limit12 w (omega arith), false-above literalBase limit16 w (omega arith))
+      (below-both ((w - freshBase) / limit16) ∙ nothing-else (ltb ((w - freshBase) / limit16) (min H limit12)))
+    where
+      nothing-else : (b : Bool) → b ≡ (b || false) || false
+      nothing-else true = refl
+      nothing-else false = refl
+
+      below-both : (h : ℕ) → ltb h H && ltb h limit12 ≡ ltb h (min H limit12)
+      below-both h = go (ltb h H) refl (ltb h limit12) refl
+        where
+          go : (a : Bool) → ltb h H ≡ a → (b : Bool) → ltb h limit12 ≡ b → a && b ≡ ltb h (min H limit12)
+          go true ea true eb = sym (lt-ltb h (min H limit12) (le-min (ltb-true h H ea) (ltb-true h limit12 eb)))
+          go true ea false eb = let l = ltb-false h limit12 eb in sym (le-ltb h (min H limit12) (omega (arith, min-le-right H limit12)))
+          go false ea b eb = let l = ltb-false h H ea in sym (le-ltb h (min H limit12) (omega (arith, min-le-left H limit12)))
 
 module _ (s : Sig) (ws : List ℕ) (p : ℕ) where
-  abbrev word : Bool → Res (Read ℕ)
-  word b = demand b unfit p (record { value = getD ws p 0; at = suc p })
+  pub term-inside : termAt s ws p ≡ true → p < length ws
+  term-inside h = ltb-true p (length ws) (both-true (ltb p (length ws)) (isTerm s (getD ws p 0)) h .0)
 
-  pub term-target : {w : Walk} → w ≡ walkOf (readWord ws (isTarget s) p) → w .refused ≡ 0 → w ≡ walkOf (readTerm s ws p)
-  term-target {w} = go (ltb p (length ws)) (isTarget s (getD ws p 0)) (isLiteralWord (getD ws p 0))
-    where
-      go : (a t l : Bool) → w ≡ walkOf (word (a && t)) → w .refused ≡ 0 → w ≡ walkOf (word (a && (t || l)))
-      go true true l e h = e
-      go true false l e h = let z : _≡_ {A = ℕ} 0 unfit = sym h ∙ ap (λ (v : Walk). v .refused) e in absurd (omega arith)
-      go false t l e h = e
+  pub term-taken : termAt s ws p ≡ true → walk 0 (p + 1) ≡ walkOf (readTerm s ws p)
+  term-taken h = rw (add-one p, h) refl
 
-  pub term-literal : {w : Walk} → w ≡ walkOf (readWord ws (isTarget s) p) → ¬ (w .refused ≡ 0) → walkOf (readWord ws isLiteralWord p) ≡ walkOf (readTerm s ws p)
-  term-literal {w} = go (ltb p (length ws)) (isTarget s (getD ws p 0)) (isLiteralWord (getD ws p 0))
-    where
-      go : (a t l : Bool) → w ≡ walkOf (word (a && t)) → ¬ (w .refused ≡ 0) → walkOf (word (a && l)) ≡ walkOf (word (a && (t || l)))
-      go true true l e h = absurd (h (ap (λ (v : Walk). v .refused) e))
-      go true false l e h = refl
-      go false t l e h = refl
+  pub term-refused : termAt s ws p ≡ false → walk unfit p ≡ walkOf (readTerm s ws p)
+  term-refused h = rw h refl
 
 -- ---- rows
 

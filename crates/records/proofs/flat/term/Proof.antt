@@ -1,28 +1,33 @@
--- `flat::term` meets its contract: what may be bound, or else a literal. Assumes nothing.
-use mathlib.Core.Path.{_∙_}
+-- `flat::term` meets its contract, by the word there: a term's or not. Assumes nothing.
+use mathlib.Core.Path.{sym, _∙_}
+use native.Mathlib.Omega.{arith}
 use denote.Ref.{now}
 use Rattle.octets.specs.Words.{words}
+use Rattle.octets.proofs.Words.{length-words}
 use Rattle.records.specs.Written.{withHeads}
-use Rattle.records.proofs.flat.Laws.{term-target, term-literal}
+use Rattle.records.proofs.flat.Laws.{term-inside, term-taken, term-refused}
 use borrow.Author.Needs.{needs}
 use Rattle.records.proofs.flat.term.Statement.{statement}
 use Rattle.records.proofs.flat.term.Tie as tie
 
-target-requires : tie.Need-target-requires
-target-requires c κs = search needs
+is-term-at-requires : tie.Need-is-term-at-requires
+is-term-at-requires c κs = search needs
+
+add-t6 : tie.Need-add-t6
+add-t6 c =
+    let a = c .before .before .before .args in
+    let here = term-inside (withHeads (a .heads)) (words (now (a .rule))) (a .at) (sym (c .before .is-term-at .ensures) ∙ c .if1 .taken) in
+    omega (arith, length-words (now (a .rule)))
 
 returns : tie.Need-returns
 returns c =
-    let a = c .before .before .before .before .args in
-    term-target (withHeads (a .heads)) (words (now (a .rule))) (a .at) (c .before .before .target .ensures) (c .if1 .taken)
-
-literal-requires : tie.Need-literal-requires
-literal-requires c κs = search needs
+    let a = c .before .before .before .args in
+    term-taken (withHeads (a .heads)) (words (now (a .rule))) (a .at) (sym (c .before .is-term-at .ensures) ∙ c .if1 .taken)
 
 returns-2 : tie.Need-returns-2
 returns-2 c =
-    let a = c .before .before .before .before .before .args in
-    c .literal .ensures ∙ term-literal (withHeads (a .heads)) (words (now (a .rule))) (a .at) (c .before .before .before .target .ensures) (c .before .if1 .left)
+    let a = c .before .before .before .args in
+    term-refused (withHeads (a .heads)) (words (now (a .rule))) (a .at) (sym (c .before .is-term-at .ensures) ∙ c .if1 .left)
 
 pub term-spec : {M : Type 1} → statement M
-term-spec = tie.close (tie.spec target-requires returns literal-requires returns-2)
+term-spec = tie.close (tie.spec is-term-at-requires add-t6 returns returns-2)

@@ -1,0 +1,36 @@
+-- `flat::is_term_at` meets its contract, by the test of the index. Assumes nothing.
+use mathlib.Core.Path.{_∙_}
+use Prim.Native.Nat.{_≤_, _<_}
+use native.Mathlib.Omega.{arith}
+use lib.ListN.{length}
+use borrow.Author.Tests.{lt-ltb, le-ltb}
+use borrow.Author.Needs.{needs}
+use denote.Ref.{now}
+use Rattle.octets.specs.Words.{words}
+use Rattle.records.proofs.flat.is_term_at.Statement.{statement}
+use Rattle.records.proofs.flat.is_term_at.Tie as tie
+
+count-requires : tie.Need-count-requires
+count-requires c κs = search needs
+
+get-requires : tie.Need-get-requires
+get-requires c κs = search needs
+
+is-term-requires : tie.Need-is-term-requires
+is-term-requires c κs = search needs
+
+returns : tie.Need-returns
+returns c =
+    let a = c .before .before .before .before .before .args in
+    let h : a .at < length (words (now (a .rule))) = omega arith in
+    c .is-term .ensures ∙ simp (lt-ltb _ _ h, c .before .get .ensures .is)
+
+returns-2 : tie.Need-returns-2
+returns-2 c =
+    let a = c .before .before .before .args in
+    let h : length (words (now (a .rule))) ≤ a .at = omega arith in
+    simp (le-ltb _ _ h)
+
+pub is-term-at-spec : {M : Type 1} → statement M
+is-term-at-spec =
+    tie.close (tie.spec count-requires get-requires is-term-requires returns returns-2)
