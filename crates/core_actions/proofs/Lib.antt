@@ -3,6 +3,7 @@ pub mod Scopes
 pub mod Body
 pub mod Pieces
 pub mod Expressions
+pub mod Plain
 pub mod Acting
 pub mod UnionAsSet
 pub mod ReadActions

@@ -2,6 +2,7 @@
 // end. Each call below an action has used one counter and given one flat action, so that the log also counts the actions.
 use crate::exprs::lower;
 use crate::exprs::lower_all;
+use crate::exprs::lower_plain;
 use crate::scope::Scope;
 use crate::scope::may_read;
 use crate::scope::taken;
@@ -119,7 +120,8 @@ pub fn lower_let(
 }
 
 // Set, delete and subsume, and a union of a constructor call and a name: the expressions behind the kind 3 word at `at + 1`, `more` of which it
-// does not count, then one count of its head, then the action `code` of their terms.
+// does not count, then one count of its head, then the action `code` of their terms. The literals and globals in front need
+// no walk.
 pub fn lower_change(
     rule: &[u8],
     at: usize,
@@ -142,16 +144,17 @@ pub fn lower_change(
     let w = octets::get(rule, at + 1);
     let h = (w - walks::HEAD) / walks::LIMIT_16;
     let n = ((w - walks::HEAD) % walks::LIMIT_16) as usize + more;
+    let k = lower_plain(rule, at + 2, n, scope.globals, scratch, sp);
     let args = lower_all(
         rule,
-        at + 2,
-        n,
+        at + 2 + k,
+        n - k,
         walks::MAX_DEPTH,
         scope,
         counters,
         scratch,
         to,
-        sp,
+        sp + k,
         log,
     );
     if args.refused != 0 {
@@ -344,16 +347,17 @@ pub fn set_name(
     let w = octets::get(rule, at + 2);
     let h = (w - walks::HEAD) / walks::LIMIT_16;
     let n = ((w - walks::HEAD) % walks::LIMIT_16) as usize;
+    let k = lower_plain(rule, at + 3, n, scope.globals, scratch, sp);
     let args = lower_all(
         rule,
-        at + 3,
-        n,
+        at + 3 + k,
+        n - k,
         walks::MAX_DEPTH - 1,
         scope,
         counters,
         scratch,
         to,
-        sp,
+        sp + k,
         log,
     );
     if args.refused != 0 {
