@@ -69,6 +69,12 @@ pub splice-nil : (l : List ℕ) (p : ℕ) → splice l p [] ≡ l
 unfolding splice
 splice-nil l p = rw (add-zero, append-nil, take-append-drop)
 
+-- words written where they stand: no change
+pub splice-itself : (l : List ℕ) (p n : ℕ) → p + n ≤ length l → splice l p (part l p n) ≡ l
+splice-itself l p n h =
+    splice-is l p (part l p n) ∙ ap (λ (k : ℕ). take p l ++ part l p n ++ drop (p + k) l) (length-part l p n h)
+    ∙ ap (λ (ws : List ℕ). ws ++ drop (p + n) l) (sym (take-add p n l)) ∙ take-append-drop (p + n) l
+
 -- one store
 pub splice-one : (l : List ℕ) (p w : ℕ) → p < length l → set l p w ≡ splice l p (w ∷ [])
 unfolding splice

@@ -63,9 +63,9 @@ module _ (sig : Sig) (ws : List ℕ) (d at to sp lg : ℕ) (s cs : List ℕ) (x 
         (λ es deep high h. rw (flattened-call at (headOf w) (es .value) cs)
         (full-first (1 + es .size) at to sp lg (headOf w) v to s cs s1 cs1 (fresh at (headOf w) cs) _ (taken at) z))
 
-    module _ (room : Room (length ws) at to sp lg (length s)) (some : v ≡ 0 → ⊥) (hc : length cs1 ≡ length cs) (s2 cs2 : List ℕ) (a : Walk)
+    module _ (room : Room (length ws) at to sp lg (length s)) (some : v ≡ 0 → ⊥) (hc : length cs1 ≡ length cs) (from : ℕ) (s2 cs2 : List ℕ) (a : Walk)
         (walk : (es : ExprsAt sig ws (d - 1) (countOf w) (at + 1))
-        → Walked (countOf w) (OnStack sp (countOf w) (lg + 1) s2 a) (flattenedAll (es .value) cs1) (es .size) (at + 1) to sp (lg + 1) s1 cs1 s2 cs2 a) where
+        → Walked (countOf w) (OnStack from (countOf w) (lg + 1) s2 a) (flattenedAll (es .value) cs1) (es .size) (at + 1) to sp (lg + 1) s1 cs1 s2 cs2 a) where
       rooms : (es : ExprsAt sig ws (d - 1) (countOf w) (at + 1)) → (to + 4 * (1 + es .size) ≤ sp) × (sp + (1 + es .size) ≤ lg) × (lg + (1 + es .size) ≤ length s)
       rooms es = let i = es .inside in (omega (arith, room .words), omega (arith, room .stack), omega (arith, room .log))
 
@@ -88,10 +88,12 @@ module _ (sig : Sig) (ws : List ℕ) (d at to sp lg : ℕ) (s cs : List ℕ) (x 
               let m = exprs-many sig ws (d - 1) (countOf w) (at + 1) es in
               (omega (arith, g .upTo, r .0), omega (arith, r .1, r .2))
 
-      pub done-way : (s3 : List ℕ) (e : ℕ) → a .refused ≡ 0 → e ≡ a .to + countOf w + 2 → length s2 ≡ length s → s3 ≡ splice s2 (a .to) ((w + 1) ∷ (part s2 sp (countOf w) ++ (v ∷ [])))
+      -- its terms stand at `from`: on the stack, or where the atom goes
+      pub done-way : (s3 : List ℕ) (e : ℕ) → a .refused ≡ 0 → e ≡ a .to + countOf w + 2 → from + countOf w ≤ length s2
+          → s3 ≡ splice s2 (a .to) ((w + 1) ∷ (part s2 from (countOf w) ++ (v ∷ [])))
           → let r : Walk = record { next = a .next; to = e; log = a .log; term = v; refused = 0 } in
           Walked 1 (InAnswer lg r) (flattened (x .value) cs) (x .size) at to sp lg s cs s3 cs2 r
-      done-way s3 e fine there el put =
+      done-way s3 e fine there inside put =
           let r : Walk = record { next = a .next; to = e; log = a .log; term = v; refused = 0 } in
           call-cases sig ws (c .few) (λ t k. Walked 1 (InAnswer lg r) (flattened t cs) k at to sp lg s cs s3 cs2 r) d at w x is low
           (λ es deep high h. rw (flattened-call at (headOf w) (es .value) cs) (done es high))
@@ -100,12 +102,12 @@ module _ (sig : Sig) (ws : List ℕ) (d at to sp lg : ℕ) (s cs : List ℕ) (x 
           n = countOf w
 
           ys : List ℕ
-          ys = (w + 1) ∷ (part s2 sp n ++ (v ∷ []))
+          ys = (w + 1) ∷ (part s2 from n ++ (v ∷ []))
 
           r : Walk
           r = record { next = a .next; to = e; log = a .log; term = v; refused = 0 }
 
-          own : headBase ≤ w → (f : Fresh) (p : Piece) → v ≡ f .var → OnStack sp n (lg + 1) s2 a p → Own (InAnswer lg r) p ys (p .next) (callPiece (headOf w) f p)
+          own : headBase ≤ w → (f : Fresh) (p : Piece) → v ≡ f .var → OnStack from n (lg + 1) s2 a p → Own (InAnswer lg r) p ys (p .next) (callPiece (headOf w) f p)
           own high f p ev on =
               let hd : w + 1 ≡ headWord (headOf w) (suc (length (p .terms))) = omega (arith, head-word w high, on .size) in
               record {
@@ -117,8 +119,7 @@ module _ (sig : Sig) (ws : List ℕ) (d at to sp lg : ℕ) (s cs : List ℕ) (x 
           done : (es : ExprsAt sig ws (d - 1) n (at + 1)) → headBase ≤ w
               → Walked 1 (InAnswer lg r) (_>>=_ (fresh at (headOf w) cs) (λ f. _>>=_ (flattenedAll (es .value) (f .next)) (λ q. ok (callPiece (headOf w) f q)))) (1 + es .size) at to sp lg s cs s3 cs2 r
           done es high =
-              let m = exprs-many sig ws (d - 1) n (at + 1) es in
-              let lp = length-part s2 sp n (omega (arith, rooms es .1, rooms es .2)) in
-              let ly : length ys ≡ n + 2 = omega (arith, length-append (part s2 sp n) (v ∷ [])) in
+              let lp = length-part s2 from n inside in
+              let ly : length ys ≡ n + 2 = omega (arith, length-append (part s2 from n) (v ∷ [])) in
               first-done (es .size) at to sp lg v s cs s1 cs1 s2 cs2 a (rooms es .0) (rooms es .1) (rooms es .2) hc 1 (InAnswer lg r) s3 ys e v (fresh at (headOf w) cs) (flattenedAll (es .value))
               (callPiece (headOf w)) (omega arith) (taken at) some (walk es) fine put (omega arith) (own high)

@@ -1,4 +1,5 @@
 -- Laws that the proofs of this crate share with those above it, in reading order.
 pub mod Pieces
+pub mod Direct
 pub mod Exprs
 pub mod Facts

@@ -5,13 +5,15 @@
 // The walks work in one scratch: atoms go to `to`, terms of arguments onto the stack at `sp`, uses of counters to `log`.
 use walks::Walk;
 ghost use mathlib.Core.Path.{_≡_};
-ghost use Prim.Native.Nat.{_+_, _<_};
+ghost use mathlib.Core.List.{_∷_, [], _++_};
+ghost use Prim.Native.Nat.{_+_, _≤_, _<_};
 ghost use lib.ListN.{length, getD};
 ghost use Rattle.octets.specs.Words.{words};
+ghost use Rattle.octets.specs.Regions.{splice, part};
 ghost use Rattle.rules.specs.Words.{literalBase};
 ghost use Rattle.rules.specs.Signature.{Sig};
 ghost use Rattle.walks.specs.Steps.{Walked, InAnswer, OnStack, NoTerms, Room, Under, Counted, ExprAt, ExprsAt};
-ghost use Rattle.query.specs.Flattened.{flattened, flattenedAll, flattenedFact, query, FactAt, FactsAt};
+ghost use Rattle.query.specs.Flattened.{flattened, flattenedAll, flattenedFact, query, FactAt, FactsAt, leafRun};
 
 // The equality of two.
 const EQUALITY: u32 = 0x0800_0002;
@@ -45,8 +47,39 @@ pub fn flatten(
     flatten_call(rule, at, w, depth, counters, scratch, to, sp, log)
 }
 
+// Of the n words from `at` on, writes those before the first that is no name or literal to `to`. Returns how many they are: n, where no call
+// stands among them.
+fn leaves(rule: &[u8], at: usize, n: usize, scratch: &mut [u8], to: usize) -> usize
+    requires { ⌜ (at + n ≤ length (words (now rule))) × (to + n ≤ length (words (now scratch))) ⌝ }
+    ensures { λ r. ⌜ (r ≡ leafRun (part (words (now (rule .entry))) at n)) × (words (now (scratch .exit)) ≡ splice (words (now (scratch .entry))) to (part (words (now (rule .entry))) at r)) ⌝ }
+{
+    let mut k = 0;
+    while k < n {
+        let w = octets::get(rule, at + k);
+        if w < walks::LITERAL {
+            return k;
+        }
+        octets::put(scratch, to + k, w);
+        k += 1;
+    }
+    k
+}
+
+// Makes an atom of the n words that stand behind the one at `at`: its head word goes before them, and its output behind. Returns the place
+// behind it.
+fn put_around(scratch: &mut [u8], at: usize, head: u32, n: usize, output: u32) -> usize
+    requires { ⌜ at + n + 2 ≤ length (words (now scratch)) ⌝ }
+    ensures { λ r. ⌜ (r ≡ at + n + 2) × (words (now (scratch .exit)) ≡ splice (words (now (scratch .entry))) at (head ∷ (part (words (now (scratch .entry))) (at + 1) n ++ (output ∷ [])))) ⌝ }
+{
+    octets::put(scratch, at, head);
+    let end = at + 1 + n;
+    octets::put(scratch, end, output);
+    end + 1
+}
+
 // Flattens the call at `at`, whose head word is w. It takes its fresh variable before its arguments are walked; its own atom comes behind
-// theirs.
+// theirs. Arguments that are all names and literals are written as the atom at once, past the stack. Where a call stands among them, all are
+// walked from the first on, over what was written of them.
 pub fn flatten_call(
     rule: &[u8],
     at: usize,
@@ -74,6 +107,17 @@ pub fn flatten_call(
             log,
             term: 0,
             refused: walks::USED_UP,
+        };
+    }
+    let k = leaves(rule, at + 1, n as usize, scratch, to + 1);
+    if k == n as usize {
+        let end = put_around(scratch, to, w + 1, n as usize, v);
+        return Walk {
+            next: at + 1 + k,
+            to: end,
+            log: log + 1,
+            term: v,
+            refused: 0,
         };
     }
     let args = flatten_all(

@@ -1,17 +1,19 @@
 -- Flattening a call and a row of arguments: the one proof of their cycle. The depth falls at each call's arguments. Assumes nothing.
-use Prim.Native.Nat.{_+_, _*_, _-_}
+use Prim.Native.Nat.{_+_, _*_, _-_, _≤_}
 use mathlib.Core.Path.{_≡_, refl, _∙_}
 use native.Mathlib.Omega.{arith}
 use lib.ListN.{length, getD}
 use Rattle.octets.specs.Words.{words}
 use Rattle.octets.proofs.Words.{length-words, length-words-kept}
+use Rattle.rules.specs.Words.{countOf}
 use Rattle.rules.specs.Signature.{Sig}
-use Rattle.walks.specs.Steps.{Counted, ExprsAt}
+use Rattle.walks.specs.Steps.{Counted, ExprsAt, Room}
 use Rattle.walks.specs.declared.Walk.{Walk}
 use Rattle.walks.proofs.Asks.{expr-inside, counted-kept, first-at, room-in, call-facts}
 use Rattle.walks.proofs.Rows.{Going, going-start, going-room, Left, left-all, left-none, left-stop, left-next, left-going}
 use Rattle.query.specs.Flattened.{flattened, flattenedAll}
 use Rattle.query.proofs.Pieces.{flattened-row}
+use Rattle.query.proofs.Direct.{atom-room-in, run-in, walked-anew, leaves-walked}
 use Rattle.query.proofs.Exprs.{here, going-here, left-here, leaf-way, full-way, stop-way, atom-room, done-way}
 use borrow.Author.Needs.{needs}
 use Prim.Native.Nat.{ℕ, _<_}
@@ -26,6 +28,8 @@ use Rattle.query.proofs.+flatten_all+flatten_call.Lts-flatten_call as f
 use Rattle.octets.proofs.get.Reads as get-reads
 use Rattle.octets.proofs.put.Reads as put-reads
 use Rattle.octets.proofs.rows.put_atom.Reads as put-atom-reads
+use Rattle.query.proofs.leaves.Reads as leaves-reads
+use Rattle.query.proofs.put_around.Reads as put-around-reads
 use Rattle.walks.proofs.take.Reads as take-reads
 use Rattle.query.proofs.+flatten_all+flatten_call.{statement}
 use Rattle.query.proofs.+flatten_all+flatten_call.Tie.{close}
@@ -514,6 +518,10 @@ flatten-all-returns-2 t c =
 flatten-call-sub-h : (t : ℕ) → flatten-call-lts.Need-sub-h (
   take-reads.Asked,
   take-reads.Learnt,
+  leaves-reads.Asked,
+  leaves-reads.Learnt,
+  put-around-reads.Asked,
+  put-around-reads.Learnt,
   flatten-all-below t,
   flatten-all.Post,
   put-atom-reads.Asked,
@@ -535,6 +543,10 @@ flatten-call-sub-h t c =
 flatten-call-sub-n : (t : ℕ) → flatten-call-lts.Need-sub-n (
   take-reads.Asked,
   take-reads.Learnt,
+  leaves-reads.Asked,
+  leaves-reads.Learnt,
+  put-around-reads.Asked,
+  put-around-reads.Learnt,
   flatten-all-below t,
   flatten-all.Post,
   put-atom-reads.Asked,
@@ -556,6 +568,10 @@ flatten-call-sub-n t c =
 flatten-call-take-requires : (t : ℕ) → flatten-call-lts.Need-take-requires (
   take-reads.Asked,
   take-reads.Learnt,
+  leaves-reads.Asked,
+  leaves-reads.Learnt,
+  put-around-reads.Asked,
+  put-around-reads.Learnt,
   flatten-all-below t,
   flatten-all.Post,
   put-atom-reads.Asked,
@@ -577,6 +593,10 @@ flatten-call-take-requires t c κs =
 flatten-call-same-length : (t : ℕ) → flatten-call-lts.Need-same-length (
   take-reads.Asked,
   take-reads.Learnt,
+  leaves-reads.Asked,
+  leaves-reads.Learnt,
+  put-around-reads.Asked,
+  put-around-reads.Learnt,
   flatten-all-below t,
   flatten-all.Post,
   put-atom-reads.Asked,
@@ -587,6 +607,10 @@ flatten-call-same-length t c = search needs
 flatten-call-same-length-2 : (t : ℕ) → flatten-call-lts.Need-same-length-2 (
   take-reads.Asked,
   take-reads.Learnt,
+  leaves-reads.Asked,
+  leaves-reads.Learnt,
+  put-around-reads.Asked,
+  put-around-reads.Learnt,
   flatten-all-below t,
   flatten-all.Post,
   put-atom-reads.Asked,
@@ -597,6 +621,10 @@ flatten-call-same-length-2 t c = search needs
 flatten-call-returns : (t : ℕ) → flatten-call-lts.Need-returns (
   take-reads.Asked,
   take-reads.Learnt,
+  leaves-reads.Asked,
+  leaves-reads.Learnt,
+  put-around-reads.Asked,
+  put-around-reads.Learnt,
   flatten-all-below t,
   flatten-all.Post,
   put-atom-reads.Asked,
@@ -615,15 +643,19 @@ flatten-call-returns t c =
     let t = c .before .before .before .before .before .take in
     λ sig x n. full-way sig ws (a .depth) (a .at) (a .to) (a .sp) (a .log) s cs x n w is low (t .result) _ _ (t .ensures) (c .if1 .taken)
 
-flatten-call-add-flatten-all : (t : ℕ) → flatten-call-lts.Need-add-flatten-all (
+flatten-call-add-leaves : (t : ℕ) → flatten-call-lts.Need-add-leaves (
   take-reads.Asked,
   take-reads.Learnt,
+  leaves-reads.Asked,
+  leaves-reads.Learnt,
+  put-around-reads.Asked,
+  put-around-reads.Learnt,
   flatten-all-below t,
   flatten-all.Post,
   put-atom-reads.Asked,
   put-atom-reads.Learnt,
 ) (flatten-call-at t) flatten-call.Post
-flatten-call-add-flatten-all t c =
+flatten-call-add-leaves t c =
     let a = c .before .before .before .before .before .before .before .before .before .before .before .args in
     let ws = words (a .rule .now) in
     let cs = words (a .counters .now) in
@@ -636,107 +668,260 @@ flatten-call-add-flatten-all t c =
     let f = call-facts (q .sig) ws (a .depth) (a .at) cs w (q .known .0) (q .known .1) is low in
     omega (arith, f .inside, length-words (a .rule .now))
 
-flatten-call-cast-flatten-all : (t : ℕ) → flatten-call-lts.Need-cast-flatten-all (
+flatten-call-cast-leaves : (t : ℕ) → flatten-call-lts.Need-cast-leaves (
   take-reads.Asked,
   take-reads.Learnt,
+  leaves-reads.Asked,
+  leaves-reads.Learnt,
+  put-around-reads.Asked,
+  put-around-reads.Learnt,
   flatten-all-below t,
   flatten-all.Post,
   put-atom-reads.Asked,
   put-atom-reads.Learnt,
 ) (flatten-call-at t) flatten-call.Post
-flatten-call-cast-flatten-all t c = search needs
+flatten-call-cast-leaves t c = search needs
 
-flatten-call-sub-flatten-all : (t : ℕ) → flatten-call-lts.Need-sub-flatten-all (
+flatten-call-add-leaves-2 : (t : ℕ) → flatten-call-lts.Need-add-leaves-2 (
   take-reads.Asked,
   take-reads.Learnt,
+  leaves-reads.Asked,
+  leaves-reads.Learnt,
+  put-around-reads.Asked,
+  put-around-reads.Learnt,
   flatten-all-below t,
   flatten-all.Post,
   put-atom-reads.Asked,
   put-atom-reads.Learnt,
 ) (flatten-call-at t) flatten-call.Post
-flatten-call-sub-flatten-all t c =
-    let a = c .before .before .before .before .before .before .before .before .before .before .before .args in
+flatten-call-add-leaves-2 t c =
+    let a = c .before .before .before .before .before .before .before .before .before .before .before .before .args in
     let ws = words (a .rule .now) in
     let cs = words (a .counters .now) in
     let s = words (a .scratch .now) in
-    let q = c .before .before .before .before .before .before .before .before .before .before .before .pre .1 .0 in
-    let room = c .before .before .before .before .before .before .before .before .before .before .before .pre .1 .1 .0 in
+    let q = c .before .before .before .before .before .before .before .before .before .before .before .before .pre .1 .0 in
+    let room = c .before .before .before .before .before .before .before .before .before .before .before .before .pre .1 .1 .0 in
     let w = a .w in
-    let is : w ≡ getD ws (a .at) 0 = c .before .before .before .before .before .before .before .before .before .before .before .pre .1 .1 .1 .0 in
-    let low = c .before .before .before .before .before .before .before .before .before .before .before .pre .1 .1 .1 .1 in
+    let is : w ≡ getD ws (a .at) 0 = c .before .before .before .before .before .before .before .before .before .before .before .before .pre .1 .1 .1 .0 in
+    let low = c .before .before .before .before .before .before .before .before .before .before .before .before .pre .1 .1 .1 .1 in
     let f = call-facts (q .sig) ws (a .depth) (a .at) cs w (q .known .0) (q .known .1) is low in
-    omega (arith, f .deep)
+    let ar = atom-room-in (q .sig) ws s (a .depth - 1) (countOf w) (a .at) (a .to) (a .sp) (a .log) (f .args) room in
+    omega (arith, ar .words, length-words (a .scratch .now))
 
-flatten-call-add-flatten-all-2 : (t : ℕ) → flatten-call-lts.Need-add-flatten-all-2 (
+flatten-call-leaves-requires : (t : ℕ) → flatten-call-lts.Need-leaves-requires (
   take-reads.Asked,
   take-reads.Learnt,
+  leaves-reads.Asked,
+  leaves-reads.Learnt,
+  put-around-reads.Asked,
+  put-around-reads.Learnt,
   flatten-all-below t,
   flatten-all.Post,
   put-atom-reads.Asked,
   put-atom-reads.Learnt,
 ) (flatten-call-at t) flatten-call.Post
-flatten-call-add-flatten-all-2 t c =
-    let a = c .before .before .before .before .before .before .before .before .before .before .before .before .before .args in
+flatten-call-leaves-requires t c κs =
+    let a = c .before .before .before .before .before .before .before .before .before .before .before .before .args in
     let ws = words (a .rule .now) in
     let cs = words (a .counters .now) in
     let s = words (a .scratch .now) in
-    let q = c .before .before .before .before .before .before .before .before .before .before .before .before .before .pre .1 .0 in
-    let room = c .before .before .before .before .before .before .before .before .before .before .before .before .before .pre .1 .1 .0 in
+    let q = c .before .before .before .before .before .before .before .before .before .before .before .before .pre .1 .0 in
+    let room = c .before .before .before .before .before .before .before .before .before .before .before .before .pre .1 .1 .0 in
     let w = a .w in
-    let is : w ≡ getD ws (a .at) 0 = c .before .before .before .before .before .before .before .before .before .before .before .before .before .pre .1 .1 .1 .0 in
-    let low = c .before .before .before .before .before .before .before .before .before .before .before .before .before .pre .1 .1 .1 .1 in
+    let is : w ≡ getD ws (a .at) 0 = c .before .before .before .before .before .before .before .before .before .before .before .before .pre .1 .1 .1 .0 in
+    let low = c .before .before .before .before .before .before .before .before .before .before .before .before .pre .1 .1 .1 .1 in
     let f = call-facts (q .sig) ws (a .depth) (a .at) cs w (q .known .0) (q .known .1) is low in
-    omega (arith, room .log, f .inside, length-words (a .scratch .now))
+    let ar = atom-room-in (q .sig) ws s (a .depth - 1) (countOf w) (a .at) (a .to) (a .sp) (a .log) (f .args) room in
+    let t = c .before .before .before .before .before .before .take in
+    (ar .inside, omega (arith, ar .words, length-words-kept (t .last .1 .0) (a .scratch .now) (t .kept .1 .0)))
 
-flatten-call-flatten-all-requires : (t : ℕ) → flatten-call-lts.Need-flatten-all-requires (
+flatten-call-cast-if2 : (t : ℕ) → flatten-call-lts.Need-cast-if2 (
   take-reads.Asked,
   take-reads.Learnt,
+  leaves-reads.Asked,
+  leaves-reads.Learnt,
+  put-around-reads.Asked,
+  put-around-reads.Learnt,
   flatten-all-below t,
   flatten-all.Post,
   put-atom-reads.Asked,
   put-atom-reads.Learnt,
 ) (flatten-call-at t) flatten-call.Post
-flatten-call-flatten-all-requires t c κs =
-    let a = c .before .before .before .before .before .before .before .before .before .before .before .before .before .args in
+flatten-call-cast-if2 t c = search needs
+
+flatten-call-add-put-around : (t : ℕ) → flatten-call-lts.Need-add-put-around (
+  take-reads.Asked,
+  take-reads.Learnt,
+  leaves-reads.Asked,
+  leaves-reads.Learnt,
+  put-around-reads.Asked,
+  put-around-reads.Learnt,
+  flatten-all-below t,
+  flatten-all.Post,
+  put-atom-reads.Asked,
+  put-atom-reads.Learnt,
+) (flatten-call-at t) flatten-call.Post
+flatten-call-add-put-around t c = omega (arith, c .before .before .before .before .before .before .before .before .before .before .before .before .before .before .before .before .before .pre .1 .1 .1 .1)
+
+flatten-call-cast-put-around : (t : ℕ) → flatten-call-lts.Need-cast-put-around (
+  take-reads.Asked,
+  take-reads.Learnt,
+  leaves-reads.Asked,
+  leaves-reads.Learnt,
+  put-around-reads.Asked,
+  put-around-reads.Learnt,
+  flatten-all-below t,
+  flatten-all.Post,
+  put-atom-reads.Asked,
+  put-atom-reads.Learnt,
+) (flatten-call-at t) flatten-call.Post
+flatten-call-cast-put-around t c = search needs
+
+flatten-call-put-around-requires : (t : ℕ) → flatten-call-lts.Need-put-around-requires (
+  take-reads.Asked,
+  take-reads.Learnt,
+  leaves-reads.Asked,
+  leaves-reads.Learnt,
+  put-around-reads.Asked,
+  put-around-reads.Learnt,
+  flatten-all-below t,
+  flatten-all.Post,
+  put-atom-reads.Asked,
+  put-atom-reads.Learnt,
+) (flatten-call-at t) flatten-call.Post
+flatten-call-put-around-requires t c κs =
+    let a = c .before .before .before .before .before .before .before .before .before .before .before .before .before .before .before .before .before .args in
     let ws = words (a .rule .now) in
     let cs = words (a .counters .now) in
     let s = words (a .scratch .now) in
-    let q = c .before .before .before .before .before .before .before .before .before .before .before .before .before .pre .1 .0 in
-    let room = c .before .before .before .before .before .before .before .before .before .before .before .before .before .pre .1 .1 .0 in
+    let q = c .before .before .before .before .before .before .before .before .before .before .before .before .before .before .before .before .before .pre .1 .0 in
+    let room = c .before .before .before .before .before .before .before .before .before .before .before .before .before .before .before .before .before .pre .1 .1 .0 in
     let w = a .w in
-    let is : w ≡ getD ws (a .at) 0 = c .before .before .before .before .before .before .before .before .before .before .before .before .before .pre .1 .1 .1 .0 in
-    let low = c .before .before .before .before .before .before .before .before .before .before .before .before .before .pre .1 .1 .1 .1 in
+    let is : w ≡ getD ws (a .at) 0 = c .before .before .before .before .before .before .before .before .before .before .before .before .before .before .before .before .before .pre .1 .1 .1 .0 in
+    let low = c .before .before .before .before .before .before .before .before .before .before .before .before .before .before .before .before .before .pre .1 .1 .1 .1 in
     let f = call-facts (q .sig) ws (a .depth) (a .at) cs w (q .known .0) (q .known .1) is low in
-    let t = c .before .before .before .before .before .before .before .take in
+    let ar = atom-room-in (q .sig) ws s (a .depth - 1) (countOf w) (a .at) (a .to) (a .sp) (a .log) (f .args) room in
+    let t = c .before .before .before .before .before .before .before .before .before .before .before .take in
     let s1 = words (t .last .1 .0) in
     let cs1 = words (t .last .0) in
     let hc : length cs1 ≡ length cs = length-words-kept (t .last .0) (a .counters .now) (t .kept .0) in
     let hs : length s1 ≡ length s = length-words-kept (t .last .1 .0) (a .scratch .now) (t .kept .1 .0) in
-    (omega (arith, c .before .before .before .before .before .before .before .before .before .before .before .before .before .pre .0, f .inside, f .deep), (record { sig = q .sig; known = (f .args, counted-kept (q .known .1) hc) }, room-in 1 _ room (omega arith) hs))
+    let l = c .before .before .before .before .leaves in
+    let sl = words (l .last .1 .1 .1 .0) in
+    let hl : length sl ≡ length s1 = length-words-kept (l .last .1 .1 .1 .0) (t .last .1 .0) (l .kept .1 .1 .1 .0) in
+    omega (arith, ar .words)
+
+flatten-call-add-t31 : (t : ℕ) → flatten-call-lts.Need-add-t31 (
+  take-reads.Asked,
+  take-reads.Learnt,
+  leaves-reads.Asked,
+  leaves-reads.Learnt,
+  put-around-reads.Asked,
+  put-around-reads.Learnt,
+  flatten-all-below t,
+  flatten-all.Post,
+  put-atom-reads.Asked,
+  put-atom-reads.Learnt,
+) (flatten-call-at t) flatten-call.Post
+flatten-call-add-t31 t c =
+    let a = c .before .before .before .before .before .before .before .before .before .before .before .before .before .before .before .before .before .before .before .before .args in
+    let ws = words (a .rule .now) in
+    let cs = words (a .counters .now) in
+    let s = words (a .scratch .now) in
+    let q = c .before .before .before .before .before .before .before .before .before .before .before .before .before .before .before .before .before .before .before .before .pre .1 .0 in
+    let room = c .before .before .before .before .before .before .before .before .before .before .before .before .before .before .before .before .before .before .before .before .pre .1 .1 .0 in
+    let w = a .w in
+    let is : w ≡ getD ws (a .at) 0 = c .before .before .before .before .before .before .before .before .before .before .before .before .before .before .before .before .before .before .before .before .pre .1 .1 .1 .0 in
+    let low = c .before .before .before .before .before .before .before .before .before .before .before .before .before .before .before .before .before .before .before .before .pre .1 .1 .1 .1 in
+    let f = call-facts (q .sig) ws (a .depth) (a .at) cs w (q .known .0) (q .known .1) is low in
+    omega (arith, f .inside, length-words (a .rule .now))
+
+flatten-call-add-t32 : (t : ℕ) → flatten-call-lts.Need-add-t32 (
+  take-reads.Asked,
+  take-reads.Learnt,
+  leaves-reads.Asked,
+  leaves-reads.Learnt,
+  put-around-reads.Asked,
+  put-around-reads.Learnt,
+  flatten-all-below t,
+  flatten-all.Post,
+  put-atom-reads.Asked,
+  put-atom-reads.Learnt,
+) (flatten-call-at t) flatten-call.Post
+flatten-call-add-t32 t c =
+    let a = c .before .before .before .before .before .before .before .before .before .before .before .before .before .before .before .before .before .before .before .before .args in
+    let ws = words (a .rule .now) in
+    let cs = words (a .counters .now) in
+    let s = words (a .scratch .now) in
+    let q = c .before .before .before .before .before .before .before .before .before .before .before .before .before .before .before .before .before .before .before .before .pre .1 .0 in
+    let room = c .before .before .before .before .before .before .before .before .before .before .before .before .before .before .before .before .before .before .before .before .pre .1 .1 .0 in
+    let w = a .w in
+    let is : w ≡ getD ws (a .at) 0 = c .before .before .before .before .before .before .before .before .before .before .before .before .before .before .before .before .before .before .before .before .pre .1 .1 .1 .0 in
+    let low = c .before .before .before .before .before .before .before .before .before .before .before .before .before .before .before .before .before .before .before .before .pre .1 .1 .1 .1 in
+    let f = call-facts (q .sig) ws (a .depth) (a .at) cs w (q .known .0) (q .known .1) is low in
+    let ar = atom-room-in (q .sig) ws s (a .depth - 1) (countOf w) (a .at) (a .to) (a .sp) (a .log) (f .args) room in
+    omega (arith, ar .inside, c .before .before .before .before .if2 .taken, length-words (a .rule .now))
+
+flatten-call-add-t33 : (t : ℕ) → flatten-call-lts.Need-add-t33 (
+  take-reads.Asked,
+  take-reads.Learnt,
+  leaves-reads.Asked,
+  leaves-reads.Learnt,
+  put-around-reads.Asked,
+  put-around-reads.Learnt,
+  flatten-all-below t,
+  flatten-all.Post,
+  put-atom-reads.Asked,
+  put-atom-reads.Learnt,
+) (flatten-call-at t) flatten-call.Post
+flatten-call-add-t33 t c =
+    let a = c .before .before .before .before .before .before .before .before .before .before .before .before .before .before .before .before .before .before .before .before .args in
+    let ws = words (a .rule .now) in
+    let cs = words (a .counters .now) in
+    let s = words (a .scratch .now) in
+    let q = c .before .before .before .before .before .before .before .before .before .before .before .before .before .before .before .before .before .before .before .before .pre .1 .0 in
+    let room = c .before .before .before .before .before .before .before .before .before .before .before .before .before .before .before .before .before .before .before .before .pre .1 .1 .0 in
+    let w = a .w in
+    let is : w ≡ getD ws (a .at) 0 = c .before .before .before .before .before .before .before .before .before .before .before .before .before .before .before .before .before .before .before .before .pre .1 .1 .1 .0 in
+    let low = c .before .before .before .before .before .before .before .before .before .before .before .before .before .before .before .before .before .before .before .before .pre .1 .1 .1 .1 in
+    let f = call-facts (q .sig) ws (a .depth) (a .at) cs w (q .known .0) (q .known .1) is low in
+    omega (arith, room .log, f .inside, length-words (a .scratch .now), c .before .before .before .before .before .before .before .before .before .before .before .before .before .before .before .before .before .before .before .before .good)
 
 flatten-call-same-length-3 : (t : ℕ) → flatten-call-lts.Need-same-length-3 (
   take-reads.Asked,
   take-reads.Learnt,
+  leaves-reads.Asked,
+  leaves-reads.Learnt,
+  put-around-reads.Asked,
+  put-around-reads.Learnt,
   flatten-all-below t,
   flatten-all.Post,
   put-atom-reads.Asked,
   put-atom-reads.Learnt,
 ) (flatten-call-at t) flatten-call.Post
-flatten-call-same-length-3 t c = c .before .before .before .before .before .before .flatten-all .kept .1 .1 .1 .1 .0 ∙ c .before .before .before .before .before .before .before .before .before .before .before .before .before .before .take .kept .0
+flatten-call-same-length-3 t c = c .before .before .before .before .before .before .before .before .before .before .before .before .before .before .take .kept .0
 
 flatten-call-same-length-4 : (t : ℕ) → flatten-call-lts.Need-same-length-4 (
   take-reads.Asked,
   take-reads.Learnt,
+  leaves-reads.Asked,
+  leaves-reads.Learnt,
+  put-around-reads.Asked,
+  put-around-reads.Learnt,
   flatten-all-below t,
   flatten-all.Post,
   put-atom-reads.Asked,
   put-atom-reads.Learnt,
 ) (flatten-call-at t) flatten-call.Post
-flatten-call-same-length-4 t c = c .before .before .before .before .before .before .flatten-all .kept .1 .1 .1 .1 .1 .0 ∙ c .before .before .before .before .before .before .before .before .before .before .before .before .before .before .take .kept .1 .0
+flatten-call-same-length-4 t c = c .before .before .put-around .kept .0 ∙ c .before .before .before .before .before .before .before .leaves .kept .1 .1 .1 .0 ∙ c .before .before .before .before .before .before .before .before .before .before .before .before .before .before .take .kept .1 .0
 
 flatten-call-returns-2 : (t : ℕ) → flatten-call-lts.Need-returns-2 (
   take-reads.Asked,
   take-reads.Learnt,
+  leaves-reads.Asked,
+  leaves-reads.Learnt,
+  put-around-reads.Asked,
+  put-around-reads.Learnt,
   flatten-all-below t,
   flatten-all.Post,
   put-atom-reads.Asked,
@@ -753,41 +938,234 @@ flatten-call-returns-2 t c =
     let is : w ≡ getD ws (a .at) 0 = c .before .before .before .before .before .before .before .before .before .before .before .before .before .before .before .before .before .before .before .before .pre .1 .1 .1 .0 in
     let low = c .before .before .before .before .before .before .before .before .before .before .before .before .before .before .before .before .before .before .before .before .pre .1 .1 .1 .1 in
     let f = call-facts (q .sig) ws (a .depth) (a .at) cs w (q .known .0) (q .known .1) is low in
+    let ar = atom-room-in (q .sig) ws s (a .depth - 1) (countOf w) (a .at) (a .to) (a .sp) (a .log) (f .args) room in
     let t = c .before .before .before .before .before .before .before .before .before .before .before .before .before .before .take in
     let s1 = words (t .last .1 .0) in
     let cs1 = words (t .last .0) in
     let hc : length cs1 ≡ length cs = length-words-kept (t .last .0) (a .counters .now) (t .kept .0) in
     let hs : length s1 ≡ length s = length-words-kept (t .last .1 .0) (a .scratch .now) (t .kept .1 .0) in
-    let k = c .before .before .before .before .before .before .flatten-all in
-    let s2 = words (k .last .1 .1 .1 .1 .1 .0) in
-    let cs2 = words (k .last .1 .1 .1 .1 .0) in
-    let hs2 : length s2 ≡ length s = length-words-kept (k .last .1 .1 .1 .1 .1 .0) (t .last .1 .0) (k .kept .1 .1 .1 .1 .1 .0) ∙ hs in
-    λ sig x n. stop-way sig ws (a .depth) (a .at) (a .to) (a .sp) (a .log) s cs x n w is low (t .result) s1 cs1 (t .ensures) room (c .before .before .before .before .before .before .before .before .before .if1 .left) hc s2 cs2 (k .result) (λ es. k .ensures sig es (counted-kept n hc)) (c .if2 .taken)
+    let l = c .before .before .before .before .before .before .before .leaves in
+    let sl = words (l .last .1 .1 .1 .0) in
+    let hl : length sl ≡ length s1 = length-words-kept (l .last .1 .1 .1 .0) (t .last .1 .0) (l .kept .1 .1 .1 .0) in
+    let behind : Room (length ws) (a .at + 1) (a .to) (a .sp) (a .log + 1) (length s1) = room-in 1 _ room (omega arith) hs in
+    let most : l .result ≤ countOf w = omega (arith, l .ensures .0, run-in ws (a .at + 1) (countOf w) (ar .inside)) in
+    let p = c .before .before .put-around in
+    let k : Walk = here (a .at + 1 + l .result) (a .to) (a .log + 1) in
+    λ sig x n. done-way sig ws (a .depth) (a .at) (a .to) (a .sp) (a .log) s cs x n w is low (t .result) s1 cs1 (t .ensures) room (c .before .before .before .before .before .before .before .before .before .if1 .left) hc (a .to + 1) sl cs1 k
+    (λ es. leaves-walked sig ws (a .depth - 1) (countOf w) (l .result) (a .at + 1) (a .to) (a .sp) (a .log + 1) s1 cs1 sl es behind most (l .ensures .1) (n .few) (omega (arith, ar .words)) (l .ensures .0) (c .before .before .before .before .if2 .taken))
+    _ _ refl (p .ensures .0) (omega (arith, ar .words)) (p .ensures .1)
 
-flatten-call-add-put-atom : (t : ℕ) → flatten-call-lts.Need-add-put-atom (
+flatten-call-add-flatten-all : (t : ℕ) → flatten-call-lts.Need-add-flatten-all (
   take-reads.Asked,
   take-reads.Learnt,
+  leaves-reads.Asked,
+  leaves-reads.Learnt,
+  put-around-reads.Asked,
+  put-around-reads.Learnt,
   flatten-all-below t,
   flatten-all.Post,
   put-atom-reads.Asked,
   put-atom-reads.Learnt,
 ) (flatten-call-at t) flatten-call.Post
-flatten-call-add-put-atom t c =
-    let a = c .before .before .before .before .before .before .before .before .before .before .before .before .before .before .before .before .before .before .before .before .before .args in
+flatten-call-add-flatten-all t c =
+    let a = c .before .before .before .before .before .before .before .before .before .before .before .before .before .before .before .before .args in
     let ws = words (a .rule .now) in
     let cs = words (a .counters .now) in
     let s = words (a .scratch .now) in
-    let q = c .before .before .before .before .before .before .before .before .before .before .before .before .before .before .before .before .before .before .before .before .before .pre .1 .0 in
-    let room = c .before .before .before .before .before .before .before .before .before .before .before .before .before .before .before .before .before .before .before .before .before .pre .1 .1 .0 in
+    let q = c .before .before .before .before .before .before .before .before .before .before .before .before .before .before .before .before .pre .1 .0 in
+    let room = c .before .before .before .before .before .before .before .before .before .before .before .before .before .before .before .before .pre .1 .1 .0 in
     let w = a .w in
-    let is : w ≡ getD ws (a .at) 0 = c .before .before .before .before .before .before .before .before .before .before .before .before .before .before .before .before .before .before .before .before .before .pre .1 .1 .1 .0 in
-    let low = c .before .before .before .before .before .before .before .before .before .before .before .before .before .before .before .before .before .before .before .before .before .pre .1 .1 .1 .1 in
+    let is : w ≡ getD ws (a .at) 0 = c .before .before .before .before .before .before .before .before .before .before .before .before .before .before .before .before .pre .1 .1 .1 .0 in
+    let low = c .before .before .before .before .before .before .before .before .before .before .before .before .before .before .before .before .pre .1 .1 .1 .1 in
     let f = call-facts (q .sig) ws (a .depth) (a .at) cs w (q .known .0) (q .known .1) is low in
-    omega arith
+    omega (arith, f .inside, length-words (a .rule .now))
+
+flatten-call-cast-flatten-all : (t : ℕ) → flatten-call-lts.Need-cast-flatten-all (
+  take-reads.Asked,
+  take-reads.Learnt,
+  leaves-reads.Asked,
+  leaves-reads.Learnt,
+  put-around-reads.Asked,
+  put-around-reads.Learnt,
+  flatten-all-below t,
+  flatten-all.Post,
+  put-atom-reads.Asked,
+  put-atom-reads.Learnt,
+) (flatten-call-at t) flatten-call.Post
+flatten-call-cast-flatten-all t c = search needs
+
+flatten-call-sub-flatten-all : (t : ℕ) → flatten-call-lts.Need-sub-flatten-all (
+  take-reads.Asked,
+  take-reads.Learnt,
+  leaves-reads.Asked,
+  leaves-reads.Learnt,
+  put-around-reads.Asked,
+  put-around-reads.Learnt,
+  flatten-all-below t,
+  flatten-all.Post,
+  put-atom-reads.Asked,
+  put-atom-reads.Learnt,
+) (flatten-call-at t) flatten-call.Post
+flatten-call-sub-flatten-all t c =
+    let a = c .before .before .before .before .before .before .before .before .before .before .before .before .before .before .before .before .args in
+    let ws = words (a .rule .now) in
+    let cs = words (a .counters .now) in
+    let s = words (a .scratch .now) in
+    let q = c .before .before .before .before .before .before .before .before .before .before .before .before .before .before .before .before .pre .1 .0 in
+    let room = c .before .before .before .before .before .before .before .before .before .before .before .before .before .before .before .before .pre .1 .1 .0 in
+    let w = a .w in
+    let is : w ≡ getD ws (a .at) 0 = c .before .before .before .before .before .before .before .before .before .before .before .before .before .before .before .before .pre .1 .1 .1 .0 in
+    let low = c .before .before .before .before .before .before .before .before .before .before .before .before .before .before .before .before .pre .1 .1 .1 .1 in
+    let f = call-facts (q .sig) ws (a .depth) (a .at) cs w (q .known .0) (q .known .1) is low in
+    omega (arith, f .deep)
+
+flatten-call-add-flatten-all-2 : (t : ℕ) → flatten-call-lts.Need-add-flatten-all-2 (
+  take-reads.Asked,
+  take-reads.Learnt,
+  leaves-reads.Asked,
+  leaves-reads.Learnt,
+  put-around-reads.Asked,
+  put-around-reads.Learnt,
+  flatten-all-below t,
+  flatten-all.Post,
+  put-atom-reads.Asked,
+  put-atom-reads.Learnt,
+) (flatten-call-at t) flatten-call.Post
+flatten-call-add-flatten-all-2 t c =
+    let a = c .before .before .before .before .before .before .before .before .before .before .before .before .before .before .before .before .before .before .args in
+    let ws = words (a .rule .now) in
+    let cs = words (a .counters .now) in
+    let s = words (a .scratch .now) in
+    let q = c .before .before .before .before .before .before .before .before .before .before .before .before .before .before .before .before .before .before .pre .1 .0 in
+    let room = c .before .before .before .before .before .before .before .before .before .before .before .before .before .before .before .before .before .before .pre .1 .1 .0 in
+    let w = a .w in
+    let is : w ≡ getD ws (a .at) 0 = c .before .before .before .before .before .before .before .before .before .before .before .before .before .before .before .before .before .before .pre .1 .1 .1 .0 in
+    let low = c .before .before .before .before .before .before .before .before .before .before .before .before .before .before .before .before .before .before .pre .1 .1 .1 .1 in
+    let f = call-facts (q .sig) ws (a .depth) (a .at) cs w (q .known .0) (q .known .1) is low in
+    omega (arith, room .log, f .inside, length-words (a .scratch .now))
+
+flatten-call-flatten-all-requires : (t : ℕ) → flatten-call-lts.Need-flatten-all-requires (
+  take-reads.Asked,
+  take-reads.Learnt,
+  leaves-reads.Asked,
+  leaves-reads.Learnt,
+  put-around-reads.Asked,
+  put-around-reads.Learnt,
+  flatten-all-below t,
+  flatten-all.Post,
+  put-atom-reads.Asked,
+  put-atom-reads.Learnt,
+) (flatten-call-at t) flatten-call.Post
+flatten-call-flatten-all-requires t c κs =
+    let a = c .before .before .before .before .before .before .before .before .before .before .before .before .before .before .before .before .before .before .args in
+    let ws = words (a .rule .now) in
+    let cs = words (a .counters .now) in
+    let s = words (a .scratch .now) in
+    let q = c .before .before .before .before .before .before .before .before .before .before .before .before .before .before .before .before .before .before .pre .1 .0 in
+    let room = c .before .before .before .before .before .before .before .before .before .before .before .before .before .before .before .before .before .before .pre .1 .1 .0 in
+    let w = a .w in
+    let is : w ≡ getD ws (a .at) 0 = c .before .before .before .before .before .before .before .before .before .before .before .before .before .before .before .before .before .before .pre .1 .1 .1 .0 in
+    let low = c .before .before .before .before .before .before .before .before .before .before .before .before .before .before .before .before .before .before .pre .1 .1 .1 .1 in
+    let f = call-facts (q .sig) ws (a .depth) (a .at) cs w (q .known .0) (q .known .1) is low in
+    let t = c .before .before .before .before .before .before .before .before .before .before .before .before .take in
+    let s1 = words (t .last .1 .0) in
+    let cs1 = words (t .last .0) in
+    let hc : length cs1 ≡ length cs = length-words-kept (t .last .0) (a .counters .now) (t .kept .0) in
+    let hs : length s1 ≡ length s = length-words-kept (t .last .1 .0) (a .scratch .now) (t .kept .1 .0) in
+    let l = c .before .before .before .before .before .leaves in
+    let sl = words (l .last .1 .1 .1 .0) in
+    let hl : length sl ≡ length s1 = length-words-kept (l .last .1 .1 .1 .0) (t .last .1 .0) (l .kept .1 .1 .1 .0) in
+    (omega (arith, c .before .before .before .before .before .before .before .before .before .before .before .before .before .before .before .before .before .before .pre .0, f .inside, f .deep), (record { sig = q .sig; known = (f .args, counted-kept (q .known .1) hc) }, room-in 1 _ room (omega arith) (hl ∙ hs)))
+
+flatten-call-same-length-5 : (t : ℕ) → flatten-call-lts.Need-same-length-5 (
+  take-reads.Asked,
+  take-reads.Learnt,
+  leaves-reads.Asked,
+  leaves-reads.Learnt,
+  put-around-reads.Asked,
+  put-around-reads.Learnt,
+  flatten-all-below t,
+  flatten-all.Post,
+  put-atom-reads.Asked,
+  put-atom-reads.Learnt,
+) (flatten-call-at t) flatten-call.Post
+flatten-call-same-length-5 t c = c .before .before .before .before .before .before .flatten-all .kept .1 .1 .1 .1 .0 ∙ c .before .before .before .before .before .before .before .before .before .before .before .before .before .before .before .before .before .before .before .take .kept .0
+
+flatten-call-same-length-6 : (t : ℕ) → flatten-call-lts.Need-same-length-6 (
+  take-reads.Asked,
+  take-reads.Learnt,
+  leaves-reads.Asked,
+  leaves-reads.Learnt,
+  put-around-reads.Asked,
+  put-around-reads.Learnt,
+  flatten-all-below t,
+  flatten-all.Post,
+  put-atom-reads.Asked,
+  put-atom-reads.Learnt,
+) (flatten-call-at t) flatten-call.Post
+flatten-call-same-length-6 t c = c .before .before .before .before .before .before .flatten-all .kept .1 .1 .1 .1 .1 .0 ∙ c .before .before .before .before .before .before .before .before .before .before .before .before .leaves .kept .1 .1 .1 .0 ∙ c .before .before .before .before .before .before .before .before .before .before .before .before .before .before .before .before .before .before .before .take .kept .1 .0
+
+flatten-call-returns-3 : (t : ℕ) → flatten-call-lts.Need-returns-3 (
+  take-reads.Asked,
+  take-reads.Learnt,
+  leaves-reads.Asked,
+  leaves-reads.Learnt,
+  put-around-reads.Asked,
+  put-around-reads.Learnt,
+  flatten-all-below t,
+  flatten-all.Post,
+  put-atom-reads.Asked,
+  put-atom-reads.Learnt,
+) (flatten-call-at t) flatten-call.Post
+flatten-call-returns-3 t c =
+    let a = c .before .before .before .before .before .before .before .before .before .before .before .before .before .before .before .before .before .before .before .before .before .before .before .before .before .args in
+    let ws = words (a .rule .now) in
+    let cs = words (a .counters .now) in
+    let s = words (a .scratch .now) in
+    let q = c .before .before .before .before .before .before .before .before .before .before .before .before .before .before .before .before .before .before .before .before .before .before .before .before .before .pre .1 .0 in
+    let room = c .before .before .before .before .before .before .before .before .before .before .before .before .before .before .before .before .before .before .before .before .before .before .before .before .before .pre .1 .1 .0 in
+    let w = a .w in
+    let is : w ≡ getD ws (a .at) 0 = c .before .before .before .before .before .before .before .before .before .before .before .before .before .before .before .before .before .before .before .before .before .before .before .before .before .pre .1 .1 .1 .0 in
+    let low = c .before .before .before .before .before .before .before .before .before .before .before .before .before .before .before .before .before .before .before .before .before .before .before .before .before .pre .1 .1 .1 .1 in
+    let f = call-facts (q .sig) ws (a .depth) (a .at) cs w (q .known .0) (q .known .1) is low in
+    let ar = atom-room-in (q .sig) ws s (a .depth - 1) (countOf w) (a .at) (a .to) (a .sp) (a .log) (f .args) room in
+    let t = c .before .before .before .before .before .before .before .before .before .before .before .before .before .before .before .before .before .before .before .take in
+    let s1 = words (t .last .1 .0) in
+    let cs1 = words (t .last .0) in
+    let hc : length cs1 ≡ length cs = length-words-kept (t .last .0) (a .counters .now) (t .kept .0) in
+    let hs : length s1 ≡ length s = length-words-kept (t .last .1 .0) (a .scratch .now) (t .kept .1 .0) in
+    let l = c .before .before .before .before .before .before .before .before .before .before .before .before .leaves in
+    let sl = words (l .last .1 .1 .1 .0) in
+    let hl : length sl ≡ length s1 = length-words-kept (l .last .1 .1 .1 .0) (t .last .1 .0) (l .kept .1 .1 .1 .0) in
+    let behind : Room (length ws) (a .at + 1) (a .to) (a .sp) (a .log + 1) (length s1) = room-in 1 _ room (omega arith) hs in
+    let most : l .result ≤ countOf w = omega (arith, l .ensures .0, run-in ws (a .at + 1) (countOf w) (ar .inside)) in
+    let k = c .before .before .before .before .before .before .flatten-all in
+    let s2 = words (k .last .1 .1 .1 .1 .1 .0) in
+    let cs2 = words (k .last .1 .1 .1 .1 .0) in
+    let hs2 : length s2 ≡ length s = length-words-kept (k .last .1 .1 .1 .1 .1 .0) (l .last .1 .1 .1 .0) (k .kept .1 .1 .1 .1 .1 .0) ∙ hl ∙ hs in
+    λ sig x n. stop-way sig ws (a .depth) (a .at) (a .to) (a .sp) (a .log) s cs x n w is low (t .result) s1 cs1 (t .ensures) room (c .before .before .before .before .before .before .before .before .before .before .before .before .before .before .if1 .left) hc (a .sp) s2 cs2 (k .result) (λ es. walked-anew sig ws (a .depth - 1) (countOf w) (l .result) (a .at + 1) (a .to) (a .sp) (a .log + 1) s1 cs1 sl es behind most (l .ensures .1) (k .ensures sig es (counted-kept n hc))) (c .if3 .taken)
+
+flatten-call-add-put-atom : (t : ℕ) → flatten-call-lts.Need-add-put-atom (
+  take-reads.Asked,
+  take-reads.Learnt,
+  leaves-reads.Asked,
+  leaves-reads.Learnt,
+  put-around-reads.Asked,
+  put-around-reads.Learnt,
+  flatten-all-below t,
+  flatten-all.Post,
+  put-atom-reads.Asked,
+  put-atom-reads.Learnt,
+) (flatten-call-at t) flatten-call.Post
+flatten-call-add-put-atom t c = omega (arith, c .before .before .before .before .before .before .before .before .before .before .before .before .before .before .before .before .before .before .before .before .before .before .before .before .before .before .pre .1 .1 .1 .1)
 
 flatten-call-cast-put-atom : (t : ℕ) → flatten-call-lts.Need-cast-put-atom (
   take-reads.Asked,
   take-reads.Learnt,
+  leaves-reads.Asked,
+  leaves-reads.Learnt,
+  put-around-reads.Asked,
+  put-around-reads.Learnt,
   flatten-all-below t,
   flatten-all.Post,
   put-atom-reads.Asked,
@@ -798,86 +1176,114 @@ flatten-call-cast-put-atom t c = search needs
 flatten-call-put-atom-requires : (t : ℕ) → flatten-call-lts.Need-put-atom-requires (
   take-reads.Asked,
   take-reads.Learnt,
+  leaves-reads.Asked,
+  leaves-reads.Learnt,
+  put-around-reads.Asked,
+  put-around-reads.Learnt,
   flatten-all-below t,
   flatten-all.Post,
   put-atom-reads.Asked,
   put-atom-reads.Learnt,
 ) (flatten-call-at t) flatten-call.Post
 flatten-call-put-atom-requires t c κs =
-    let a = c .before .before .before .before .before .before .before .before .before .before .before .before .before .before .before .before .before .before .before .before .before .args in
+    let a = c .before .before .before .before .before .before .before .before .before .before .before .before .before .before .before .before .before .before .before .before .before .before .before .before .before .before .args in
     let ws = words (a .rule .now) in
     let cs = words (a .counters .now) in
     let s = words (a .scratch .now) in
-    let q = c .before .before .before .before .before .before .before .before .before .before .before .before .before .before .before .before .before .before .before .before .before .pre .1 .0 in
-    let room = c .before .before .before .before .before .before .before .before .before .before .before .before .before .before .before .before .before .before .before .before .before .pre .1 .1 .0 in
+    let q = c .before .before .before .before .before .before .before .before .before .before .before .before .before .before .before .before .before .before .before .before .before .before .before .before .before .before .pre .1 .0 in
+    let room = c .before .before .before .before .before .before .before .before .before .before .before .before .before .before .before .before .before .before .before .before .before .before .before .before .before .before .pre .1 .1 .0 in
     let w = a .w in
-    let is : w ≡ getD ws (a .at) 0 = c .before .before .before .before .before .before .before .before .before .before .before .before .before .before .before .before .before .before .before .before .before .pre .1 .1 .1 .0 in
-    let low = c .before .before .before .before .before .before .before .before .before .before .before .before .before .before .before .before .before .before .before .before .before .pre .1 .1 .1 .1 in
+    let is : w ≡ getD ws (a .at) 0 = c .before .before .before .before .before .before .before .before .before .before .before .before .before .before .before .before .before .before .before .before .before .before .before .before .before .before .pre .1 .1 .1 .0 in
+    let low = c .before .before .before .before .before .before .before .before .before .before .before .before .before .before .before .before .before .before .before .before .before .before .before .before .before .before .pre .1 .1 .1 .1 in
     let f = call-facts (q .sig) ws (a .depth) (a .at) cs w (q .known .0) (q .known .1) is low in
-    let t = c .before .before .before .before .before .before .before .before .before .before .before .before .before .before .before .take in
+    let ar = atom-room-in (q .sig) ws s (a .depth - 1) (countOf w) (a .at) (a .to) (a .sp) (a .log) (f .args) room in
+    let t = c .before .before .before .before .before .before .before .before .before .before .before .before .before .before .before .before .before .before .before .before .take in
     let s1 = words (t .last .1 .0) in
     let cs1 = words (t .last .0) in
     let hc : length cs1 ≡ length cs = length-words-kept (t .last .0) (a .counters .now) (t .kept .0) in
     let hs : length s1 ≡ length s = length-words-kept (t .last .1 .0) (a .scratch .now) (t .kept .1 .0) in
+    let l = c .before .before .before .before .before .before .before .before .before .before .before .before .before .leaves in
+    let sl = words (l .last .1 .1 .1 .0) in
+    let hl : length sl ≡ length s1 = length-words-kept (l .last .1 .1 .1 .0) (t .last .1 .0) (l .kept .1 .1 .1 .0) in
+    let behind : Room (length ws) (a .at + 1) (a .to) (a .sp) (a .log + 1) (length s1) = room-in 1 _ room (omega arith) hs in
+    let most : l .result ≤ countOf w = omega (arith, l .ensures .0, run-in ws (a .at + 1) (countOf w) (ar .inside)) in
     let k = c .before .before .before .before .before .before .before .flatten-all in
     let s2 = words (k .last .1 .1 .1 .1 .1 .0) in
     let cs2 = words (k .last .1 .1 .1 .1 .0) in
-    let hs2 : length s2 ≡ length s = length-words-kept (k .last .1 .1 .1 .1 .1 .0) (t .last .1 .0) (k .kept .1 .1 .1 .1 .1 .0) ∙ hs in
+    let hs2 : length s2 ≡ length s = length-words-kept (k .last .1 .1 .1 .1 .1 .0) (l .last .1 .1 .1 .0) (k .kept .1 .1 .1 .1 .1 .0) ∙ hl ∙ hs in
     let sig = q .sig in
     let x = q .known .0 in
     let n = q .known .1 in
-    atom-room sig ws (a .depth) (a .at) (a .to) (a .sp) (a .log) s cs x n w is low (t .result) s1 cs1 (t .ensures) room (c .before .before .before .before .before .before .before .before .before .before .if1 .left) hc s2 cs2 (k .result) (λ es. k .ensures sig es (counted-kept n hc)) (length s2) (c .before .if2 .left) hs2
+    atom-room sig ws (a .depth) (a .at) (a .to) (a .sp) (a .log) s cs x n w is low (t .result) s1 cs1 (t .ensures) room (c .before .before .before .before .before .before .before .before .before .before .before .before .before .before .before .if1 .left) hc (a .sp) s2 cs2 (k .result) (λ es. walked-anew sig ws (a .depth - 1) (countOf w) (l .result) (a .at + 1) (a .to) (a .sp) (a .log + 1) s1 cs1 sl es behind most (l .ensures .1) (k .ensures sig es (counted-kept n hc))) (length s2) (c .before .if3 .left) hs2
 
-flatten-call-same-length-5 : (t : ℕ) → flatten-call-lts.Need-same-length-5 (
+flatten-call-same-length-7 : (t : ℕ) → flatten-call-lts.Need-same-length-7 (
   take-reads.Asked,
   take-reads.Learnt,
+  leaves-reads.Asked,
+  leaves-reads.Learnt,
+  put-around-reads.Asked,
+  put-around-reads.Learnt,
   flatten-all-below t,
   flatten-all.Post,
   put-atom-reads.Asked,
   put-atom-reads.Learnt,
 ) (flatten-call-at t) flatten-call.Post
-flatten-call-same-length-5 t c = c .before .before .before .before .before .before .before .before .before .before .flatten-all .kept .1 .1 .1 .1 .0 ∙ c .before .before .before .before .before .before .before .before .before .before .before .before .before .before .before .before .before .before .take .kept .0
+flatten-call-same-length-7 t c = c .before .before .before .before .before .before .before .before .before .before .flatten-all .kept .1 .1 .1 .1 .0 ∙ c .before .before .before .before .before .before .before .before .before .before .before .before .before .before .before .before .before .before .before .before .before .before .before .take .kept .0
 
-flatten-call-same-length-6 : (t : ℕ) → flatten-call-lts.Need-same-length-6 (
+flatten-call-same-length-8 : (t : ℕ) → flatten-call-lts.Need-same-length-8 (
   take-reads.Asked,
   take-reads.Learnt,
+  leaves-reads.Asked,
+  leaves-reads.Learnt,
+  put-around-reads.Asked,
+  put-around-reads.Learnt,
   flatten-all-below t,
   flatten-all.Post,
   put-atom-reads.Asked,
   put-atom-reads.Learnt,
 ) (flatten-call-at t) flatten-call.Post
-flatten-call-same-length-6 t c = c .before .before .put-atom .kept .0 ∙ c .before .before .before .before .before .before .before .before .before .before .flatten-all .kept .1 .1 .1 .1 .1 .0 ∙ c .before .before .before .before .before .before .before .before .before .before .before .before .before .before .before .before .before .before .take .kept .1 .0
+flatten-call-same-length-8 t c = c .before .before .put-atom .kept .0 ∙ c .before .before .before .before .before .before .before .before .before .before .flatten-all .kept .1 .1 .1 .1 .1 .0 ∙ c .before .before .before .before .before .before .before .before .before .before .before .before .before .before .before .before .leaves .kept .1 .1 .1 .0 ∙ c .before .before .before .before .before .before .before .before .before .before .before .before .before .before .before .before .before .before .before .before .before .before .before .take .kept .1 .0
 
-flatten-call-returns-3 : (t : ℕ) → flatten-call-lts.Need-returns-3 (
+flatten-call-returns-4 : (t : ℕ) → flatten-call-lts.Need-returns-4 (
   take-reads.Asked,
   take-reads.Learnt,
+  leaves-reads.Asked,
+  leaves-reads.Learnt,
+  put-around-reads.Asked,
+  put-around-reads.Learnt,
   flatten-all-below t,
   flatten-all.Post,
   put-atom-reads.Asked,
   put-atom-reads.Learnt,
 ) (flatten-call-at t) flatten-call.Post
-flatten-call-returns-3 t c =
-    let a = c .before .before .before .before .before .before .before .before .before .before .before .before .before .before .before .before .before .before .before .before .before .before .before .before .args in
+flatten-call-returns-4 t c =
+    let a = c .before .before .before .before .before .before .before .before .before .before .before .before .before .before .before .before .before .before .before .before .before .before .before .before .before .before .before .before .before .args in
     let ws = words (a .rule .now) in
     let cs = words (a .counters .now) in
     let s = words (a .scratch .now) in
-    let q = c .before .before .before .before .before .before .before .before .before .before .before .before .before .before .before .before .before .before .before .before .before .before .before .before .pre .1 .0 in
-    let room = c .before .before .before .before .before .before .before .before .before .before .before .before .before .before .before .before .before .before .before .before .before .before .before .before .pre .1 .1 .0 in
+    let q = c .before .before .before .before .before .before .before .before .before .before .before .before .before .before .before .before .before .before .before .before .before .before .before .before .before .before .before .before .before .pre .1 .0 in
+    let room = c .before .before .before .before .before .before .before .before .before .before .before .before .before .before .before .before .before .before .before .before .before .before .before .before .before .before .before .before .before .pre .1 .1 .0 in
     let w = a .w in
-    let is : w ≡ getD ws (a .at) 0 = c .before .before .before .before .before .before .before .before .before .before .before .before .before .before .before .before .before .before .before .before .before .before .before .before .pre .1 .1 .1 .0 in
-    let low = c .before .before .before .before .before .before .before .before .before .before .before .before .before .before .before .before .before .before .before .before .before .before .before .before .pre .1 .1 .1 .1 in
+    let is : w ≡ getD ws (a .at) 0 = c .before .before .before .before .before .before .before .before .before .before .before .before .before .before .before .before .before .before .before .before .before .before .before .before .before .before .before .before .before .pre .1 .1 .1 .0 in
+    let low = c .before .before .before .before .before .before .before .before .before .before .before .before .before .before .before .before .before .before .before .before .before .before .before .before .before .before .before .before .before .pre .1 .1 .1 .1 in
     let f = call-facts (q .sig) ws (a .depth) (a .at) cs w (q .known .0) (q .known .1) is low in
-    let t = c .before .before .before .before .before .before .before .before .before .before .before .before .before .before .before .before .before .before .take in
+    let ar = atom-room-in (q .sig) ws s (a .depth - 1) (countOf w) (a .at) (a .to) (a .sp) (a .log) (f .args) room in
+    let t = c .before .before .before .before .before .before .before .before .before .before .before .before .before .before .before .before .before .before .before .before .before .before .before .take in
     let s1 = words (t .last .1 .0) in
     let cs1 = words (t .last .0) in
     let hc : length cs1 ≡ length cs = length-words-kept (t .last .0) (a .counters .now) (t .kept .0) in
     let hs : length s1 ≡ length s = length-words-kept (t .last .1 .0) (a .scratch .now) (t .kept .1 .0) in
+    let l = c .before .before .before .before .before .before .before .before .before .before .before .before .before .before .before .before .leaves in
+    let sl = words (l .last .1 .1 .1 .0) in
+    let hl : length sl ≡ length s1 = length-words-kept (l .last .1 .1 .1 .0) (t .last .1 .0) (l .kept .1 .1 .1 .0) in
+    let behind : Room (length ws) (a .at + 1) (a .to) (a .sp) (a .log + 1) (length s1) = room-in 1 _ room (omega arith) hs in
+    let most : l .result ≤ countOf w = omega (arith, l .ensures .0, run-in ws (a .at + 1) (countOf w) (ar .inside)) in
     let k = c .before .before .before .before .before .before .before .before .before .before .flatten-all in
     let s2 = words (k .last .1 .1 .1 .1 .1 .0) in
     let cs2 = words (k .last .1 .1 .1 .1 .0) in
-    let hs2 : length s2 ≡ length s = length-words-kept (k .last .1 .1 .1 .1 .1 .0) (t .last .1 .0) (k .kept .1 .1 .1 .1 .1 .0) ∙ hs in
-    λ sig x n. done-way sig ws (a .depth) (a .at) (a .to) (a .sp) (a .log) s cs x n w is low (t .result) s1 cs1 (t .ensures) room (c .before .before .before .before .before .before .before .before .before .before .before .before .before .if1 .left) hc s2 cs2 (k .result) (λ es. k .ensures sig es (counted-kept n hc))
-    _ _ (c .before .before .before .before .if2 .left) (c .before .before .put-atom .ensures .0) hs2 (c .before .before .put-atom .ensures .1)
+    let hs2 : length s2 ≡ length s = length-words-kept (k .last .1 .1 .1 .1 .1 .0) (l .last .1 .1 .1 .0) (k .kept .1 .1 .1 .1 .1 .0) ∙ hl ∙ hs in
+    λ sig x n. done-way sig ws (a .depth) (a .at) (a .to) (a .sp) (a .log) s cs x n w is low (t .result) s1 cs1 (t .ensures) room (c .before .before .before .before .before .before .before .before .before .before .before .before .before .before .before .before .before .before .if1 .left) hc (a .sp) s2 cs2 (k .result) (λ es. walked-anew sig ws (a .depth - 1) (countOf w) (l .result) (a .at + 1) (a .to) (a .sp) (a .log + 1) s1 cs1 sl es behind most (l .ensures .1) (k .ensures sig es (counted-kept n hc)))
+    _ _ (c .before .before .before .before .if3 .left) (c .before .before .put-atom .ensures .0) (omega (arith, room .words, room .stack, room .log, hs2, ar .inside)) (c .before .before .put-atom .ensures .1)
 
 pub +flatten-all+flatten-call-spec : {M : Type 1} → statement M
 +flatten-all+flatten-call-spec = close μ-flatten-all μ-flatten-call (λ t. flatten-all-lts.spec (
@@ -915,6 +1321,10 @@ pub +flatten-all+flatten-call-spec : {M : Type 1} → statement M
     λ t. flatten-call-lts.spec (
       take-reads.Asked,
       take-reads.Learnt,
+      leaves-reads.Asked,
+      leaves-reads.Learnt,
+      put-around-reads.Asked,
+      put-around-reads.Learnt,
       flatten-all-below t,
       flatten-all.Post,
       put-atom-reads.Asked,
@@ -928,17 +1338,31 @@ pub +flatten-all+flatten-call-spec : {M : Type 1} → statement M
     (flatten-call-same-length t)
     (flatten-call-same-length-2 t)
     (flatten-call-returns t)
+    (flatten-call-add-leaves t)
+    (flatten-call-cast-leaves t)
+    (flatten-call-add-leaves-2 t)
+    (flatten-call-leaves-requires t)
+    (flatten-call-cast-if2 t)
+    (flatten-call-add-put-around t)
+    (flatten-call-cast-put-around t)
+    (flatten-call-put-around-requires t)
+    (flatten-call-add-t31 t)
+    (flatten-call-add-t32 t)
+    (flatten-call-add-t33 t)
+    (flatten-call-same-length-3 t)
+    (flatten-call-same-length-4 t)
+    (flatten-call-returns-2 t)
     (flatten-call-add-flatten-all t)
     (flatten-call-cast-flatten-all t)
     (flatten-call-sub-flatten-all t)
     (flatten-call-add-flatten-all-2 t)
     (flatten-call-flatten-all-requires t)
-    (flatten-call-same-length-3 t)
-    (flatten-call-same-length-4 t)
-    (flatten-call-returns-2 t)
-    (flatten-call-add-put-atom t)
-    (flatten-call-cast-put-atom t)
-    (flatten-call-put-atom-requires t)
     (flatten-call-same-length-5 t)
     (flatten-call-same-length-6 t)
     (flatten-call-returns-3 t)
+    (flatten-call-add-put-atom t)
+    (flatten-call-cast-put-atom t)
+    (flatten-call-put-atom-requires t)
+    (flatten-call-same-length-7 t)
+    (flatten-call-same-length-8 t)
+    (flatten-call-returns-4 t)
