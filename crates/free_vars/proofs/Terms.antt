@@ -25,12 +25,19 @@ module _ (G w : ℕ) where
   is-var = term-var (record { globals = G; valueEq = 0; flag = false; kinds = [] }) w
 
   module _ (t : Term) (is : t ≡ termOf G w) where
-    var-word : (v : ℕ) → t ≡ Var v → v ≡ w
+    pub var-word : (v : ℕ) → t ≡ Var v → v ≡ w
     var-word v e = ap termWord (sym e ∙ is) ∙ term-word G w
+
+    -- a variable, or not
+    pub var-yes : (v : ℕ) → t ≡ Var v → isVarWord G w ≡ true
+    var-yes v e = sym is-var ∙ ap isVarTerm (sym is ∙ e)
+
+    pub var-no : OneOf (1 ∷ 2 ∷ []) (tagOf the-type t) → isVarWord G w ≡ false
+    var-no h = sym is-var ∙ ap isVarTerm (sym is) ∙ not-var t h
 
     pub other-free : (last : ℕ) (seen : List ℕ) → OneOf (1 ∷ 2 ∷ []) (tagOf the-type t) → false ≡ firstFree G last seen w
     unfolding firstFree
-    other-free last seen h = ap (λ (b : Bool). b && (not (binds last) && not (elem w seen))) (sym (sym is-var ∙ ap isVarTerm (sym is) ∙ not-var t h))
+    other-free last seen h = ap (λ (b : Bool). b && (not (binds last) && not (elem w seen))) (sym (var-no h))
 
     pub bound-free : (last : ℕ) (seen : List ℕ) → binds last ≡ true → false ≡ firstFree G last seen w
     unfolding firstFree
@@ -38,6 +45,4 @@ module _ (G w : ℕ) where
 
     pub var-free : (last v : ℕ) (seen : List ℕ) → t ≡ Var v → binds last ≡ false → not (elem v seen) ≡ firstFree G last seen w
     unfolding firstFree
-    var-free last v seen e b =
-        let var : isVarWord G w ≡ true = sym is-var ∙ ap isVarTerm (sym is ∙ e) in
-        ap (λ (x : ℕ). not (elem x seen)) (var-word v e) ∙ sym (λ i. var i && (not (b i) && not (elem w seen)))
+    var-free last v seen e b = ap (λ (x : ℕ). not (elem x seen)) (var-word v e) ∙ sym (λ i. var-yes v e i && (not (b i) && not (elem w seen)))
