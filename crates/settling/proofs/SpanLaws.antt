@@ -10,7 +10,7 @@ use lib.Dec.{eqb, ltb}
 use lib.ListN.{drop, getD, getD-replicate, length, length-map, length-replicate, length-set, replicate, set, take, take-append-drop}
 use lib.Seq.{drop-set-lt, ext-getD, getD-set-other, getD-set-same, take-add, take-set-le}
 use borrow.Author.Tests.{eq-eqb, eqb-false, eqb-true, le-ltb, lt-ltb, ltb-false, ltb-true, ne-eqb}
-use Rattle.octets.proofs.Places.{getD-only-before, only-splice, only-then, only-wide}
+use Rattle.octets.proofs.Places.{getD-only-before, only-same, only-splice, only-then, only-wide}
 use Rattle.octets.proofs.Splice.{getD-part, getD-splice-after, getD-splice-before, getD-splice-inside, length-part, splice-is, splice-nil}
 use Rattle.octets.specs.Regions.{Only, part, splice, swap}
 use Rattle.settling.specs.Buckets.{bucketOf}
@@ -464,6 +464,48 @@ module _ (l : List ℕ) (at n x y table count : ℕ) (c : Spanned l at n table c
   everywhere-only : Only l everywhere at (at + n)
   everywhere-only = mapped-only (swap x y) l at n in-all
 
+  in-room : table + 2 * count ≤ length everywhere
+  in-room = omega (arith, c .room, everywhere-only .size)
+
+  -- the table stays as it was
+  table-word : (j : ℕ) → table ≤ j → getD everywhere j 0 ≡ getD l j 0
+  table-word j h = mapped-after (swap x y) l at n in-all j (omega (arith, c .beyond))
+
+  -- one bucket has every word in its span, whichever it is
+  pub replaced-whole : (m : List ℕ) → count ≡ 1 → m ≡ splice l at (map (swap x y) (part l at n)) → Replacing l m at n x y table count
+  replaced-whole m one e =
+      subst (λ (z : List ℕ). Replacing l z at n x y table count) (sym e)
+      (record {
+        spans = part everywhere table (2 * count);
+        words = only-spliced everywhere everywhere table (2 * count) (only-same everywhere table (table + 2 * count)) in-room;
+        size = length-part everywhere table (2 * count) in-room;
+        spanned = record {
+          some = c .some;
+          few = c .few;
+          beyond = c .beyond;
+          room = in-room;
+          covers = λ i a b. inside i a b;
+          ends = λ b h. end b h;
+        };
+      })
+    where
+      only-one : (v w : ℕ) → bucketOf count v ≡ bucketOf count w
+      only-one v w = omega (arith, bucket-in count v (c .some), bucket-in count w (c .some))
+
+      inside : (i : ℕ) → at ≤ i → i < at + n → InSpan everywhere table count i
+      inside i a b =
+          let k : ℕ = bucketOf count (getD l i 0) in
+          let is : k ≡ bucketOf count (getD everywhere i 0) = only-one (getD l i 0) (getD everywhere i 0) in
+          let low : getD everywhere (table + k) 0 ≤ i = omega (arith, table-word (table + k) (omega arith), c .covers i a b .low) in
+          let high : i < getD everywhere (table + count + k) 0 = omega (arith, table-word (table + count + k) (omega arith), c .covers i a b .high) in
+          record {
+            low = subst (λ (j : ℕ). getD everywhere (table + j) 0 ≤ i) is low;
+            high = subst (λ (j : ℕ). i < getD everywhere (table + count + j) 0) is high;
+          }
+
+      end : (b : ℕ) → b < count → getD everywhere (table + count + b) 0 ≤ at + n
+      end b h = omega (arith, table-word (table + count + b) (omega arith), c .ends b h)
+
   other-words : (i : ℕ) → (i < start) ⊎ (highest ≤ i) → getD everywhere i 0 ≡ getD l i 0
   other-words i k = go (ltb i at) refl (ltb i (at + n)) refl
     where
@@ -556,14 +598,8 @@ module _ (l : List ℕ) (at n x y table count : ℕ) (c : Spanned l at n table c
       is : m₂ ≡ wider
       is = e₂ ∙ (λ i. set (set (whole i) (table + newIn) (lesser (getD (whole i) (table + newIn) 0) (el i))) (table + newIn + count) (greater (getD (whole i) (table + newIn + count) 0) (eh i)))
 
-      in-room : table + 2 * count ≤ length everywhere
-      in-room = omega (arith, c .room, everywhere-only .size)
-
       only-one : Only everywhere wider table (table + 2 * count)
       only-one = wide-only everywhere table count newIn u v new-in in-room
-
-      table-word : (j : ℕ) → table ≤ j → getD everywhere j 0 ≡ getD l j 0
-      table-word j h = mapped-after (swap x y) l at n in-all j (omega (arith, c .beyond))
 
       turned : table + newIn + count ≡ table + count + newIn
       turned = omega arith

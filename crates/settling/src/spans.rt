@@ -115,11 +115,16 @@ fn replace_between(s: &mut [u8], start: usize, end: usize, x: u32, y: u32)
     octets::regions::replace(s, start, end - start, x, y);
 }
 
-// Replaces x by y among the n words at `at`, by running over the span of x. Then y may stand where x did.
+// Replaces x by y among the n words at `at`, by running over the span of x. Then y may stand where x did. One bucket has all words in its span
+// already, so there the table is neither asked nor changed.
 pub fn replace(s: &mut [u8], at: usize, n: usize, x: u32, y: u32, table: usize, count: usize)
     requires { ⌜ Spanned (words (now s)) at n table count ⌝ }
     ensures { λ _. ⌜ Replacing (words (now (s .entry))) (words (now (s .exit))) at n x y table count ⌝ }
 {
+    if count == 1 {
+        octets::regions::replace(s, at, n, x, y);
+        return;
+    }
     let from = table + bucket(x, count);
     let to = table + bucket(y, count);
     let low = octets::get(s, from);
