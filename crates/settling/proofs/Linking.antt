@@ -16,26 +16,23 @@ use Rattle.rules.specs.Words.{headWord}
 use Rattle.meaning.proofs.Lists.{length-words-append}
 use Rattle.meaning.proofs.WordLaws.{length-tab}
 use Rattle.meaning.specs.ReadBack.{EncodableTab}
-use Rattle.settling.specs.Buckets.{bucketIn, bucketOf, keyOf, mixAll}
+use Rattle.settling.specs.Buckets.{bucketIn, bucketOf, keyOf}
 use Rattle.settling.specs.Chains.{LinkAsks, LinkOneAsks, Linked, LinkedOne, LinksAt, MarksAt, bucketAt, lastIn}
 use Rattle.settling.specs.Standing.{TabsAt, sizeAt, tabsIn}
 use Rattle.settling.proofs.BucketLaws.{bucket-in}
 use Rattle.settling.proofs.ChainLaws.{Step, last-most, last-snoc, links-snoc, marks-snoc}
-use Rattle.settling.proofs.Standing.{FirstTab, first-tab, no-tab-left, none-passed, size-at, size-tab, tabs-is, tabs-read}
+use Rattle.settling.proofs.Standing.{FirstTab, first-tab, no-tab-left, none-passed, size-tab, tabs-is, tabs-read}
 
 -- ---- one atom
 
-pub size-some : (l : List ℕ) (p : ℕ) → 1 ≤ sizeAt l p
-size-some l p = omega (arith, size-at l p)
-
 pub bucket-there : (count : ℕ) (l : List ℕ) (p : ℕ) → 0 < count → bucketAt count l p < count
 unfolding bucketAt
-bucket-there count l p h = bucket-in count (mixAll 0 (part l p (sizeAt l p - 1))) h
+bucket-there count l p h = bucket-in count (keyOf (part l p (sizeAt l p - 1))) h
 
 -- as the code comes to it
-pub bucket-told : (count : ℕ) (l : List ℕ) (p z key b : ℕ) → z ≡ sizeAt l p → key ≡ mixAll 0 (part l p (z - 1)) → b ≡ bucketOf count key → b ≡ bucketAt count l p
+pub bucket-told : (count : ℕ) (l : List ℕ) (p z key b : ℕ) → z ≡ sizeAt l p → key ≡ keyOf (part l p (z - 1)) → b ≡ bucketOf count key → b ≡ bucketAt count l p
 unfolding bucketAt
-bucket-told count l p z key b e f g = g ∙ ap (bucketOf count) (f ∙ ap (λ (k : ℕ). mixAll 0 (part l p (k - 1))) e)
+bucket-told count l p z key b e f g = g ∙ ap (bucketOf count) (f ∙ ap (λ (k : ℕ). keyOf (part l p (k - 1))) e)
 
 -- a pair is two stores
 pair : (l : List ℕ) (p v w : ℕ) → p + 1 < length l → splice l p (v ∷ w ∷ []) ≡ set (set l p v) (p + 1) w
@@ -148,12 +145,12 @@ module _ (l : List ℕ) (from i links table count : ℕ) (asks : LinkOneAsks l f
 -- ---- an atom that stands has the bucket that its words tell
 
 bucket-tab : (count : ℕ) (t : Tab) (l : List ℕ) (p : ℕ) → EncodableTab t → At (tabWords t) l p → bucketAt count l p ≡ bucketIn count t
-unfolding bucketAt bucketIn keyOf
+unfolding bucketAt bucketIn
 bucket-tab count t l p f s =
     let ws : List ℕ = headWord (t .head) (suc (length (t .ins))) ∷ t .ins in
     let n : sizeAt l p - 1 ≡ length ws = omega (arith, size-tab t f l p s, length-tab t) in
     let front : At ws l p = at-left (t .out ∷ []) s in
-    ap (λ (x : List ℕ). bucketOf count (mixAll 0 x)) (ap (λ (k : ℕ). part l p k) n ∙ front .words)
+    ap (λ (x : List ℕ). bucketOf count (keyOf x)) (ap (λ (k : ℕ). part l p k) n ∙ front .words)
 
 -- words that are as they were
 tabs-same : (ts : List Tab) (l m : List ℕ) (p n : ℕ) → TabsAt ts l p n → length m ≡ length l → ((k : ℕ) → p ≤ k → k < p + n → getD m k 0 ≡ getD l k 0) → TabsAt ts m p n
@@ -284,6 +281,7 @@ module _ (l m : List ℕ) (from n links table count i : ℕ) (g : Linking l m fr
       let a = g .asks in
       record {
         here = omega (arith, g .only .size, a .beyond, a .room);
+        output = linking-size .0;
         whole = omega (arith, g .only .size, linking-size, a .beyond, a .room);
         some = a .some;
         few = a .few;

@@ -8,7 +8,7 @@ use lib.ListN.{length, getD}
 use Rattle.octets.specs.Regions.{Only, part}
 use Rattle.rules.specs.Flat.{Tab, tabWords}
 use Rattle.rules.specs.RemoveDupVars.{seen}
-use Rattle.settling.specs.Buckets.{mixAll, bucketOf, bucketIn}
+use Rattle.settling.specs.Buckets.{keyOf, bucketOf, bucketIn}
 use Rattle.settling.specs.Standing.{sizeAt, tabsIn, TabsAt}
 
 -- ---- what links and marks say
@@ -43,10 +43,11 @@ MarksAt firsts (t ∷ ts) i l links =
 
 -- the bucket of the atom at p, by its words
 unfoldable pub bucketAt : (count : ℕ) → List ℕ → ℕ → ℕ
-bucketAt count l p = bucketOf count (mixAll 0 (part l p (sizeAt l p - 1)))
+bucketAt count l p = bucketOf count (keyOf (part l p (sizeAt l p - 1)))
 
 pub record LinkOneAsks (l : List ℕ) (from i links table count : ℕ) : Type 0 where
   pub here : from + i < length l
+  pub output : 2 ≤ sizeAt l (from + i)
   pub whole : from + i + sizeAt l (from + i) ≤ length l
   pub some : 0 < count
   pub few : count < 0x1_0000_0000

@@ -4,7 +4,7 @@ ghost use Prim.Native.Nat.{_+_, _≤_, _<_};
 ghost use lib.ListN.{length, replicate};
 ghost use Rattle.octets.specs.Words.{words};
 ghost use Rattle.octets.specs.Regions.{part, splice};
-ghost use Rattle.settling.specs.Buckets.{mix, mixAll, bucketOf};
+ghost use Rattle.settling.specs.Buckets.{mix, mixAll, keyOf, bucketOf};
 
 // A key with one word more.
 fn mixed(k: u32, w: u32) -> u32
@@ -13,8 +13,8 @@ fn mixed(k: u32, w: u32) -> u32
     ((k as u64 * 0x9e37_79b1 + w as u64) % 0x1_0000_0000) as u32
 }
 
-// The key of the n words at p.
-pub fn key(s: &[u8], p: usize, n: usize) -> u32
+// The n words at p mixed into one, in their order.
+fn mix_all(s: &[u8], p: usize, n: usize) -> u32
     requires { ⌜ p + n ≤ length (words (now s)) ⌝ }
     ensures { λ r. ⌜ r ≡ mixAll 0 (part (words (now (s .entry))) p n) ⌝ }
 {
@@ -25,6 +25,21 @@ pub fn key(s: &[u8], p: usize, n: usize) -> u32
         i += 1;
     }
     k
+}
+
+// The key of the n words at p, an atom's head and inputs. Most atoms have at most two inputs: those take no loop.
+pub fn key(s: &[u8], p: usize, n: usize) -> u32
+    requires { ⌜ (0 < n) × (p + n ≤ length (words (now s))) ⌝ }
+    ensures { λ r. ⌜ r ≡ keyOf (part (words (now (s .entry))) p n) ⌝ }
+{
+    let k = mixed(octets::get(s, p), octets::get(s, p + n - 1));
+    if n < 3 {
+        return k;
+    }
+    if 3 < n {
+        return mix_all(s, p, n);
+    }
+    mixed(k, octets::get(s, p + 1))
 }
 
 // The bucket of a word, of so many. A product's upper half spreads words over any number of buckets without a division.

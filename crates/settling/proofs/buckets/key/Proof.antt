@@ -1,80 +1,76 @@
--- `buckets::key` meets its contract: the key of the words read so far. Assumes nothing.
-use mathlib.Core.Path.{_∙_, _≡_, ap, sym}
-use Prim.Native.Nat.{_+_, _-_, _<_, _≤_, ℕ}
+-- `buckets::key` meets its contract: the key is that of the words read. Assumes nothing.
 use native.Mathlib.Omega.{arith}
-use lib.ListN.{length}
 use borrow.Author.Needs.{needs}
 use Rattle.octets.proofs.Words.{length-words}
-use Rattle.octets.specs.Regions.{part}
 use Rattle.octets.specs.Words.{words}
-use Rattle.settling.specs.Buckets.{mix, mixAll}
-use Rattle.settling.proofs.BucketLaws.{mix-more, mix-none}
+use Rattle.settling.proofs.BucketLaws.{key-long, key-short, key-three}
 use Rattle.settling.proofs.buckets.key.Statement.{statement}
 use Rattle.settling.proofs.buckets.key.Tie as tie
-use Rattle.settling.proofs.buckets.key.Reads as reads
-use Rattle.settling.proofs.buckets.key.Lts as lts
-use Rattle.octets.proofs.get.Reads as get-reads
-use Rattle.settling.proofs.buckets.mixed.Reads as mixed-reads
 
-abbrev Inv-loop : tie.InvT-loop
-Inv-loop s p n k₀ i₀ k i = (i ≤ n) × (k ≡ mixAll 0 (part (words s) p i))
+get-requires : tie.Need-get-requires
+get-requires c κs = search needs
 
-abbrev μ-loop : tie.MeasureT-loop
-μ-loop s p n k₀ i₀ k i = n - i
+add-get : tie.Need-add-get
+add-get c = omega (arith, c .before .before .pre, length-words (c .before .before .args .s .now))
 
-loop-holds : tie.Need-loop-holds Inv-loop μ-loop
-loop-holds c = (search needs, sym (mix-none (words (c .before .args .s .now)) (c .before .args .p)))
+sub-get : tie.Need-sub-get
+sub-get c = search needs
 
-add-get : tie.Need-add-get Inv-loop μ-loop
-add-get c =
-    let a = c .before .before .before .args in
-    let l = words (a .s .now) in
-    let i = c .before .loop .i in
-    let top = length-words (a .s .now) in
-    omega arith
+get-requires-2 : tie.Need-get-requires-2
+get-requires-2 c κs = search needs
 
-get-requires : tie.Need-get-requires Inv-loop μ-loop
-get-requires c κs =
-    let a = c .before .before .before .args in
-    let l = words (a .s .now) in
-    let i = c .before .loop .i in
-    let top = length-words (a .s .now) in
-    omega arith
-
-mixed-requires : tie.Need-mixed-requires Inv-loop μ-loop
+mixed-requires : tie.Need-mixed-requires
 mixed-requires c κs = search needs
 
-add-i : tie.Need-add-i Inv-loop μ-loop
-add-i c = search needs
-
-loop-less : tie.Need-loop-less Inv-loop μ-loop
-loop-less c = search needs
-
-loop-again : tie.Need-loop-again Inv-loop μ-loop
-loop-again c =
-    let a = c .before .before .before .before .before .args in
-    let l = words (a .s .now) in
-    let i = c .before .before .before .loop .i in
-    let top = length-words (a .s .now) in
-    let here : a .p + i < length l = omega arith in
-    (omega arith, c .mixed .ensures ∙ (λ j. mix (c .before .before .before .loop .inv .1 j) (c .before .get .ensures .is j)) ∙ sym (mix-more l (a .p) i here))
-
-returns : tie.Need-returns Inv-loop μ-loop
+returns : tie.Need-returns
 returns c =
-    let done : c .before .loop .i ≡ c .before .before .before .args .n = omega arith in
-    c .before .loop .inv .1 ∙ ap (λ (x : ℕ). mixAll 0 (part (words (c .before .before .before .args .s .now)) (c .before .before .before .args .p) x)) done
+    let c₁ = c .before in
+    let c₄ = c₁ .before .before .before .before in
+    let a = c₄ .args in
+    key-short (words (a .s .now)) (a .p) (a .n) (c₁ .before .before .get .result) (c₁ .before .get2 .result) (c₁ .mixed .result) (c₄ .pre .0) (c₄ .pre .1) (c₁ .before .before .get .ensures .is) (c₁ .before .get2 .ensures .is) (c₁ .mixed .ensures)
+    (c .if1 .taken)
+
+mix-all-requires : tie.Need-mix-all-requires
+mix-all-requires c κs = search needs
+
+returns-2 : tie.Need-returns-2
+returns-2 c =
+    let c₁ = c .before .before .before in
+    let c₄ = c₁ .before .before .before .before in
+    let a = c₄ .args in
+    key-long (words (a .s .now)) (a .p) (a .n) (c₁ .before .before .get .result) (c₁ .before .get2 .result) (c₁ .mixed .result) (c₄ .pre .0) (c₄ .pre .1) (c₁ .before .before .get .ensures .is) (c₁ .before .get2 .ensures .is) (c₁ .mixed .ensures)
+    _ (c .before .if2 .taken) (c .mix-all .ensures)
+
+add-get-2 : tie.Need-add-get-2
+add-get-2 c = omega (arith, c .before .before .before .before .before .before .pre, length-words (c .before .before .before .before .before .before .args .s .now))
+
+get-requires-3 : tie.Need-get-requires-3
+get-requires-3 c κs = search needs
+
+mixed-requires-2 : tie.Need-mixed-requires-2
+mixed-requires-2 c κs = search needs
+
+returns-3 : tie.Need-returns-3
+returns-3 c =
+    let c₁ = c .before .before .before .before in
+    let c₄ = c₁ .before .before .before .before in
+    let a = c₄ .args in
+    key-three (words (a .s .now)) (a .p) (a .n) (c₁ .before .before .get .result) (c₁ .before .get2 .result) (c₁ .mixed .result) (c₄ .pre .0) (c₄ .pre .1) (c₁ .before .before .get .ensures .is) (c₁ .before .get2 .ensures .is) (c₁ .mixed .ensures)
+    _ (c .before .get3 .result) (omega arith) (omega arith) (c .before .get3 .ensures .is) (c .mixed2 .ensures)
 
 pub key-spec : {M : Type 1} → statement M
 key-spec =
     tie.close
     (tie.spec
-    Inv-loop
-    μ-loop
-    loop-holds
-    add-get
     get-requires
+    add-get
+    sub-get
+    get-requires-2
     mixed-requires
-    add-i
-    loop-less
-    loop-again
-    returns)
+    returns
+    mix-all-requires
+    returns-2
+    add-get-2
+    get-requires-3
+    mixed-requires-2
+    returns-3)

@@ -5,7 +5,7 @@ use native.Mathlib.Omega.{arith}
 use Rattle.octets.proofs.Words.{length-words}
 use Rattle.octets.specs.Words.{words}
 use Rattle.settling.specs.Chains.{bucketAt}
-use Rattle.settling.proofs.Linking.{bucket-told, last-in, linked-one, pair-in, place-still, size-some}
+use Rattle.settling.proofs.Linking.{bucket-told, last-in, linked-one, pair-in, place-still}
 use borrow.Author.Needs.{needs}
 use Rattle.settling.proofs.chains.link_one.Statement.{statement}
 use Rattle.settling.proofs.chains.link_one.Tie as tie
@@ -24,7 +24,7 @@ add-key c = search needs
 
 -- src/chains.rt:20:41
 sub-key : tie.Need-sub-key
-sub-key c = omega (arith, c .before .size .ensures, size-some (words (c .before .before .before .before .args .s .now)) (c .before .before .before .before .args .from + c .before .before .before .before .args .i))
+sub-key c = search needs
 
 -- src/chains.rt:20:9
 key-requires : tie.Need-key-requires
