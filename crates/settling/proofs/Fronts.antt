@@ -31,7 +31,7 @@ use Rattle.settling.specs.Standing.{AtomsAt, TabsAt, atomsIn}
 use Rattle.settling.proofs.Replacing.{ask-is, made}
 use Rattle.settling.proofs.Resolving.{resolve-atom, resolve-cons}
 use Rattle.settling.proofs.SpanLaws.{spanned-before, spanned-tail}
-use Rattle.settling.proofs.Standing.{atoms-before, atoms-join, bare-resolve, equality-size, no-tabs, tabs-before, tabs-join}
+use Rattle.settling.proofs.Standing.{atoms-before, atoms-join, bare-resolve, no-tabs, tabs-before, tabs-join}
 use Rattle.rules.specs.Canonicalize as canon
 
 -- ---- an equality that asks for nothing: its terms are one, or none of them is a variable
@@ -145,14 +145,7 @@ module _ (s : Sig) (l : List ℕ) (p n to d table buckets : ℕ) (c : FrontOneAs
       three = omega (arith, c .spanned .beyond, c .binds, c .top)
 
   pub front-resolve-asks : ResolveOneAsks s l p to
-  front-resolve-asks =
-      let z = equality-size l p (c .equality) in
-      record {
-        here = omega (arith, c .spanned .beyond, c .binds, c .top);
-        whole = omega (arith, c .spanned .beyond, c .binds, c .top);
-        clear = omega (arith, c .spanned .beyond, c .clear);
-        room = c .room;
-      }
+  front-resolve-asks = record { whole = omega (arith, c .spanned .beyond, c .binds, c .top); room = c .room }
 
   -- the bindings begin before d just where something was asked
   pub front-asked : (m : List ℕ) (e : ℕ) → e ≡ placeAfter (askAt s l p) d → Stepped (askAt s l p) l m (p + 3) (n - 3) d table buckets → (e ≡ d → ⊥)

@@ -4,6 +4,7 @@ pub mod Standing
 pub mod BucketLaws
 pub mod SpanLaws
 pub mod Replacing
+pub mod Runs
 pub mod Resolving
 pub mod Fronts
 pub mod Canonicalizing

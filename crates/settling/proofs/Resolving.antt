@@ -1,45 +1,41 @@
--- Resolving words, atom by atom, is `resolve`. Assumes nothing.
+-- Resolving words, run by run and equality by equality, is `resolve`. Assumes nothing.
 use mathlib.Core.Bool.{Bool, false, true}
 use mathlib.Core.List.{List, [], _++_, _∷_, append-assoc, append-nil}
 use mathlib.Core.Path.{_∙_, _≡_, ap, refl, subst, sym}
 use Prim.Native.Nat.{_+_, _-_, _<_, _≤_, ℕ}
 use native.Mathlib.Omega.{arith}
 use lib.ListN.{getD, length}
-use borrow.Author.Tests.{eq-eqb, ne-eqb}
-use Rattle.octets.proofs.Places.{at-first, at-splice, at-word, only-same, only-splice, only-then, only-wide}
+use Rattle.octets.proofs.Places.{at-splice, at-word, only-same, only-splice, only-then, only-wide}
 use Rattle.octets.specs.Regions.{At, Only, part, splice}
 use Rattle.rules.specs.Canonicalize.{resolve, resolveEq}
 use Rattle.rules.specs.Flat.{Atom, Tab, atomWords, eqn, tab, tabWords, wordsOf}
 use Rattle.rules.specs.Signature.{Sig, sameTerm}
-use Rattle.rules.specs.Words.{equalityWord, limit12}
+use Rattle.rules.specs.Words.{limit12}
 use Rattle.meaning.proofs.Encodable.{resolve-encodable}
 use Rattle.meaning.proofs.Lists.{length-words-append}
-use Rattle.meaning.specs.ReadBack.{Encodable}
-use Rattle.settling.specs.Canonicalize.{ResolveAsks, ResolveOneAsks, Resolved, resolveAt, resolveFor, resolveTerms}
-use Rattle.settling.specs.Standing.{AtomsAt, TabsAt, atomsIn, sizeAt}
-use Rattle.settling.proofs.Standing.{First, atoms-before, bare-resolve, first-atom, no-tabs, none-left, size-tab, tabs-before, tabs-join}
+use Rattle.meaning.proofs.MergePass.{IsEqn}
+use Rattle.settling.specs.Canonicalize.{ResolveAsks, ResolveOneAsks, Resolved, othersIn, resolveAt, resolveTerms, untilEqn}
+use Rattle.settling.specs.Standing.{AtomsAt, TabsAt, atomsIn}
+use Rattle.settling.proofs.Runs.{StartsEqn, from-starts, fromEqn, run-inside, run-rest, run-tabs, until-resolve}
+use Rattle.settling.proofs.Standing.{First, atoms-before, atoms-is, atoms-read, bare-resolve, first-atom, no-tabs, none-left, tabs-before, tabs-join}
 
--- ---- one atom
+-- ---- one equality
 
-module _ (s : Sig) (l : List ℕ) (p : ℕ) where
-  pub resolve-copy : (getD l p 0 ≡ equalityWord → ⊥) → resolveAt s l p ≡ part l p (sizeAt l p)
-  unfolding resolveAt
-  resolve-copy h = ap (λ (c : Bool). resolveFor c s l p) (ne-eqb (getD l p 0) equalityWord h)
+pub resolve-pair : (s : Sig) (l : List ℕ) (p a b : ℕ) → a ≡ getD l (p + 1) 0 → b ≡ getD l (p + 2) 0 → resolveTerms (sameTerm a b) s a b ≡ resolveAt s l p
+unfolding resolveAt
+resolve-pair s l p a b ea eb = λ i. resolveTerms (sameTerm (ea i) (eb i)) s (ea i) (eb i)
 
-  pub resolve-pair : (a b : ℕ) → getD l p 0 ≡ equalityWord → a ≡ getD l (p + 1) 0 → b ≡ getD l (p + 2) 0 → resolveTerms (sameTerm a b) s a b ≡ resolveAt s l p
-  unfolding resolveAt
-  resolve-pair a b h ea eb =
-      (λ i. resolveTerms (sameTerm (ea i) (eb i)) s (ea i) (eb i)) ∙ ap (λ (c : Bool). resolveFor c s l p) (sym (eq-eqb (getD l p 0) equalityWord h))
+pub resolve-atom : (s : Sig) (l : List ℕ) (p : ℕ) (x : Atom) → IsEqn x → At (atomWords x) l p → resolveAt s l p ≡ wordsOf tabWords (resolve s (x ∷ []))
+resolve-atom s l p (tab t) h k = absurd h
+resolve-atom s l p (eqn r a b) h k = sym (resolve-pair s l p a b (sym (at-word 1 k (omega arith))) (sym (at-word 2 k (omega arith)))) ∙ go (sameTerm a b)
+  where
+    go : (c : Bool) → resolveTerms c s a b ≡ wordsOf tabWords (resolveEq s c r a b [])
+    go true = refl
+    go false = refl
 
-  pub resolve-atom : (x : Atom) → Encodable x → At (atomWords x) l p → resolveAt s l p ≡ wordsOf tabWords (resolve s (x ∷ []))
-  resolve-atom (eqn r a b) f k = sym (resolve-pair a b (at-first k) (sym (at-word 1 k (omega arith))) (sym (at-word 2 k (omega arith)))) ∙ go (sameTerm a b)
-    where
-      go : (c : Bool) → resolveTerms c s a b ≡ wordsOf tabWords (resolveEq s c r a b [])
-      go true = refl
-      go false = refl
-  resolve-atom (tab t) f k =
-      resolve-copy (λ e. let w = sym (at-first k) ∙ e in omega arith)
-      ∙ ap (part l p) (size-tab t f l p k) ∙ k .words ∙ sym (append-nil (tabWords t))
+eqn-size : (x : Atom) → IsEqn x → length (atomWords x) ≡ 3
+eqn-size (tab t) h = absurd h
+eqn-size (eqn p a b) h = refl
 
 pub resolve-cons : (s : Sig) (x : Atom) (xs : List Atom) → resolve s (x ∷ xs) ≡ resolve s (x ∷ []) ++ resolve s xs
 resolve-cons s (tab t) xs = refl
@@ -61,6 +57,11 @@ pub record Resolving (s : Sig) (l m : List ℕ) (from n to i k : ℕ) : Type 0 w
   pub inside : i ≤ n
   pub room : k + length (wordsOf tabWords (resolve s todo)) ≡ length (wordsOf tabWords (resolve s (atomsIn l from n)))
 
+-- a run is carried, so that an equality is next, if anything
+pub record Ran (s : Sig) (l m : List ℕ) (from n to i k : ℕ) : Type 0 where
+  pub here : Resolving s l m from n to i k
+  pub first : StartsEqn (here .todo)
+
 module _ (s : Sig) (l : List ℕ) (from n to : ℕ) (c : ResolveAsks s l from n to) where
   pub resolving-start : Resolving s l l from n to 0 0
   resolving-start =
@@ -81,13 +82,87 @@ module _ (s : Sig) (l : List ℕ) (from n to : ℕ) (c : ResolveAsks s l from n 
       minus : (p : ℕ) → p ≡ p - 0
       minus p = omega arith
 
-  -- the atom that is next, and the words that it becomes
-  module _ (m : List ℕ) (i k : ℕ) (w : Resolving s l m from n to i k) (h : i < n) where
-    pub resolve-here : First (w .todo) m (from + i) (n - i)
+  -- a run of other atoms is carried: r words
+  module _ (m : List ℕ) (i k : ℕ) (w : Resolving s l m from n to i k) where
+    pub others-here : AtomsAt (atomsIn m (from + i) (n - i)) m (from + i) (n - i)
+    others-here = atoms-read m (from + i) (n - i) (w .todo) (w .atoms)
+
+    module _ (r : ℕ) (e : r ≡ othersIn m (from + i) (n - i)) where
+      abbrev run : List Tab
+      run = untilEqn (w .todo)
+
+      abbrev rest : List Atom
+      rest = fromEqn (w .todo)
+
+      run-size : r ≡ length (wordsOf tabWords run)
+      run-size = e ∙ ap (λ (xs : List Atom). length (wordsOf tabWords (untilEqn xs))) (atoms-is m (from + i) (n - i) (w .todo) (w .atoms))
+
+      stands : TabsAt run m (from + i) r
+      stands = run-tabs (w .todo) m (from + i) (n - i) r (w .atoms) run-size
+
+      inside : i + r ≤ n
+      inside = omega (arith, w .inside, run-inside (w .todo) m (from + i) (n - i) r (w .atoms) run-size)
+
+      run-sizes : length (wordsOf tabWords (resolve s (w .todo))) ≡ r + length (wordsOf tabWords (resolve s rest))
+      run-sizes =
+          ap (λ (ts : List Tab). length (wordsOf tabWords ts)) (until-resolve s (w .todo)) ∙ length-words-append tabWords run (resolve s rest)
+          ∙ ap (λ (j : ℕ). j + length (wordsOf tabWords (resolve s rest))) (sym run-size)
+
+      room : to + k + r ≤ length m
+      room = omega (arith, w .room, run-sizes, c .room, w .only .size)
+
+      pub run-asks : (to + k + r ≤ length m) × (from + i + r ≤ length m) × (from + i + r ≤ to + k) × (i + r ≤ n)
+      run-asks = (room, stands .within, omega (arith, inside, c .clear), inside)
+
+      words-are : part m (from + i) r ≡ wordsOf tabWords run
+      words-are = ap (part m (from + i)) run-size ∙ stands .at .words
+
+      pub resolving-run : (m₂ : List ℕ) → m₂ ≡ splice m (to + k) (part m (from + i) r) → Ran s l m₂ from n to (i + r) (k + r)
+      resolving-run m₂ em =
+          let new : List ℕ = wordsOf tabWords run in
+          let o : Only m (splice m (to + k) new) (to + k) (to + (k + r)) = only-splice m (to + k) new (to + (k + r)) (omega (arith, run-size)) (omega (arith, room)) in
+          let behind : TabsAt run (splice m (to + k) new) (to + k) r =
+          record {
+            fits = stands .fits;
+            bare = stands .bare;
+            size = run-size;
+            at = at-splice m (to + k) new (omega (arith, room, run-size));
+            within = omega (arith, o .size, room);
+          } in
+          subst (λ (x : List ℕ). Ran s l x from n to (i + r) (k + r)) (sym (em ∙ ap (splice m (to + k)) words-are))
+          (record {
+            here = record {
+              written = w .written ++ run;
+              todo = rest;
+              same = w .same ∙ ap (λ (ts : List Tab). w .written ++ ts) (until-resolve s (w .todo)) ∙ sym (append-assoc (w .written) run (resolve s rest));
+              atoms = atoms-before o (run-rest (w .todo) m (from + i) (n - i) r (w .atoms) run-size (from + (i + r)) (n - (i + r)) (omega arith) (omega arith)) (omega (arith, inside, c .clear));
+              tabs = tabs-join (w .written) run (splice m (to + k) new) to k (to + k) r (tabs-before o (w .tabs) (omega arith)) behind refl;
+              only = only-then (only-wide to (to + (k + r)) (w .only) (omega arith) (omega arith)) (only-wide to (to + (k + r)) o (omega arith) (omega arith));
+              inside = inside;
+              room = omega (arith, w .room, run-sizes);
+            };
+            first = from-starts (w .todo);
+          })
+
+  -- then an equality is next, and the words that it becomes
+  module _ (m : List ℕ) (i k : ℕ) (g : Ran s l m from n to i k) (h : i < n) where
+    abbrev w : Resolving s l m from n to i k
+    w = g .here
+
+    resolve-here : First (w .todo) m (from + i) (n - i)
     resolve-here = first-atom (w .todo) m (from + i) (n - i) (w .atoms) (omega arith)
 
+    is-eqn : IsEqn (resolve-here .atom)
+    is-eqn = subst (λ (xs : List Atom). StartsEqn xs) (resolve-here .is) (g .first)
+
+    three : length (atomWords (resolve-here .atom)) ≡ 3
+    three = eqn-size (resolve-here .atom) is-eqn
+
+    pub equality-inside : i + 3 ≤ n
+    equality-inside = omega (arith, three, resolve-here .inside)
+
     wrote : resolveAt s m (from + i) ≡ wordsOf tabWords (resolve s (resolve-here .atom ∷ []))
-    wrote = resolve-atom s m (from + i) (resolve-here .atom) (resolve-here .fits) (resolve-here .stands)
+    wrote = resolve-atom s m (from + i) (resolve-here .atom) is-eqn (resolve-here .stands)
 
     split : resolve s (w .todo) ≡ resolve s (resolve-here .atom ∷ []) ++ resolve s (resolve-here .rest)
     split = ap (resolve s) (resolve-here .is) ∙ resolve-cons s (resolve-here .atom) (resolve-here .rest)
@@ -99,17 +174,11 @@ module _ (s : Sig) (l : List ℕ) (from n to : ℕ) (c : ResolveAsks s l from n 
         ∙ ap (λ (ws : List ℕ). length ws + length (wordsOf tabWords (resolve s (resolve-here .rest)))) (sym wrote)
 
     pub resolve-one-asks : ResolveOneAsks s m (from + i) (to + k)
-    resolve-one-asks =
-        record {
-          here = omega (arith, w .atoms .within);
-          whole = omega (arith, resolve-here .size, resolve-here .inside, w .atoms .within);
-          clear = omega (arith, resolve-here .size, resolve-here .inside, c .clear);
-          room = omega (arith, w .room, sizes, c .room, w .only .size);
-        }
+    resolve-one-asks = record { whole = omega (arith, equality-inside, w .atoms .within); room = omega (arith, w .room, sizes, c .room, w .only .size) }
 
-    pub resolving-next : s .valueEq < limit12 → (m₂ : List ℕ) (i₂ k₂ : ℕ) → k₂ ≡ k + length (resolveAt s m (from + i))
-        → m₂ ≡ splice m (to + k) (resolveAt s m (from + i)) → i₂ ≡ i + sizeAt m (from + i) → Resolving s l m₂ from n to i₂ k₂
-    resolving-next v m₂ i₂ k₂ ek em ei =
+    pub resolving-next : s .valueEq < limit12 → (m₂ : List ℕ) (k₂ : ℕ) → k₂ ≡ k + length (resolveAt s m (from + i))
+        → m₂ ≡ splice m (to + k) (resolveAt s m (from + i)) → Resolving s l m₂ from n to (i + 3) k₂
+    resolving-next v m₂ k₂ ek em =
         let new : List ℕ = resolveAt s m (from + i) in
         let one : List Tab = resolve s (resolve-here .atom ∷ []) in
         let o : Only m (splice m (to + k) new) (to + k) (to + k₂) = only-splice m (to + k) new (to + k₂) (omega arith) (omega (arith, resolve-one-asks .room)) in
@@ -123,16 +192,16 @@ module _ (s : Sig) (l : List ℕ) (from n to : ℕ) (c : ResolveAsks s l from n 
           at = at;
           within = omega (arith, o .size, resolve-one-asks .room);
         } in
-        subst (λ (x : List ℕ). Resolving s l x from n to i₂ k₂) (sym em)
+        subst (λ (x : List ℕ). Resolving s l x from n to (i + 3) k₂) (sym em)
         (record {
           written = w .written ++ one;
           todo = resolve-here .rest;
           same = w .same ∙ ap (λ (ts : List Tab). w .written ++ ts) split ∙ sym (append-assoc (w .written) one (resolve s (resolve-here .rest)));
-          atoms = atoms-before o (resolve-here .after (from + i₂) (n - i₂) (omega (arith, resolve-here .size)) (omega (arith, resolve-here .size))) (omega (arith, resolve-here .size, resolve-here .inside, c .clear));
+          atoms = atoms-before o (resolve-here .after (from + (i + 3)) (n - (i + 3)) (omega (arith, three)) (omega (arith, three))) (omega (arith, equality-inside, c .clear));
           tabs = subst (λ (q : ℕ). TabsAt (w .written ++ one) (splice m (to + k) new) to q) (sym ek)
               (tabs-join (w .written) one (splice m (to + k) new) to k (to + k) (length new) (tabs-before o (w .tabs) (omega arith)) behind refl);
           only = only-then (only-wide to (to + k₂) (w .only) (omega arith) (omega arith)) (only-wide to (to + k₂) o (omega arith) (omega arith));
-          inside = omega (arith, resolve-here .size, resolve-here .inside);
+          inside = equality-inside;
           room = omega (arith, w .room, sizes);
         })
 

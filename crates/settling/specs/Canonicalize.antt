@@ -8,7 +8,7 @@ use lib.Dec.{eqb}
 use lib.ListN.{getD, length}
 use Rattle.octets.specs.Regions.{At, Only, part, splice}
 use Rattle.rules.specs.Canonicalize.{Replacement, bindings, canonicalize, replaceAll, replaceTerm, replacementOf, resolve}
-use Rattle.rules.specs.Flat.{Atom, Tab, actionWords, tabWords, wordsOf}
+use Rattle.rules.specs.Flat.{Atom, Tab, actionWords, eqn, tab, tabWords, wordsOf}
 use Rattle.rules.specs.Signature.{Sig, isVar, sameTerm}
 use Rattle.rules.specs.Words.{equalityWord, headWord, unit}
 use Rattle.meaning.proofs.MergePass.{IsEqn}
@@ -17,7 +17,7 @@ use Rattle.meaning.specs.Weight.{weight}
 use Rattle.settling.specs.declared.canonicalize.Asked.{Asked}
 use Rattle.settling.specs.declared.canonicalize.Canonical.{Canonical}
 use Rattle.settling.specs.Spans.{Spanned}
-use Rattle.settling.specs.Standing.{AtomsAt, TabsAt, atomsIn, sizeAt}
+use Rattle.settling.specs.Standing.{AtomsAt, TabsAt, atomsIn}
 
 -- the words of the bindings, the last one first
 abbrev pub bindingWords : List Replacement → List ℕ
@@ -79,25 +79,29 @@ pub record Replaced (s : Sig) (l m : List ℕ) (at n d table buckets r : ℕ) : 
   pub between : (ws : List ℕ) (q : ℕ) → At ws l q → table + 2 * buckets ≤ q → q + length ws ≤ r → At ws m q
   pub spanned : Spanned m at n table buckets
 
--- ---- what becomes of an atom
+-- ---- what becomes of the atoms
 
 abbrev pub resolveTerms : (same : Bool) → Sig → ℕ → ℕ → List ℕ
 resolveTerms true s a b = []
 resolveTerms false s a b = headWord (s .valueEq) 3 ∷ a ∷ b ∷ unit ∷ []
 
-abbrev pub resolveFor : (isEqn : Bool) → Sig → List ℕ → ℕ → List ℕ
-resolveFor true s l p = resolveTerms (sameTerm (getD l (p + 1) 0) (getD l (p + 2) 0)) s (getD l (p + 1) 0) (getD l (p + 2) 0)
-resolveFor false s l p = part l p (sizeAt l p)
-
--- the words that the atom at p becomes
+-- the words that the equality at p becomes
 unfoldable pub resolveAt : Sig → List ℕ → ℕ → List ℕ
-resolveAt s l p = resolveFor (eqb (getD l p 0) equalityWord) s l p
+resolveAt s l p = resolveTerms (sameTerm (getD l (p + 1) 0) (getD l (p + 2) 0)) s (getD l (p + 1) 0) (getD l (p + 2) 0)
 
 pub record ResolveOneAsks (s : Sig) (l : List ℕ) (p to : ℕ) : Type 0 where
-  pub here : p < length l
-  pub whole : p + sizeAt l p ≤ length l
-  pub clear : p + sizeAt l p ≤ to
+  pub whole : p + 3 ≤ length l
   pub room : to + length (resolveAt s l p) ≤ length l
+
+-- the atoms in front of the first equality, which stay as they are
+unfoldable pub untilEqn : List Atom → List Tab
+untilEqn [] = []
+untilEqn (eqn p a b ∷ xs) = []
+untilEqn (tab t ∷ xs) = t ∷ untilEqn xs
+
+-- how many of the n words at `from` are theirs
+abbrev pub othersIn : List ℕ → (from n : ℕ) → ℕ
+othersIn l from n = length (wordsOf tabWords (untilEqn (atomsIn l from n)))
 
 pub record ResolveAsks (s : Sig) (l : List ℕ) (from n to : ℕ) : Type 0 where
   pub atoms : AtomsAt (atomsIn l from n) l from n

@@ -12,7 +12,7 @@ ghost use Rattle.rules.specs.Signature.{isVar, sameTerm};
 ghost use Rattle.rules.specs.Canonicalize.{replacementOf};
 ghost use Rattle.settling.specs.Terms.{sig, GoodSign};
 ghost use Rattle.settling.specs.Standing.{atomsIn, AtomsAt};
-ghost use Rattle.settling.specs.Canonicalize.{askedOf, askAt, resolveTerms, placeAfter, Stepped, StepAsks, ReplaceAsks, Replaced, resolveAt, ResolveOneAsks, ResolveAsks, Resolved, FrontOneAsks, FrontOne, FrontAsks, Leads, Fronted, CanonicalizeAsks, CanonicalAt};
+ghost use Rattle.settling.specs.Canonicalize.{askedOf, askAt, resolveTerms, placeAfter, Stepped, StepAsks, ReplaceAsks, Replaced, resolveAt, ResolveOneAsks, othersIn, ResolveAsks, Resolved, FrontOneAsks, FrontOne, FrontAsks, Leads, Fronted, CanonicalizeAsks, CanonicalAt};
 use crate::atoms::EQUALITY;
 use crate::atoms::size;
 use crate::spans;
@@ -128,24 +128,35 @@ pub fn resolve_terms(s: &mut [u8], to: usize, a: u32, b: u32, q: Sign) -> usize
     4
 }
 
-// Writes at `to` what becomes of the atom at p, which lies before. Returns how many words that are.
+// Writes at `to` what becomes of the equality at p. Returns how many words that are.
 fn resolve_one(s: &mut [u8], p: usize, to: usize, q: Sign) -> usize
     requires { ⌜ GoodSign q ⌝ }
     requires { ⌜ ResolveOneAsks (sig q) (words (now s)) p to ⌝ }
     ensures { λ r. ⌜ (r ≡ length (resolveAt (sig q) (words (now (s .entry))) p))
         × (words (now (s .exit)) ≡ splice (words (now (s .entry))) to (resolveAt (sig q) (words (now (s .entry))) p)) ⌝ }
 {
-    if octets::get(s, p) != EQUALITY {
-        let k = size(s, p);
-        octets::regions::carry(s, to, p, k);
-        return k;
-    }
     let a = octets::get(s, p + 1);
     let b = octets::get(s, p + 2);
     resolve_terms(s, to, a, b, q)
 }
 
-// Resolves the atoms in the n words at `from`, writing at `to`, which lies beyond them. Returns how many words are written.
+// How many of the n words at `from` stand in front of the first equality.
+fn others(s: &[u8], from: usize, n: usize) -> usize
+    requires { ⌜ AtomsAt (atomsIn (words (now s)) from n) (words (now s)) from n ⌝ }
+    ensures { λ r. ⌜ r ≡ othersIn (words (now (s .entry))) from n ⌝ }
+{
+    let mut i = 0;
+    while i < n {
+        if octets::get(s, from + i) == EQUALITY {
+            return i;
+        }
+        i += size(s, from + i);
+    }
+    i
+}
+
+// Resolves the atoms in the n words at `from`, writing at `to`, which lies beyond them. Those that are no equalities stay as they are, so they
+// are carried in runs. Returns how many words are written.
 fn resolve(s: &mut [u8], from: usize, n: usize, to: usize, q: Sign) -> usize
     requires { ⌜ GoodSign q ⌝ }
     requires { ⌜ ResolveAsks (sig q) (words (now s)) from n to ⌝ }
@@ -154,9 +165,15 @@ fn resolve(s: &mut [u8], from: usize, n: usize, to: usize, q: Sign) -> usize
     let mut i = 0;
     let mut k = 0;
     while i < n {
-        let j = size(s, from + i);
+        let r = others(s, from + i, n - i);
+        octets::regions::carry(s, to + k, from + i, r);
+        i += r;
+        k += r;
+        if i == n {
+            return k;
+        }
         k += resolve_one(s, from + i, to + k, q);
-        i += j;
+        i += 3;
     }
     k
 }

@@ -1,18 +1,16 @@
+-- `canonicalize::resolve` meets its contract: what is passed is resolved. Assumes nothing.
 use mathlib.Core.Path.{_∙_, _≡_, ap, refl}
-use Prim.Native.Nat.{_+_, _-_, ℕ}
+use Prim.Native.Nat.{_+_, _-_, _<_, ℕ}
 use native.Mathlib.Omega.{arith}
 use lib.ListN.{length}
 use borrow.Author.Needs.{needs}
-use Rattle.octets.proofs.Words.{length-words, length-words-kept}
+use Rattle.octets.proofs.Words.{length-words}
+use Rattle.octets.specs.Regions.{beyond}
 use Rattle.octets.specs.Words.{words}
 use Rattle.settling.specs.Terms.{sig}
-use Rattle.settling.proofs.Resolving.{Resolving, resolve-here, resolve-one-asks, resolving-end, resolving-next, resolving-start}
+use Rattle.settling.proofs.Resolving.{Resolving, equality-inside, others-here, resolve-one-asks, resolving-end, resolving-next, resolving-run, resolving-start, run-asks}
 use Rattle.settling.proofs.canonicalize.resolve.Statement.{statement}
 use Rattle.settling.proofs.canonicalize.resolve.Tie as tie
-use Rattle.settling.proofs.canonicalize.resolve.Reads as reads
-use Rattle.settling.proofs.canonicalize.resolve.Lts as lts
-use Rattle.settling.proofs.atoms.size.Reads as size-reads
-use Rattle.settling.proofs.canonicalize.resolve_one.Reads as resolve-one-reads
 
 abbrev Inv-loop : tie.InvT-loop
 Inv-loop s₀ from n to q i₀ k₀ s i k = (length s ≡ length s₀) × Resolving (sig q) (words s₀) (words s) from n to i k
@@ -20,117 +18,260 @@ Inv-loop s₀ from n to q i₀ k₀ s i k = (length s ≡ length s₀) × Resolv
 abbrev μ-loop : tie.MeasureT-loop
 μ-loop s₀ from n to q i₀ k₀ s i k = n - i
 
--- src/canonicalize.rt:132:5
 loop-holds : tie.Need-loop-holds Inv-loop μ-loop
-loop-holds c = (refl, resolving-start (sig (c .before .args .q)) (words (c .before .args .s .now)) (c .before .args .from) (c .before .args .n) (c .before .args .to) (c .before .pre .1))
+loop-holds c =
+    let a = c .before .args in
+    (refl, resolving-start (sig (a .q)) (words (a .s .now)) (a .from) (a .n) (a .to) (c .before .pre .1))
 
--- src/canonicalize.rt:133:25
-add-size : tie.Need-add-size Inv-loop μ-loop
-add-size c =
-    let a = c .before .before .before .before .args in
-    let top = length-words (a .s .now) in
-    let same = length-words-kept (c .before .before .loop .s) (a .s .now) (c .before .before .loop .inv .0) in
-    omega (arith, c .before .before .before .before .pre .1 .atoms .within)
+add-others : tie.Need-add-others Inv-loop μ-loop
+add-others c =
+    let c₁ = c .before .before in
+    let c₀ = c₁ .before .before in
+    let a = c₀ .args in
+    omega (arith, c₀ .pre .1 .atoms .within, length-words (a .s .now))
 
--- src/canonicalize.rt:133:13
-size-requires : tie.Need-size-requires Inv-loop μ-loop
-size-requires c κs =
-    let a = c .before .before .before .before .args in
+sub-others : tie.Need-sub-others Inv-loop μ-loop
+sub-others c = omega arith
+
+others-requires : tie.Need-others-requires Inv-loop μ-loop
+others-requires c κs =
+    let c₁ = c .before .before in
+    let c₀ = c₁ .before .before in
+    let a = c₀ .args in
     let l = words (a .s .now) in
-    let m = words (c .before .before .loop .s) in
-    let i = c .before .before .loop .i in
-    let k = c .before .before .loop .k in
-    let w = c .before .before .loop .inv .1 in
-    resolve-one-asks (sig (a .q)) l (a .from) (a .n) (a .to) (c .before .before .before .before .pre .1) m i k w (c .before .loop-test .taken) .here
+    let m = words (c₁ .loop .s) in
+    let i = c₁ .loop .i in
+    let k = c₁ .loop .k in
+    let w = c₁ .loop .inv .1 in
+    others-here (sig (a .q)) l (a .from) (a .n) (a .to) (c₀ .pre .1) m i k w
 
--- src/canonicalize.rt:134:29
-add-resolve-one : tie.Need-add-resolve-one Inv-loop μ-loop
-add-resolve-one c =
-    let a = c .before .before .before .before .before .before .args in
-    let top = length-words (a .s .now) in
-    let same = length-words-kept (c .before .before .before .before .loop .s) (a .s .now) (c .before .before .before .before .loop .inv .0) in
-    omega (arith, c .before .before .before .before .before .before .pre .1 .atoms .within)
-
--- src/canonicalize.rt:134:39
-add-resolve-one-2 : tie.Need-add-resolve-one-2 Inv-loop μ-loop
-add-resolve-one-2 c =
-    let a = c .before .before .before .before .before .before .args in
+add-carry : tie.Need-add-carry Inv-loop μ-loop
+add-carry c =
+    let c₄ = c .before in
+    let c₁ = c₄ .before .before .before in
+    let c₀ = c₁ .before .before in
+    let a = c₀ .args in
     let l = words (a .s .now) in
-    let m = words (c .before .before .before .before .loop .s) in
-    let i = c .before .before .before .before .loop .i in
-    let k = c .before .before .before .before .loop .k in
-    let w = c .before .before .before .before .loop .inv .1 in
-    let z = resolve-one-asks (sig (a .q)) l (a .from) (a .n) (a .to) (c .before .before .before .before .before .before .pre .1) m i k w (c .before .before .before .loop-test .taken) in
-    omega (arith, z .room, length-words (c .before .before .before .before .loop .s))
+    let m = words (c₁ .loop .s) in
+    let i = c₁ .loop .i in
+    let k = c₁ .loop .k in
+    let w = c₁ .loop .inv .1 in
+    let r = c₄ .others .result in
+    let asks = run-asks (sig (a .q)) l (a .from) (a .n) (a .to) (c₀ .pre .1) m i k w r (c₄ .others .ensures) in
+    omega (arith, asks, length-words (c₁ .loop .s))
 
--- src/canonicalize.rt:134:14
-resolve-one-requires : tie.Need-resolve-one-requires Inv-loop μ-loop
-resolve-one-requires c κs =
-    let a = c .before .before .before .before .before .before .args in
+add-carry-2 : tie.Need-add-carry-2 Inv-loop μ-loop
+add-carry-2 c =
+    let c₄ = c .before in
+    let c₁ = c₄ .before .before .before in
+    let c₀ = c₁ .before .before in
+    let a = c₀ .args in
     let l = words (a .s .now) in
-    let m = words (c .before .before .before .before .loop .s) in
-    let i = c .before .before .before .before .loop .i in
-    let k = c .before .before .before .before .loop .k in
-    let w = c .before .before .before .before .loop .inv .1 in
-    (c .before .before .before .before .before .before .pre .0, resolve-one-asks (sig (a .q)) l (a .from) (a .n) (a .to) (c .before .before .before .before .before .before .pre .1) m i k w (c .before .before .before .loop-test .taken))
+    let m = words (c₁ .loop .s) in
+    let i = c₁ .loop .i in
+    let k = c₁ .loop .k in
+    let w = c₁ .loop .inv .1 in
+    let r = c₄ .others .result in
+    let asks = run-asks (sig (a .q)) l (a .from) (a .n) (a .to) (c₀ .pre .1) m i k w r (c₄ .others .ensures) in
+    omega (arith, asks, length-words (c₁ .loop .s))
 
--- src/canonicalize.rt:134:9
-add-k : tie.Need-add-k Inv-loop μ-loop
-add-k c =
-    let a = c .before .before .before .before .before .before .before .before .before .args in
+carry-requires : tie.Need-carry-requires Inv-loop μ-loop
+carry-requires c κs =
+    let c₄ = c .before in
+    let c₁ = c₄ .before .before .before in
+    let c₀ = c₁ .before .before in
+    let a = c₀ .args in
     let l = words (a .s .now) in
-    let m = words (c .before .before .before .before .before .before .before .loop .s) in
-    let i = c .before .before .before .before .before .before .before .loop .i in
-    let k = c .before .before .before .before .before .before .before .loop .k in
-    let w = c .before .before .before .before .before .before .before .loop .inv .1 in
-    let z = resolve-one-asks (sig (a .q)) l (a .from) (a .n) (a .to) (c .before .before .before .before .before .before .before .before .before .pre .1) m i k w (c .before .before .before .before .before .before .loop-test .taken) in
-    omega (arith, z .room, length-words (c .before .before .before .before .before .before .before .loop .s), c .before .before .resolve-one .ensures .0)
+    let m = words (c₁ .loop .s) in
+    let i = c₁ .loop .i in
+    let k = c₁ .loop .k in
+    let w = c₁ .loop .inv .1 in
+    let r = c₄ .others .result in
+    let asks = run-asks (sig (a .q)) l (a .from) (a .n) (a .to) (c₀ .pre .1) m i k w r (c₄ .others .ensures) in
+    ((asks .0, asks .1), beyond (asks .2))
 
--- src/canonicalize.rt:135:9
 add-i : tie.Need-add-i Inv-loop μ-loop
 add-i c =
-    let a = c .before .before .before .before .before .before .before .before .before .args in
+    let c₄ = c .before .before .before .before in
+    let c₁ = c₄ .before .before .before in
+    let c₀ = c₁ .before .before in
+    let a = c₀ .args in
     let l = words (a .s .now) in
-    let m = words (c .before .before .before .before .before .before .before .loop .s) in
-    let i = c .before .before .before .before .before .before .before .loop .i in
-    let k = c .before .before .before .before .before .before .before .loop .k in
-    let w = c .before .before .before .before .before .before .before .loop .inv .1 in
-    let t = resolve-here (sig (a .q)) l (a .from) (a .n) (a .to) (c .before .before .before .before .before .before .before .before .before .pre .1) m i k w (c .before .before .before .before .before .before .loop-test .taken) in
-    omega (arith, t .size, t .inside, c .before .before .before .before .before .before .before .before .before .pre .1 .atoms .within, length-words (a .s .now), c .before .before .before .before .size .ensures)
+    let m = words (c₁ .loop .s) in
+    let i = c₁ .loop .i in
+    let k = c₁ .loop .k in
+    let w = c₁ .loop .inv .1 in
+    let r = c₄ .others .result in
+    let asks = run-asks (sig (a .q)) l (a .from) (a .n) (a .to) (c₀ .pre .1) m i k w r (c₄ .others .ensures) in
+    omega (arith, asks, length-words (c₁ .loop .s))
 
--- src/canonicalize.rt:132:5
-loop-less : tie.Need-loop-less Inv-loop μ-loop
-loop-less c =
-    let a = c .before .before .before .before .before .before .before .before .before .args in
+add-k : tie.Need-add-k Inv-loop μ-loop
+add-k c =
+    let c₄ = c .before .before .before .before in
+    let c₁ = c₄ .before .before .before in
+    let c₀ = c₁ .before .before in
+    let a = c₀ .args in
     let l = words (a .s .now) in
-    let m = words (c .before .before .before .before .before .before .before .loop .s) in
-    let i = c .before .before .before .before .before .before .before .loop .i in
-    let k = c .before .before .before .before .before .before .before .loop .k in
-    let w = c .before .before .before .before .before .before .before .loop .inv .1 in
-    let t = resolve-here (sig (a .q)) l (a .from) (a .n) (a .to) (c .before .before .before .before .before .before .before .before .before .pre .1) m i k w (c .before .before .before .before .before .before .loop-test .taken) in
-    omega (arith, t .size, t .some, c .before .before .before .before .size .ensures)
+    let m = words (c₁ .loop .s) in
+    let i = c₁ .loop .i in
+    let k = c₁ .loop .k in
+    let w = c₁ .loop .inv .1 in
+    let r = c₄ .others .result in
+    let asks = run-asks (sig (a .q)) l (a .from) (a .n) (a .to) (c₀ .pre .1) m i k w r (c₄ .others .ensures) in
+    omega (arith, asks, length-words (c₁ .loop .s))
 
--- src/canonicalize.rt:132:5
-loop-again : tie.Need-loop-again Inv-loop μ-loop
-loop-again c =
-    let a = c .before .before .before .before .before .before .before .before .before .args in
-    let l = words (a .s .now) in
-    let m = words (c .before .before .before .before .before .before .before .loop .s) in
-    let i = c .before .before .before .before .before .before .before .loop .i in
-    let k = c .before .before .before .before .before .before .before .loop .k in
-    let w = c .before .before .before .before .before .before .before .loop .inv .1 in (
-      c .before .before .resolve-one .kept .0 ∙ c .before .before .before .before .before .before .before .loop .inv .0,
-      resolving-next (sig (a .q)) l (a .from) (a .n) (a .to) (c .before .before .before .before .before .before .before .before .before .pre .1) m i k w (c .before .before .before .before .before .before .loop-test .taken) (c .before .before .before .before .before .before .before .before .before .pre .0 .equals) _ _ _
-          (ap (λ (x : ℕ). k + x) (c .before .before .resolve-one .ensures .0)) (c .before .before .resolve-one .ensures .1) (ap (λ (x : ℕ). i + x) (c .before .before .before .before .size .ensures)),
-    )
-
--- src/canonicalize.rt:125:1
 same-length : tie.Need-same-length Inv-loop μ-loop
 same-length c = search needs
 
--- src/canonicalize.rt:125:1
 returns : tie.Need-returns Inv-loop μ-loop
-returns c = resolving-end (sig (c .before .before .before .args .q)) (words (c .before .before .before .args .s .now)) (c .before .before .before .args .from) (c .before .before .before .args .n) (c .before .before .before .args .to) (c .before .before .before .pre .1) (words (c .before .loop .s)) (c .before .loop .i) (c .before .loop .k) (c .before .loop .inv .1) (c .loop-test .left)
+returns c =
+    let c₆ = c .before .before .before in
+    let c₄ = c₆ .before .before in
+    let c₁ = c₄ .before .before .before in
+    let c₀ = c₁ .before .before in
+    let a = c₀ .args in
+    let l = words (a .s .now) in
+    let m = words (c₁ .loop .s) in
+    let i = c₁ .loop .i in
+    let k = c₁ .loop .k in
+    let w = c₁ .loop .inv .1 in
+    let r = c₄ .others .result in
+    let g = resolving-run (sig (a .q)) l (a .from) (a .n) (a .to) (c₀ .pre .1) m i k w r (c₄ .others .ensures) (words (c₆ .carry .last .0)) (c₆ .carry .ensures) in
+    resolving-end (sig (a .q)) l (a .from) (a .n) (a .to) (c₀ .pre .1) (words (c₆ .carry .last .0)) (i + r) (k + r) (g .here) (omega arith)
+
+add-resolve-one : tie.Need-add-resolve-one Inv-loop μ-loop
+add-resolve-one c =
+    let c₄ = c .before .before .before .before .before .before in
+    let c₁ = c₄ .before .before .before in
+    let c₀ = c₁ .before .before in
+    let a = c₀ .args in
+    let l = words (a .s .now) in
+    let m = words (c₁ .loop .s) in
+    let i = c₁ .loop .i in
+    let k = c₁ .loop .k in
+    let w = c₁ .loop .inv .1 in
+    let r = c₄ .others .result in
+    let asks = run-asks (sig (a .q)) l (a .from) (a .n) (a .to) (c₀ .pre .1) m i k w r (c₄ .others .ensures) in
+    omega (arith, asks, length-words (c₁ .loop .s))
+
+add-resolve-one-2 : tie.Need-add-resolve-one-2 Inv-loop μ-loop
+add-resolve-one-2 c =
+    let c₄ = c .before .before .before .before .before .before in
+    let c₁ = c₄ .before .before .before in
+    let c₀ = c₁ .before .before in
+    let a = c₀ .args in
+    let l = words (a .s .now) in
+    let m = words (c₁ .loop .s) in
+    let i = c₁ .loop .i in
+    let k = c₁ .loop .k in
+    let w = c₁ .loop .inv .1 in
+    let r = c₄ .others .result in
+    let asks = run-asks (sig (a .q)) l (a .from) (a .n) (a .to) (c₀ .pre .1) m i k w r (c₄ .others .ensures) in
+    omega (arith, asks, length-words (c₁ .loop .s))
+
+resolve-one-requires : tie.Need-resolve-one-requires Inv-loop μ-loop
+resolve-one-requires c κs =
+    let c₆ = c .before .before .before .before in
+    let c₄ = c₆ .before .before in
+    let c₁ = c₄ .before .before .before in
+    let c₀ = c₁ .before .before in
+    let a = c₀ .args in
+    let l = words (a .s .now) in
+    let m = words (c₁ .loop .s) in
+    let i = c₁ .loop .i in
+    let k = c₁ .loop .k in
+    let w = c₁ .loop .inv .1 in
+    let r = c₄ .others .result in
+    let asks = run-asks (sig (a .q)) l (a .from) (a .n) (a .to) (c₀ .pre .1) m i k w r (c₄ .others .ensures) in
+    let g = resolving-run (sig (a .q)) l (a .from) (a .n) (a .to) (c₀ .pre .1) m i k w r (c₄ .others .ensures) (words (c₆ .carry .last .0)) (c₆ .carry .ensures) in
+    let h : i + r < a .n = omega (arith, asks, c .before .if1 .left) in
+    (c₀ .pre .0, resolve-one-asks (sig (a .q)) l (a .from) (a .n) (a .to) (c₀ .pre .1) (words (c₆ .carry .last .0)) (i + r) (k + r) g h)
+
+add-k-2 : tie.Need-add-k-2 Inv-loop μ-loop
+add-k-2 c =
+    let c₆ = c .before .before .before .before .before .before .before in
+    let c₄ = c₆ .before .before in
+    let c₁ = c₄ .before .before .before in
+    let c₀ = c₁ .before .before in
+    let a = c₀ .args in
+    let l = words (a .s .now) in
+    let m = words (c₁ .loop .s) in
+    let i = c₁ .loop .i in
+    let k = c₁ .loop .k in
+    let w = c₁ .loop .inv .1 in
+    let r = c₄ .others .result in
+    let asks = run-asks (sig (a .q)) l (a .from) (a .n) (a .to) (c₀ .pre .1) m i k w r (c₄ .others .ensures) in
+    let g = resolving-run (sig (a .q)) l (a .from) (a .n) (a .to) (c₀ .pre .1) m i k w r (c₄ .others .ensures) (words (c₆ .carry .last .0)) (c₆ .carry .ensures) in
+    let h : i + r < a .n = omega (arith, asks, c .before .before .before .before .if1 .left) in
+    omega (arith, c .before .before .resolve-one .ensures .0, resolve-one-asks (sig (a .q)) l (a .from) (a .n) (a .to) (c₀ .pre .1) (words (c₆ .carry .last .0)) (i + r) (k + r) g h .room, length-words (c₆ .carry .last .0))
+
+add-i-2 : tie.Need-add-i-2 Inv-loop μ-loop
+add-i-2 c =
+    let c₆ = c .before .before .before .before .before .before .before in
+    let c₄ = c₆ .before .before in
+    let c₁ = c₄ .before .before .before in
+    let c₀ = c₁ .before .before in
+    let a = c₀ .args in
+    let l = words (a .s .now) in
+    let m = words (c₁ .loop .s) in
+    let i = c₁ .loop .i in
+    let k = c₁ .loop .k in
+    let w = c₁ .loop .inv .1 in
+    let r = c₄ .others .result in
+    let asks = run-asks (sig (a .q)) l (a .from) (a .n) (a .to) (c₀ .pre .1) m i k w r (c₄ .others .ensures) in
+    let g = resolving-run (sig (a .q)) l (a .from) (a .n) (a .to) (c₀ .pre .1) m i k w r (c₄ .others .ensures) (words (c₆ .carry .last .0)) (c₆ .carry .ensures) in
+    let h : i + r < a .n = omega (arith, asks, c .before .before .before .before .if1 .left) in
+    omega (arith, equality-inside (sig (a .q)) l (a .from) (a .n) (a .to) (c₀ .pre .1) (words (c₆ .carry .last .0)) (i + r) (k + r) g h, asks)
+
+loop-less : tie.Need-loop-less Inv-loop μ-loop
+loop-less c =
+    let c₆ = c .before .before .before .before .before .before .before in
+    let c₄ = c₆ .before .before in
+    let c₁ = c₄ .before .before .before in
+    let c₀ = c₁ .before .before in
+    let a = c₀ .args in
+    let l = words (a .s .now) in
+    let m = words (c₁ .loop .s) in
+    let i = c₁ .loop .i in
+    let k = c₁ .loop .k in
+    let w = c₁ .loop .inv .1 in
+    let r = c₄ .others .result in
+    let asks = run-asks (sig (a .q)) l (a .from) (a .n) (a .to) (c₀ .pre .1) m i k w r (c₄ .others .ensures) in
+    let g = resolving-run (sig (a .q)) l (a .from) (a .n) (a .to) (c₀ .pre .1) m i k w r (c₄ .others .ensures) (words (c₆ .carry .last .0)) (c₆ .carry .ensures) in
+    let h : i + r < a .n = omega (arith, asks, c .before .before .before .before .if1 .left) in
+    omega (arith, equality-inside (sig (a .q)) l (a .from) (a .n) (a .to) (c₀ .pre .1) (words (c₆ .carry .last .0)) (i + r) (k + r) g h)
+
+loop-again : tie.Need-loop-again Inv-loop μ-loop
+loop-again c =
+    let c₆ = c .before .before .before .before .before .before .before in
+    let c₄ = c₆ .before .before in
+    let c₁ = c₄ .before .before .before in
+    let c₀ = c₁ .before .before in
+    let a = c₀ .args in
+    let l = words (a .s .now) in
+    let m = words (c₁ .loop .s) in
+    let i = c₁ .loop .i in
+    let k = c₁ .loop .k in
+    let w = c₁ .loop .inv .1 in
+    let r = c₄ .others .result in
+    let asks = run-asks (sig (a .q)) l (a .from) (a .n) (a .to) (c₀ .pre .1) m i k w r (c₄ .others .ensures) in
+    let g = resolving-run (sig (a .q)) l (a .from) (a .n) (a .to) (c₀ .pre .1) m i k w r (c₄ .others .ensures) (words (c₆ .carry .last .0)) (c₆ .carry .ensures) in
+    let h : i + r < a .n = omega (arith, asks, c .before .before .before .before .if1 .left) in (
+      c .before .before .resolve-one .kept .0 ∙ c₆ .carry .kept .0 ∙ c₁ .loop .inv .0,
+      resolving-next (sig (a .q)) l (a .from) (a .n) (a .to) (c₀ .pre .1) (words (c₆ .carry .last .0)) (i + r) (k + r) g h (c₀ .pre .0 .equals) _ _
+          (ap (λ (x : ℕ). k + r + x) (c .before .before .resolve-one .ensures .0)) (c .before .before .resolve-one .ensures .1),
+    )
+
+same-length-2 : tie.Need-same-length-2 Inv-loop μ-loop
+same-length-2 c = search needs
+
+returns-2 : tie.Need-returns-2 Inv-loop μ-loop
+returns-2 c =
+    let c₁ = c .before in
+    let c₀ = c₁ .before .before in
+    let a = c₀ .args in
+    let l = words (a .s .now) in
+    resolving-end (sig (a .q)) l (a .from) (a .n) (a .to) (c₀ .pre .1) (words (c₁ .loop .s)) (c₁ .loop .i) (c₁ .loop .k) (c₁ .loop .inv .1) (c .loop-test .left)
 
 pub resolve-spec : {M : Type 1} → statement M
 resolve-spec =
@@ -139,14 +280,22 @@ resolve-spec =
     Inv-loop
     μ-loop
     loop-holds
-    add-size
-    size-requires
+    add-others
+    sub-others
+    others-requires
+    add-carry
+    add-carry-2
+    carry-requires
+    add-i
+    add-k
+    same-length
+    returns
     add-resolve-one
     add-resolve-one-2
     resolve-one-requires
-    add-k
-    add-i
+    add-k-2
+    add-i-2
     loop-less
     loop-again
-    same-length
-    returns)
+    same-length-2
+    returns-2)
