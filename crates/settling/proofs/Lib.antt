@@ -11,6 +11,7 @@ pub mod Canonicalizing
 pub mod ChainLaws
 pub mod Linking
 pub mod Groups
+pub mod Keeping
 pub mod MergingAll
 pub mod PassGroups
 pub mod Joins

@@ -4,30 +4,20 @@ use mathlib.Core.List.{List, [], _++_, _∷_, append-assoc, append-nil}
 use mathlib.Core.Path.{_∙_, _≡_, ap, ap₂, refl, subst, sym}
 use Prim.Native.Nat.{_+_, _-_, _<_, _≤_, ℕ}
 use native.Mathlib.Omega.{arith}
-use lib.ListN.{drop, getD, length, length-append, take, take-append-drop}
-use lib.Seq.{drop-drop}
-use Rattle.octets.proofs.Places.{at-after, at-before, at-join, at-left, at-nil, at-splice, getD-only-before, only-same, only-splice, only-then, only-wide}
-use Rattle.octets.proofs.Splice.{length-part, splice-is}
-use Rattle.octets.specs.Regions.{At, Only, part, splice}
+use lib.ListN.{getD, length, length-append}
+use Rattle.octets.proofs.Places.{at-after, at-before, at-join, at-left, at-nil, only-same, only-then, only-wide}
+use Rattle.octets.specs.Regions.{At, Only}
 use Rattle.rules.specs.Flat.{Tab, tabWords, wordsOf}
 use Rattle.rules.specs.RemoveDupVars.{keep, seen}
 use Rattle.meaning.proofs.Lists.{length-words, length-words-append, words-append}
 use Rattle.meaning.proofs.WordLaws.{two-tab}
 use Rattle.settling.specs.declared.remove_dup_vars.Merged.{Merged}
 use Rattle.settling.specs.Chains.{LinkAsks, Linked, LinksAt, MarksAt, markOf}
-use Rattle.settling.specs.RemoveDupVars.{Group, GroupAsks, Grouped, KeptOne, LinksKept, MarkedBy, MergeAsks, MergeOneAsks, MergedAll, MergedOne, OneStep, PassAsks, Passed, behind, groupOf, groupWords, groupsOf}
+use Rattle.settling.specs.RemoveDupVars.{Group, GroupAsks, Grouped, GroupedAll, KeepAsks, Keeps, KeptOne, LinksKept, MarkedBy, MergeAsks, MergeOneAsks, MergedAll, MergedOne, OneStep, PassAsks, Passed, behind, groupOf, groupWords, groupsOf, unmarkedOf}
 use Rattle.settling.specs.Standing.{TabsAt, sizeAt, tabAt, tabsIn}
-use Rattle.settling.proofs.Groups.{kept-on, links-after, marked-on, marks-after}
-use Rattle.settling.proofs.Standing.{FirstTab, first-tab, no-tab-left, no-tabs, none-passed, size-tab, tab-is, tabs-after, tabs-is, tabs-join, tabs-read}
-
--- ---- words carried to where they are
-
-pub splice-itself : (l : List ℕ) (p n : ℕ) → p + n ≤ length l → splice l p (part l p n) ≡ l
-splice-itself l p n h =
-    splice-is l p (part l p n) ∙ append-assoc (take p l) (part l p n) (drop (p + length (part l p n)) l)
-    ∙ ap (λ (k : ℕ). take p l ++ (part l p n ++ drop (p + k) l)) (length-part l p n h)
-    ∙ ap (λ (x : List ℕ). take p l ++ (part l p n ++ x)) (sym (drop-drop n p l))
-    ∙ ap (λ (x : List ℕ). take p l ++ x) (take-append-drop n (drop p l)) ∙ take-append-drop p l
+use Rattle.settling.proofs.Groups.{links-after, marks-after}
+use Rattle.settling.proofs.Keeping.{unmarked-all, unmarked-one, unmarked-same}
+use Rattle.settling.proofs.Standing.{FirstTab, first-tab, no-tab-left, none-passed, size-tab, tab-is, tabs-after, tabs-is, tabs-read}
 
 -- ---- a pass over atoms on its way: `gs` are its groups and `ks` are kept so far, `firsts` being the same in another order
 
@@ -104,56 +94,25 @@ module _ (l : List ℕ) (from n i eqs links : ℕ) (t : Merged) (c : MergeOneAsk
     one-group =
         record { tabs = c .tabs; buckets = c .buckets; linked = c .linked; inside = c .inside; small = c .small; below = c .below; room = one-room }
 
-    module _ (mid : List ℕ) (g : ℕ) (k : Grouped l mid from n i links (eqs + t .eqs) g) where
-      mid-stands : At (tabWords (tabAt l (from + i))) mid (from + i)
-      mid-stands = at-after (k .only) one-stands (omega (arith, c .below))
+    module _ (m : List ℕ) (g : ℕ) (k : Grouped l m from n i links (eqs + t .eqs) g) where
+      still : At (tabWords (tabAt l (from + i))) m (from + i)
+      still = at-after (k .only) one-stands (omega (arith, c .below))
 
-      mid-size : sizeAt mid (from + i) ≡ sizeAt l (from + i)
-      mid-size = size-tab (tabAt l (from + i)) (c .tabs .fits .0) mid (from + i) mid-stands ∙ sym one-size
+      still-size : sizeAt m (from + i) ≡ sizeAt l (from + i)
+      still-size = size-tab (tabAt l (from + i)) (c .tabs .fits .0) m (from + i) still ∙ sym one-size
 
       pub one-eqs : eqs + t .eqs + g ≤ links
       one-eqs = omega (arith, one-room, k .size)
 
-      module _ (z : ℕ) (ez : z ≡ sizeAt mid (from + i)) where
+      module _ (z : ℕ) (ez : z ≡ sizeAt m (from + i)) where
         pub one-end : i + z ≤ n
-        one-end = omega (arith, ez, mid-size, one-in)
+        one-end = omega (arith, ez, still-size, one-in)
 
-        pub one-within : from + i + z ≤ length mid
-        one-within = omega (arith, one-end, one-top, k .only .size)
-
-        moves : part mid (from + i) z ≡ tabWords (tabAt l (from + i))
-        moves = ap (part mid (from + i)) (ez ∙ mid-size ∙ one-size) ∙ mid-stands .words
-
-        pub one-kept : (m : List ℕ) → m ≡ splice mid (from + t .kept) (part mid (from + i) z)
-            → MergedOne l m from n i eqs links t (record { eqs = t .eqs + g; kept = t .kept + z; atoms = t .atoms + 1 })
-        one-kept m em =
+        pub one-kept : MergedOne l m from n i eqs links t (record { eqs = t .eqs + g; kept = t .kept + z; atoms = t .atoms + 1 })
+        one-kept =
             let r : Merged = record { eqs = t .eqs + g; kept = t .kept + z; atoms = t .atoms + 1 } in
-            let ws : List ℕ = tabWords (tabAt l (from + i)) in
-            let zs : z ≡ sizeAt l (from + i) = ez ∙ mid-size in
-            let sp : m ≡ splice mid (from + t .kept) ws = em ∙ ap (splice mid (from + t .kept)) moves in
-            let fit : from + t .kept + length (tabWords (tabAt l (from + i))) ≤ length mid = omega (arith, one-within, zs, one-size, c .down) in
-            let o : Only mid m (from + t .kept) (from + t .kept + length (tabWords (tabAt l (from + i)))) =
-            subst (λ (x : List ℕ). Only mid x (from + t .kept) (from + t .kept + length (tabWords (tabAt l (from + i))))) (sym sp)
-            (only-splice mid (from + t .kept) ws (from + t .kept + length (tabWords (tabAt l (from + i)))) refl fit) in
-            let end : ℕ = from + i + sizeAt l (from + i) in
-            let same : (j : ℕ) → links + 2 ≤ j → j ≤ links + n → getD m j 0 ≡ getD mid j 0 =
-            λ j x y. let q : j < from + t .kept = omega (arith, c .below) in getD-only-before j o q in
-            let start : 2 ≤ i + sizeAt l (from + i) = omega (arith, one-two) in
             let kept-one : KeptOne l m from n i eqs links t r =
-            record {
-              at = at-before o (k .at) (omega (arith, one-room, c .below));
-              eqs-end = ap (λ (x : ℕ). t .eqs + x) (k .size);
-              kept-end = ap (λ (x : ℕ). t .kept + x) zs;
-              atoms-end = refl;
-              moved = subst (λ (x : List ℕ). At (tabWords (tabAt l (from + i))) x (from + t .kept)) (sym sp) (at-splice mid (from + t .kept) ws fit);
-              marks = marked-on (tabAt l (from + i)) l mid links m n same (behind l from n i) (i + sizeAt l (from + i)) start one-in (k .marks);
-              chained = kept-on (tabAt l (from + i)) l mid links m n same (behind l from n i) (i + sizeAt l (from + i)) start one-in (k .chained);
-              only = only-then (only-wide (eqs + t .eqs) end (k .only) (omega arith) (omega (arith, c .below)))
-                  (only-wide (eqs + t .eqs) end o (omega (arith, one-room, c .below)) (omega (arith, one-size, c .down)));
-              before = λ us p s a b.
-                  let x : links + n + 1 ≤ p = omega (arith, c .below) in
-                  at-before o (at-after (k .only) s x) b;
-            } in
+            record { more = g; group = k; eqs-end = refl; kept-end = ap (λ (x : ℕ). t .kept + x) (ez ∙ still-size); atoms-end = refl } in
             record { step = λ firsts q. subst (λ (b : Bool). OneStep b l m from n i eqs links t r) (sym (unseen firsts q)) kept-one }
 
 -- ---- a pass in words on its way
@@ -162,39 +121,48 @@ pub record MergingAll (l m : List ℕ) (from n eqs links i : ℕ) (t : Merged) :
   pub gs : List Group
   pub ks : List Tab
   pub firsts : List Tab
+  pub done : List Tab
   pub left : List Tab
   pub buckets : ℕ
+  pub same : tabsIn l from n ≡ done ++ left
   pub grouping : Grouping (tabsIn l from n) gs ks firsts left
   pub tabs : TabsAt left m (from + i) (n - i)
   pub linked : LinksAt buckets left i m links
   pub marks : MarksAt firsts left i m links
-  pub kepts : TabsAt ks m from (t .kept)
+  pub unmarked : unmarkedOf done 0 m links ≡ ks
+  pub off-is : i ≡ length (wordsOf tabWords done)
+  pub kept : t .kept ≡ length (wordsOf tabWords ks)
   pub at : At (wordsOf groupWords gs) m eqs
   pub size : t .eqs ≡ length (wordsOf groupWords gs)
   pub atoms : t .atoms ≡ length ks
   pub down : t .kept ≤ i
-  pub only : Only l m eqs (from + n)
+  pub only : Only l m eqs (links + n + 1)
   pub inside : i ≤ n
 
 module _ (l : List ℕ) (from n eqs links : ℕ) (c : MergeAsks l from n eqs links) where
   pub merging-start : MergingAll l l from n eqs links 0 (record { eqs = 0; kept = 0; atoms = 0 })
+  unfolding unmarkedOf
   merging-start =
       record {
         gs = [];
         ks = [];
         firsts = [];
+        done = [];
         left = tabsIn l from n;
         buckets = c .buckets;
+        same = refl;
         grouping = record { groups = refl; kept = refl };
         tabs = none-passed (tabsIn l from n) l from n (c .tabs);
         linked = c .linked;
         marks = c .marks;
-        kepts = no-tabs l from (omega (arith, c .tabs .within));
+        unmarked = refl;
+        off-is = refl;
+        kept = refl;
         at = at-nil l eqs (omega (arith, c .room, c .below, c .tabs .within));
         size = refl;
         atoms = refl;
         down = omega arith;
-        only = only-same l eqs (from + n);
+        only = only-same l eqs (links + n + 1);
         inside = omega arith;
       }
 
@@ -274,7 +242,7 @@ module _ (l : List ℕ) (from n eqs links : ℕ) (c : MergeAsks l from n eqs lin
           inside = h;
           small = c .small;
           down = w .down;
-          few = omega (arith, w .atoms, w .kepts .size, length-words tabWords 2 two-tab (w .ks));
+          few = omega (arith, w .atoms, w .kept, length-words tabWords 2 two-tab (w .ks));
           below = c .below;
           room = λ f. eqs-fit f;
         }
@@ -294,6 +262,32 @@ module _ (l : List ℕ) (from n eqs links : ℕ) (c : MergeAsks l from n eqs lin
       unfolding MarksAt
       marks-on = subst (λ (x : ℕ). MarksAt (w .firsts) (pass-here .rest) x m links) i-is (marks .1)
 
+      mark : getD m (links + i + 2) 0 ≡ markOf (seen (tabAt m (from + i)) (w .firsts))
+      unfolding MarksAt
+      mark = marks-asked .0
+
+      same₂ : tabsIn l from n ≡ (w .done ++ pass-here .atom ∷ []) ++ pass-here .rest
+      same₂ = w .same ∙ ap (λ (ts : List Tab). w .done ++ ts) (pass-here .is) ∙ sym (append-assoc (w .done) (pass-here .atom ∷ []) (pass-here .rest))
+
+      off₂ : i₂ ≡ length (wordsOf tabWords (w .done ++ pass-here .atom ∷ []))
+      off₂ =
+          omega (
+            arith,
+            i-is,
+            w .off-is,
+            length-words-append tabWords (w .done) (pass-here .atom ∷ []),
+            length-append (tabWords (pass-here .atom)) [],
+          )
+
+      -- one more atom is passed, the marks of those before it being as they were
+      unmarked₂ : (m₂ : List ℕ) (b : Bool) → seen (tabAt m (from + i)) (w .firsts) ≡ b → ((j : ℕ) → links + 2 ≤ j → j ≤ links + i + 2 → getD m₂ j 0 ≡ getD m j 0)
+          → unmarkedOf (w .done ++ pass-here .atom ∷ []) 0 m₂ links ≡ w .ks ++ cond b [] (pass-here .atom ∷ [])
+      unmarked₂ m₂ b f same =
+          unmarked-one m₂ links (w .done) (pass-here .atom) 0 i b (omega (arith, w .off-is))
+          (same (links + i + 2) (omega arith) (omega arith) ∙ mark ∙ ap markOf f)
+          ∙ ap (λ (us : List Tab). us ++ cond b [] (pass-here .atom ∷ []))
+          (unmarked-same m m₂ links i (λ j x y. let v : j ≤ links + i + 2 = omega arith in same j x v) (w .done) 0 (omega (arith, w .off-is)) ∙ w .unmarked)
+
       skipped : (m₂ : List ℕ) (r : Merged) → seen (tabAt m (from + i)) (w .firsts) ≡ true → r ≡ t → m₂ ≡ m → MergingAll l m₂ from n eqs links i₂ r
       skipped m₂ r f er em =
           subst (λ (x : List ℕ). MergingAll l x from n eqs links i₂ r) (sym em)
@@ -302,13 +296,17 @@ module _ (l : List ℕ) (from n eqs links : ℕ) (c : MergeAsks l from n eqs lin
             gs = w .gs;
             ks = w .ks;
             firsts = w .firsts;
+            done = w .done ++ pass-here .atom ∷ [];
             left = pass-here .rest;
             buckets = w .buckets;
+            same = same₂;
             grouping = grouping-drop (tabsIn l from n) (w .gs) (w .ks) (w .firsts) (pass-here .atom) (pass-here .rest) grouping (sym seen-is ∙ f);
             tabs = rest-at;
             linked = linked-on;
             marks = marks-on;
-            kepts = w .kepts;
+            unmarked = unmarked₂ m true f (λ j x y. refl) ∙ append-nil (w .ks);
+            off-is = off₂;
+            kept = w .kept;
             at = w .at;
             size = w .size;
             atoms = w .atoms;
@@ -323,49 +321,42 @@ module _ (l : List ℕ) (from n eqs links : ℕ) (c : MergeAsks l from n eqs lin
           let fit = eqs-fit f in
           let chained : LinksKept (pass-here .rest) i₂ m m₂ links =
           subst (λ (ts : List Tab). LinksKept ts i₂ m m₂ links) rest-is
-          (subst (λ (x : ℕ). LinksKept (behind m from n i) x m m₂ links) (sym ei) (k .chained)) in
+          (subst (λ (x : ℕ). LinksKept (behind m from n i) x m m₂ links) (sym ei) (k .group .chained)) in
           let marked : MarkedBy (pass-here .atom) (pass-here .rest) i₂ m m₂ links =
           subst (λ (a : Tab). MarkedBy a (pass-here .rest) i₂ m m₂ links) here-is
           (subst (λ (ts : List Tab). MarkedBy (tabAt m (from + i)) ts i₂ m m₂ links) rest-is
-          (subst (λ (x : ℕ). MarkedBy (tabAt m (from + i)) (behind m from n i) x m m₂ links) (sym ei) (k .marks))) in
-          let moved : At (tabWords (pass-here .atom)) m₂ (from + t .kept) = subst (λ (a : Tab). At (tabWords a) m₂ (from + t .kept)) here-is (k .moved) in
-          let one : TabsAt (pass-here .atom ∷ []) m₂ (from + t .kept) (sizeAt m (from + i)) =
-          record {
-            fits = (pass-here .fits, tt);
-            bare = (pass-here .bare, tt);
-            size = z ∙ ap length (sym (append-nil (tabWords (pass-here .atom))));
-            at = subst (λ (ws : List ℕ). At ws m₂ (from + t .kept)) (sym (append-nil (tabWords (pass-here .atom)))) moved;
-            within = omega (arith, moved .within, z);
-          } in
-          let old : TabsAt (w .ks) m₂ from (t .kept) =
-          record {
-            fits = w .kepts .fits;
-            bare = w .kepts .bare;
-            size = w .kepts .size;
-            at = k .before (wordsOf tabWords (w .ks)) from (w .kepts .at) (omega arith) (omega (arith, w .kepts .size));
-            within = omega (arith, w .kepts .within, k .only .size);
-          } in
-          let group : At (groupWords g) m₂ (eqs + t .eqs) = subst (λ (ws : List ℕ). At ws m₂ (eqs + t .eqs)) group-is (k .at) in
+          (subst (λ (x : ℕ). MarkedBy (tabAt m (from + i)) (behind m from n i) x m m₂ links) (sym ei) (k .group .marks))) in
+          let group : At (groupWords g) m₂ (eqs + t .eqs) = subst (λ (ws : List ℕ). At ws m₂ (eqs + t .eqs)) group-is (k .group .at) in
           let group-one : At (wordsOf groupWords (g ∷ [])) m₂ (eqs + t .eqs) =
           subst (λ (ws : List ℕ). At ws m₂ (eqs + t .eqs)) (sym (append-nil (groupWords g))) group in
           record {
             gs = w .gs ++ g ∷ [];
             ks = w .ks ++ pass-here .atom ∷ [];
             firsts = pass-here .atom ∷ w .firsts;
+            done = w .done ++ pass-here .atom ∷ [];
             left = pass-here .rest;
             buckets = w .buckets;
+            same = same₂;
             grouping = new f;
-            tabs = tabs-after (k .only) rest-at (omega arith);
+            tabs = tabs-after (k .group .only) rest-at (omega (arith, c .below));
             linked = links-after (w .buckets) (pass-here .rest) i₂ m m₂ links chained linked-on;
             marks = marks-after (pass-here .atom) (w .firsts) (pass-here .rest) i₂ m m₂ links marked marks-on;
-            kepts = subst (λ (q : ℕ). TabsAt (w .ks ++ pass-here .atom ∷ []) m₂ from q) (sym (k .kept-end))
-                (tabs-join (w .ks) (pass-here .atom ∷ []) m₂ from (t .kept) (from + t .kept) (sizeAt m (from + i)) old one refl);
+            unmarked = unmarked₂ m₂ false f (k .group .passed);
+            off-is = off₂;
+            kept = omega (
+              arith,
+              k .kept-end,
+              w .kept,
+              z,
+              length-words-append tabWords (w .ks) (pass-here .atom ∷ []),
+              length-append (tabWords (pass-here .atom)) [],
+            );
             at = subst (λ (ws : List ℕ). At ws m₂ eqs) (sym (words-append groupWords (w .gs) (g ∷ [])))
-                (at-join (at-before (k .only) (w .at) (omega (arith, w .size))) group-one (omega (arith, w .size)));
-            size = k .eqs-end ∙ sym (gs-size f);
+                (at-join (at-before (k .group .only) (w .at) (omega (arith, w .size))) group-one (omega (arith, w .size)));
+            size = k .eqs-end ∙ ap (λ (x : ℕ). t .eqs + x) (k .group .size) ∙ sym (gs-size f);
             atoms = omega (arith, k .atoms-end, w .atoms, length-append (w .ks) (pass-here .atom ∷ []));
             down = omega (arith, k .kept-end, w .down);
-            only = only-then (w .only) (only-wide eqs (from + n) (k .only) (omega arith) (omega (arith, pass-in)));
+            only = only-then (w .only) (only-wide eqs (links + n + 1) (k .group .only) (omega arith) (omega arith));
             inside = omega (arith, pass-in);
           }
 
@@ -376,9 +367,10 @@ module _ (l : List ℕ) (from n eqs links : ℕ) (c : MergeAsks l from n eqs lin
           go true e k = skipped m₂ r e (k .0) (k .1)
           go false e k = stayed m₂ r e k
 
-  pub merging-end : (m : List ℕ) (i : ℕ) (t : Merged) → MergingAll l m from n eqs links i t → n ≤ i → MergedAll l m from n eqs links t
+  pub merging-end : (m : List ℕ) (i : ℕ) (t : Merged) → MergingAll l m from n eqs links i t → n ≤ i → GroupedAll l m from n eqs links t
   merging-end m i t w h =
       let none = no-tab-left (w .left) m (from + i) (n - i) (w .tabs) (omega arith) in
+      let all : tabsIn l from n ≡ w .done = w .same ∙ ap (λ (ts : List Tab). w .done ++ ts) none ∙ append-nil (w .done) in
       let gs : groupsOf [] (tabsIn l from n) ≡ w .gs =
       w .grouping .groups ∙ ap (λ (ts : List Tab). w .gs ++ groupsOf (w .firsts) ts) none ∙ append-nil (w .gs) in
       let ks : keep [] (tabsIn l from n) ≡ w .ks =
@@ -386,10 +378,49 @@ module _ (l : List ℕ) (from n eqs links : ℕ) (c : MergeAsks l from n eqs lin
       record {
         groups = subst (λ (x : List Group). At (wordsOf groupWords x) m eqs) (sym gs) (w .at);
         size = w .size ∙ ap (λ (x : List Group). length (wordsOf groupWords x)) (sym gs);
-        tabs = subst (λ (ts : List Tab). TabsAt ts m from (t .kept)) (sym ks) (w .kepts);
+        unmarked = ap (λ (ts : List Tab). unmarkedOf ts 0 m links) all ∙ w .unmarked ∙ sym ks;
+        kept = w .kept ∙ ap (λ (ts : List Tab). length (wordsOf tabWords ts)) (sym ks);
         atoms = w .atoms ∙ ap length (sym ks);
         only = w .only;
       }
+
+  -- ---- what is kept moves down
+
+  module _ (m : List ℕ) (t : Merged) (g : GroupedAll l m from n eqs links t) where
+    still-tabs : TabsAt (tabsIn l from n) m from n
+    still-tabs = tabs-after (g .only) (c .tabs) (c .below)
+
+    still-is : tabsIn m from n ≡ tabsIn l from n
+    still-is = tabs-is m from n (tabsIn l from n) still-tabs
+
+    pub all-stay : t .kept ≡ n → MergedAll l m from n eqs links t
+    all-stay e =
+        let all : keep [] (tabsIn l from n) ≡ tabsIn l from n =
+        sym (g .unmarked)
+        ∙ unmarked-all m links (tabsIn l from n) 0 (ap (λ (ts : List Tab). length (wordsOf tabWords ts)) (g .unmarked) ∙ sym (g .kept) ∙ e ∙ c .tabs .size) in
+        record {
+          groups = g .groups;
+          size = g .size;
+          tabs = subst (λ (ts : List Tab). TabsAt ts m from (t .kept)) (sym all) (subst (λ (k : ℕ). TabsAt (tabsIn l from n) m from k) (sym e) still-tabs);
+          atoms = g .atoms;
+          only = only-wide eqs (from + n) (g .only) (omega arith) (omega (arith, c .below));
+        }
+
+    pub keep-asked : KeepAsks m from n links
+    keep-asked = record { tabs = tabs-read m from n (tabsIn l from n) still-tabs; below = c .below }
+
+    pub some-stay : (m₂ : List ℕ) → Keeps m m₂ from n links → MergedAll l m₂ from n eqs links t
+    some-stay m₂ k =
+        let is : unmarkedOf (tabsIn m from n) 0 m links ≡ keep [] (tabsIn l from n) = ap (λ (ts : List Tab). unmarkedOf ts 0 m links) still-is ∙ g .unmarked in
+        let s : TabsAt (keep [] (tabsIn l from n)) m₂ from (k .size) = subst (λ (ts : List Tab). TabsAt ts m₂ from (k .size)) is (k .tabs) in
+        record {
+          groups = at-before (k .only) (g .groups) (omega (arith, c .room, c .below));
+          size = g .size;
+          tabs = subst (λ (q : ℕ). TabsAt (keep [] (tabsIn l from n)) m₂ from q) (s .size ∙ sym (g .kept)) s;
+          atoms = g .atoms;
+          only = only-then (only-wide eqs (from + n) (g .only) (omega arith) (omega (arith, c .below)))
+              (only-wide eqs (from + n) (k .only) (omega (arith, c .room, c .below)) (omega arith));
+        }
 
 -- ---- a pass with its links
 
