@@ -1,6 +1,7 @@
 //! Flat rules of the greatest length: settling alone, and free variables.
 
-use super::{Call, F, FIRST, Family, largest, one};
+use super::{Call, F, FIRST, Family, SEED, largest, one};
+use crate::draw::Draw;
 use crate::records::joined;
 use crate::words::{CALL, EQUALITY, SET, UNION, action, call, literal, name};
 
@@ -30,11 +31,14 @@ fn actions() -> Family {
 
 pub fn freed() -> Vec<Family> {
     let set = |names: Vec<u32>| vec![[vec![action(SET), call(F, names.len() - 1)], names].concat()];
-    let unions: Vec<Vec<u32>> = (0..341).map(|n| vec![action(UNION), name(FIRST + n % 9), literal(1)]).collect();
+    let union = |n: u32| vec![action(UNION), name(FIRST + n % 9), literal(1)];
+    let unions: Vec<Vec<u32>> = (0..341).map(union).collect();
+    let mixed: Vec<Vec<u32>> = shuffled((0..341).collect()).into_iter().map(union).collect();
     let calls: Vec<Vec<u32>> =
         (FIRST..).map(|n| vec![action(CALL), name(n), call(F, 1), name(n + 1)]).take(255).collect();
     let ascending: Vec<u32> = (FIRST..).map(name).take(1_021).collect();
     let descending: Vec<u32> = ascending.iter().copied().rev().collect();
+    let disordered = shuffled(ascending.clone());
     vec![
         Family {
             name: "free vars, largest signature",
@@ -43,10 +47,17 @@ pub fn freed() -> Vec<Family> {
             ..free("", "", &[])
         },
         free("free vars few", "9 variables in 341 unions", &unions),
+        free("free vars mixed", "9 variables in 341 unions, in no order", &mixed),
         free("free vars bound", "255 calls, each binds what the one before reads", &calls),
         free("free vars up", "1,021 variables in a set, ascending", &set(ascending)),
         free("free vars down", "1,021 variables in a set, descending", &set(descending)),
+        free("free vars any", "1,021 variables in a set, in no order", &set(disordered)),
     ]
+}
+
+fn shuffled(mut list: Vec<u32>) -> Vec<u32> {
+    Draw::of_case(SEED, "shuffled", 0).shuffle(&mut list);
+    list
 }
 
 fn settle(name: &'static str, what: &'static str, times: usize, atoms: &[Vec<u32>]) -> Family {

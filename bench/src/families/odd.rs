@@ -17,6 +17,7 @@ pub fn all() -> Vec<Family> {
         apart(),
         one_key(),
         bare(),
+        late_call(),
         long_set(),
         repeated(),
         doubled(),
@@ -81,6 +82,13 @@ fn apart() -> Family {
 fn bare() -> Family {
     let facts: Vec<Vec<u32>> = (FIRST..).map(|n| vec![name(n)]).take(511).collect();
     lowered("bare names", "511 names as facts: no atoms", 32, joined(&facts, &[]))
+}
+
+/// Names that are written as an atom's, and then once more, since a call comes last.
+fn late_call() -> Family {
+    let names: Vec<u32> = (FIRST..).map(name).take(508).collect();
+    let fact = [vec![call(F, 509)], names, vec![call(F, 0)]].concat();
+    lowered("late call", "one call of 508 names and a call", 32, joined(&[fact], &[]))
 }
 
 /// Calls that are not alike, though the settling crate (`buckets.rt`) has one key for all of them.
