@@ -1,12 +1,15 @@
 -- The test of a word of the head, from what the code has learnt of the word: which term it is, whether the word before it binds, and whether it was seen.
 -- Assumes nothing.
-use Prim.Native.Nat.{ℕ}
-use mathlib.Core.Bool.{Bool, true, false, not, _&&_, and-false}
+use Prim.Native.Nat.{ℕ, _+_, _<_}
+use native.Mathlib.Omega.{arith}
+use mathlib.Core.Bool.{Bool, true, false, not, _&&_, _||_, and-false}
 use mathlib.Core.List.{List, [], _∷_}
-use mathlib.Core.Path.{_≡_, refl, sym, ap, _∙_}
+use mathlib.Core.Path.{_≡_, refl, sym, ap, ap₂, _∙_}
 use denote.Enum.Declared.{tagOf}
 use types.Run.{OneOf, miss}
+use borrow.Author.Tests.{lt-leb}
 use Rattle.rules.specs.Signature.{elem}
+use Rattle.rules.specs.Words.{nameBase, freshBase}
 use Rattle.words.proofs.AtomLaws.{term-word, term-var}
 use Rattle.words.proofs.Term.{the-type}
 use Rattle.words.specs.Atom.{termOf, termWord, isVarTerm}
@@ -21,6 +24,14 @@ not-var (Global w) h = refl
 not-var (Literal w) h = refl
 
 module _ (G w : ℕ) where
+  -- no variable
+  pub none-free : (last : ℕ) (seen : List ℕ) → isVarWord G w ≡ false → firstFree G last seen w ≡ false
+  unfolding firstFree
+  none-free last seen e = ap (λ (b : Bool). b && (not (binds last) && not (elem w seen))) e
+
+  pub low-none : w < nameBase → isVarWord G w ≡ false
+  low-none h = ap₂ _||_ (lt-leb freshBase w (omega arith)) (lt-leb (nameBase + G) w (omega arith))
+
   is-var : isVarTerm (termOf G w) ≡ isVarWord G w
   is-var = term-var (record { globals = G; valueEq = 0; flag = false; kinds = [] }) w
 
@@ -36,8 +47,7 @@ module _ (G w : ℕ) where
     var-no h = sym is-var ∙ ap isVarTerm (sym is) ∙ not-var t h
 
     pub other-free : (last : ℕ) (seen : List ℕ) → OneOf (1 ∷ 2 ∷ []) (tagOf the-type t) → false ≡ firstFree G last seen w
-    unfolding firstFree
-    other-free last seen h = ap (λ (b : Bool). b && (not (binds last) && not (elem w seen))) (sym (var-no h))
+    other-free last seen h = sym (none-free last seen (var-no h))
 
     pub bound-free : (last : ℕ) (seen : List ℕ) → binds last ≡ true → false ≡ firstFree G last seen w
     unfolding firstFree
