@@ -91,7 +91,7 @@ fn late_call() -> Family {
     lowered("late call", "one call of 508 names and a call", 32, joined(&[fact], &[]))
 }
 
-/// Calls that are not alike, though the settling crate (`buckets.rt`) has one key for all of them.
+/// Calls that are not alike, though the crate bodies (`buckets.rt`) has one key for all of them.
 fn one_key() -> Family {
     let third = |first: u32| {
         (0..=0xffff).find_map(|second: u32| {

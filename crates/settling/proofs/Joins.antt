@@ -26,15 +26,15 @@ use Rattle.meaning.proofs.WordLaws.{bindings-words, replace-words, tabs-words, 
 use Rattle.meaning.specs.Meaning.{All}
 use Rattle.meaning.specs.ReadBack.{Encodable}
 use Rattle.meaning.specs.Sweep.{asks}
-use Rattle.settling.specs.declared.canonicalize.Canonical.{Canonical}
+use Rattle.bodies.specs.Standing.{Bare, TabsAt, tabsIn}
+use Rattle.bodies.proofs.Standing.{atoms-tabs, bare-replaced, bare-resolve, no-tab-left, no-tabs, tabs-atoms, tabs-before, tabs-join}
+use Rattle.canonicalize.specs.declared.Canonical.{Canonical}
+use Rattle.canonicalize.specs.Canonicalize.{CanonicalAt, bindingWords, placeAfter, resolveTerms}
+use Rattle.canonicalize.proofs.Fronts.{canonicalize-asked, canonicalize-still}
+use Rattle.canonicalize.proofs.Replacing.{bindings-append}
+use Rattle.merging.specs.RemoveDupVars.{Group, GroupsAt, Some, allEqns, eqnsOf, groupFor, groupWords}
 use Rattle.settling.specs.declared.joining.Joined.{Joined}
-use Rattle.settling.specs.Canonicalize.{CanonicalAt, bindingWords, placeAfter, resolveTerms}
 use Rattle.settling.specs.Joining.{AgainAsks, JoinGroupAsks, JoinOneAsks, JoinedAll, JoinedGroup, JoinedOf, JoinedOne, Vars, has, hit, joinAfter, joinAsk, joinWords, leftAfter, replacedAtoms, replacedWords}
-use Rattle.settling.specs.RemoveDupVars.{Group, GroupsAt, Some, allEqns, eqnsOf, groupFor, groupWords}
-use Rattle.settling.specs.Standing.{Bare, TabsAt, tabsIn}
-use Rattle.settling.proofs.Fronts.{canonicalize-asked, canonicalize-still}
-use Rattle.settling.proofs.Replacing.{bindings-append}
-use Rattle.settling.proofs.Standing.{atoms-tabs, bare-replaced, bare-resolve, no-tab-left, no-tabs, tabs-atoms, tabs-before, tabs-join}
 use Rattle.rules.specs.Canonicalize as canon
 
 -- ---- whether a word is among others

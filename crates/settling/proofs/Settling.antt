@@ -25,16 +25,16 @@ use Rattle.meaning.proofs.WordLaws.{bindings-words, two-atom}
 use Rattle.meaning.specs.Meaning.{All}
 use Rattle.meaning.specs.ReadBack.{unplaced, unplacedSettled, unplacedTab}
 use Rattle.meaning.specs.Weight.{tabsWeight, weight}
-use Rattle.settling.specs.declared.canonicalize.Canonical.{Canonical}
-use Rattle.settling.specs.declared.remove_dup_vars.Merged.{Merged}
-use Rattle.settling.specs.Canonicalize.{CanonicalAt, CanonicalizeAsks, bindingWords}
+use Rattle.bodies.specs.Standing.{AtomsAt, BodyAt, TabsAt, atomsIn, tabsIn}
+use Rattle.bodies.proofs.Standing.{body-atoms, body-is, tabs-is}
+use Rattle.canonicalize.specs.declared.Canonical.{Canonical}
+use Rattle.canonicalize.specs.Canonicalize.{CanonicalAt, CanonicalizeAsks, bindingWords}
+use Rattle.canonicalize.proofs.Replacing.{bindings-append}
+use Rattle.merging.specs.declared.Merged.{Merged}
+use Rattle.merging.specs.RemoveDupVars.{Group, GroupsAt, PassAsks, Passed, allEqns, groupWords, groupsOf}
+use Rattle.merging.proofs.PassGroups.{PassGroups, groups-none, groups-small, pass-groups}
 use Rattle.settling.specs.Joining.{AgainAsks}
-use Rattle.settling.specs.RemoveDupVars.{Group, GroupsAt, PassAsks, Passed, allEqns, groupWords, groupsOf}
-use Rattle.settling.proofs.PassGroups.{PassGroups, groups-none, groups-small, pass-groups}
 use Rattle.settling.specs.Settle.{SettleAsks, SettledAt}
-use Rattle.settling.specs.Standing.{AtomsAt, BodyAt, TabsAt, atomsIn, tabsIn}
-use Rattle.settling.proofs.Replacing.{bindings-append}
-use Rattle.settling.proofs.Standing.{body-atoms, body-is, tabs-is}
 use Rattle.rules.specs.RemoveDupVars as definitions
 use Rattle.rules.specs.Canonicalize as canon
 

@@ -11,11 +11,11 @@ use Rattle.rules.specs.Canonicalize.{Replacement, canonicalize, replaceAtom, re
 use Rattle.rules.specs.Flat.{Atom, Tab, eqn, tab}
 use Rattle.rules.specs.Signature.{Sig, isVar, sameTerm}
 use Rattle.meaning.specs.Meaning.{All}
-use Rattle.settling.specs.declared.canonicalize.Canonical.{Canonical}
+use Rattle.bodies.specs.Standing.{TabsAt, tabsIn}
+use Rattle.canonicalize.specs.declared.Canonical.{Canonical}
+use Rattle.canonicalize.specs.Canonicalize.{bindingWords, placeAfter, resolveTerms}
+use Rattle.merging.specs.RemoveDupVars.{Group, GroupsAt, allEqns}
 use Rattle.settling.specs.declared.joining.Joined.{Joined}
-use Rattle.settling.specs.Canonicalize.{bindingWords, placeAfter, resolveTerms}
-use Rattle.settling.specs.RemoveDupVars.{Group, GroupsAt, allEqns}
-use Rattle.settling.specs.Standing.{TabsAt, tabsIn}
 
 -- ---- whether a word is among others
 

@@ -8,9 +8,9 @@ use Rattle.octets.specs.Regions.{At, Only}
 use Rattle.rules.specs.Signature.{Sig}
 use Rattle.rules.specs.Flat.{Atom, tabWords, wordsOf}
 use Rattle.rules.specs.RemoveDupVars.{settle}
+use Rattle.bodies.specs.Standing.{atomsIn, BodyAt}
+use Rattle.canonicalize.specs.Canonicalize.{bindingWords}
 use Rattle.settling.specs.declared.Settled.{Settled}
-use Rattle.settling.specs.Standing.{atomsIn, BodyAt}
-use Rattle.settling.specs.Canonicalize.{bindingWords}
 
 -- the words of some body stand at `at`, here told by the atoms that are read there, and there is room behind them
 pub record SettleAsks (l : List ℕ) (at n : ℕ) : Type 0 where

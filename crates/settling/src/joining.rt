@@ -7,16 +7,16 @@ ghost use lib.ListN.{length};
 ghost use Rattle.octets.specs.Words.{words};
 ghost use Rattle.octets.specs.Regions.{part, splice, swap};
 ghost use Rattle.rules.specs.Flat.{tab};
-ghost use Rattle.settling.specs.Terms.{sig, GoodSign};
-ghost use Rattle.settling.specs.Standing.{tabsIn};
-ghost use Rattle.settling.specs.Canonicalize.{CanonicalAt};
-ghost use Rattle.settling.specs.RemoveDupVars.{Group, allEqns, GroupsAt};
+ghost use Rattle.bodies.specs.Terms.{sig, GoodSign};
+ghost use Rattle.bodies.specs.Standing.{tabsIn};
+ghost use Rattle.canonicalize.specs.Canonicalize.{CanonicalAt};
+ghost use Rattle.merging.specs.RemoveDupVars.{Group, allEqns, GroupsAt};
 ghost use Rattle.settling.specs.Joining.{hit, has, JoinOneAsks, JoinedOne, JoinGroupAsks, JoinedGroup, JoinedAll, AgainAsks};
-use crate::canonicalize::Canonical;
-use crate::canonicalize::LET;
-use crate::canonicalize::replacement_of;
-use crate::canonicalize::resolve_terms;
-use crate::terms::Sign;
+use bodies::terms::Sign;
+use canonicalize::Canonical;
+use canonicalize::LET;
+use canonicalize::replacement_of;
+use canonicalize::resolve_terms;
 
 // 1 where w is x, else what was.
 fn met(x: u32, w: u32, was: u32) -> u32

@@ -14,20 +14,13 @@ ghost use mathlib.Core.List.{List};
 ghost use Rattle.octets.specs.Words.{words};
 ghost use Rattle.rules.specs.Signature.{Sig};
 ghost use Rattle.rules.specs.Flat.{Atom};
-ghost use Rattle.settling.specs.Terms.{GoodSign, Agrees};
-ghost use Rattle.settling.specs.Standing.{BodyAt};
+ghost use Rattle.bodies.specs.Terms.{GoodSign, Agrees};
+ghost use Rattle.bodies.specs.Standing.{BodyAt};
 ghost use Rattle.settling.specs.Settle.{SettleAsks, SettledAt};
 
-pub mod atoms;
-pub mod buckets;
-pub mod canonicalize;
-pub mod chains;
 pub mod joining;
-pub mod remove_dup_vars;
-pub mod spans;
-pub mod terms;
 
-use crate::terms::Sign;
+use bodies::terms::Sign;
 
 // A settled body: where its atoms stand, in how many words, and how many they are; where its bindings stand, three words each, and how
 // many they are, one for each replacement; and the passes.
@@ -63,7 +56,7 @@ pub fn settle(s: &mut [u8], at: usize, n: usize, q: Sign) -> Settled
     let mut c = canonicalize::canonicalize(s, at, n, body, end, q);
     let mut passes = 0;
     loop {
-        let t = remove_dup_vars::merge_pass(s, body, c.words, at, links, table);
+        let t = merging::merge_pass(s, body, c.words, at, links, table);
         passes += 1;
         if t.eqs == 0 {
             return Settled {

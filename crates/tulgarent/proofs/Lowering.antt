@@ -27,10 +27,10 @@ use Rattle.walks.specs.Log.{undone}
 use Rattle.lowering.specs.Lowered.{Good, Made, Lowers}
 use Rattle.lowering.specs.declared.Lowering.{Lowering}
 use Rattle.lowering.proofs.Joined.{same-read}
+use Rattle.bodies.specs.declared.terms.Sign.{Sign}
+use Rattle.bodies.specs.Terms.{GoodSign, Agrees}
+use Rattle.bodies.specs.Standing.{BodyAt}
 use Rattle.settling.specs.declared.Settled.{Settled}
-use Rattle.settling.specs.declared.terms.Sign.{Sign}
-use Rattle.settling.specs.Terms.{GoodSign, Agrees}
-use Rattle.settling.specs.Standing.{BodyAt}
 use Rattle.settling.specs.Settle.{SettleAsks, SettledAt}
 use Rattle.settling.proofs.Settling.{settle-asks}
 use Rattle.records.specs.declared.signature.Signature.{Signature}

@@ -27,9 +27,9 @@ use Rattle.records.specs.declared.written.Walk.{Walk}
 use Rattle.records.specs.declared.signature.Signature.{Signature}
 use Rattle.records.proofs.flat.Words.{word-read, row-spelled, atom-spelled, action-spelled, flat-spelled}
 use Rattle.records.proofs.flat.Whole.{flat-with}
+use Rattle.bodies.specs.Terms.{GoodSign, Agrees}
+use Rattle.bodies.specs.Standing.{BodyAt}
 use Rattle.settling.specs.declared.Settled.{Settled}
-use Rattle.settling.specs.Terms.{GoodSign, Agrees}
-use Rattle.settling.specs.Standing.{BodyAt}
 use Rattle.settling.specs.Settle.{SettleAsks, SettledAt}
 use Rattle.settling.proofs.Settling.{settle-asks}
 use Rattle.free_vars.specs.Head.{Wrote}

@@ -42,7 +42,7 @@ fn settle_good(rule: &[u8], sign: Signature, output: &mut [u8], scratch: &mut [u
     let end = read.at;
     let n = end - 1;
     octets::regions::copy(scratch, 0, rule, 1, n);
-    let q = settling::terms::Sign {
+    let q = bodies::terms::Sign {
         globals: sign.globals,
         equals: sign.equals,
     };

@@ -8,15 +8,15 @@ use borrow.Author.Needs.{needs}
 use Rattle.octets.proofs.Words.{length-words}
 use Rattle.octets.specs.Words.{words}
 use Rattle.settling.specs.Settle.{SettleAsks}
-use Rattle.settling.specs.Terms.{sig}
+use Rattle.bodies.specs.Terms.{sig}
 use Rattle.settling.proofs.Settling.{Settling, atoms-two, few, first-asks, merge-asks, next-asks, settled, settled-none, settling-next, settling-start}
 use Rattle.settling.proofs.settle.Statement.{statement}
 use Rattle.settling.proofs.settle.Tie as tie
 use Rattle.settling.proofs.settle.Reads as reads
 use Rattle.settling.proofs.settle.Lts as lts
-use Rattle.settling.proofs.canonicalize.canonicalize.Reads as canonicalize-reads
+use Rattle.canonicalize.proofs.canonicalize.Reads as canonicalize-reads
 use Rattle.settling.proofs.joining.canonicalize_again.Reads as canonicalize-again-reads
-use Rattle.settling.proofs.remove_dup_vars.merge_pass.Reads as merge-pass-reads
+use Rattle.merging.proofs.merge_pass.Reads as merge-pass-reads
 
 -- the test in front has told that there are words
 some-words : (n : ℕ) → (n ≡ 0 → ⊥) → 1 ≤ n

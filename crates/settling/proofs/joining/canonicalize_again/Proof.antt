@@ -5,7 +5,7 @@ use lib.ListN.{length}
 use Rattle.octets.proofs.Words.{length-words, length-words-kept}
 use Rattle.octets.specs.Regions.{below, beyond}
 use Rattle.octets.specs.Words.{words}
-use Rattle.settling.specs.Terms.{sig}
+use Rattle.bodies.specs.Terms.{sig}
 use Rattle.settling.proofs.Joins.{again-bare, again-binds, again-moved, again-room, again-top}
 use borrow.Author.Needs.{needs}
 use Rattle.settling.proofs.joining.canonicalize_again.Statement.{statement}

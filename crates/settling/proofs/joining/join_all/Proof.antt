@@ -7,7 +7,7 @@ use borrow.Author.Needs.{needs}
 use Rattle.octets.proofs.Words.{length-words, length-words-kept}
 use Rattle.octets.specs.Words.{words}
 use Rattle.settling.specs.Joining.{AgainAsks}
-use Rattle.settling.specs.Terms.{sig}
+use Rattle.bodies.specs.Terms.{sig}
 use Rattle.settling.proofs.Joins.{Joining, count-fits, group-here, join-group-asks, joining-end, joining-next, joining-start, words-fit}
 use Rattle.settling.proofs.joining.join_all.Statement.{statement}
 use Rattle.settling.proofs.joining.join_all.Tie as tie

@@ -6,7 +6,7 @@ use lib.ListN.{length}
 use borrow.Author.Needs.{needs}
 use Rattle.octets.proofs.Words.{length-words, length-words-kept}
 use Rattle.octets.specs.Words.{words}
-use Rattle.settling.specs.Terms.{sig}
+use Rattle.bodies.specs.Terms.{sig}
 use Rattle.settling.proofs.Joins.{Grouping, grouping-end, grouping-next, grouping-start, join-one-asks}
 use Rattle.settling.proofs.joining.join_group.Statement.{statement}
 use Rattle.settling.proofs.joining.join_group.Tie as tie

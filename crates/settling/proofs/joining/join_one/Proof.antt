@@ -6,9 +6,9 @@ use borrow.Author.Tests.{not-false, not-true}
 use Rattle.octets.proofs.Words.{length-words-kept}
 use Rattle.octets.specs.Words.{words}
 use Rattle.rules.specs.Canonicalize.{Replacement}
-use Rattle.settling.specs.Terms.{sig}
+use Rattle.bodies.specs.Terms.{sig}
 use Rattle.settling.proofs.Joins.{is-join-ask, join-room, joined-asked, joined-still, not-renamed, renamed}
-use Rattle.settling.proofs.Replacing.{asked-none, asked-some}
+use Rattle.canonicalize.proofs.Replacing.{asked-none, asked-some}
 use borrow.Author.Needs.{needs}
 use Rattle.settling.proofs.joining.join_one.Statement.{statement}
 use Rattle.settling.proofs.joining.join_one.Tie as tie
@@ -17,8 +17,8 @@ use Rattle.settling.proofs.joining.join_one.Lts as lts
 use Rattle.octets.proofs.get.Reads as get-reads
 use Rattle.octets.proofs.regions.replace.Reads as replace-reads
 use Rattle.octets.proofs.rows.put_three.Reads as put-three-reads
-use Rattle.settling.proofs.canonicalize.replacement_of.Reads as replacement-of-reads
-use Rattle.settling.proofs.canonicalize.resolve_terms.Reads as resolve-terms-reads
+use Rattle.canonicalize.proofs.replacement_of.Reads as replacement-of-reads
+use Rattle.canonicalize.proofs.resolve_terms.Reads as resolve-terms-reads
 use Rattle.settling.proofs.joining.replace_met.Reads as replace-met-reads
 
 -- src/joining.rt:76:9

@@ -1,0 +1,214 @@
+-- Resolving words, run by run and equality by equality, is `resolve`. Assumes nothing.
+use mathlib.Core.Bool.{Bool, false, true}
+use mathlib.Core.List.{List, [], _++_, _∷_, append-assoc, append-nil}
+use mathlib.Core.Path.{_∙_, _≡_, ap, refl, subst, sym}
+use Prim.Native.Nat.{_+_, _-_, _<_, _≤_, ℕ}
+use native.Mathlib.Omega.{arith}
+use lib.ListN.{getD, length}
+use Rattle.octets.proofs.Places.{at-splice, at-word, only-same, only-splice, only-then, only-wide}
+use Rattle.octets.specs.Regions.{At, Only, part, splice}
+use Rattle.rules.specs.Canonicalize.{resolve, resolveEq}
+use Rattle.rules.specs.Flat.{Atom, Tab, atomWords, eqn, tab, tabWords, wordsOf}
+use Rattle.rules.specs.Signature.{Sig, sameTerm}
+use Rattle.rules.specs.Words.{limit12}
+use Rattle.meaning.proofs.Encodable.{resolve-encodable}
+use Rattle.meaning.proofs.Lists.{length-words-append}
+use Rattle.meaning.proofs.MergePass.{IsEqn}
+use Rattle.bodies.specs.Standing.{AtomsAt, TabsAt, atomsIn}
+use Rattle.bodies.proofs.Standing.{First, atoms-before, atoms-is, atoms-read, bare-resolve, first-atom, no-tabs, none-left, tabs-before, tabs-join}
+use Rattle.canonicalize.specs.Canonicalize.{ResolveAsks, ResolveOneAsks, Resolved, othersIn, resolveAt, resolveTerms, untilEqn}
+use Rattle.canonicalize.proofs.Runs.{StartsEqn, from-starts, fromEqn, run-inside, run-rest, run-tabs, until-resolve}
+
+-- ---- one equality
+
+pub resolve-pair : (s : Sig) (l : List ℕ) (p a b : ℕ) → a ≡ getD l (p + 1) 0 → b ≡ getD l (p + 2) 0 → resolveTerms (sameTerm a b) s a b ≡ resolveAt s l p
+unfolding resolveAt
+resolve-pair s l p a b ea eb = λ i. resolveTerms (sameTerm (ea i) (eb i)) s (ea i) (eb i)
+
+pub resolve-atom : (s : Sig) (l : List ℕ) (p : ℕ) (x : Atom) → IsEqn x → At (atomWords x) l p → resolveAt s l p ≡ wordsOf tabWords (resolve s (x ∷ []))
+resolve-atom s l p (tab t) h k = absurd h
+resolve-atom s l p (eqn r a b) h k = sym (resolve-pair s l p a b (sym (at-word 1 k (omega arith))) (sym (at-word 2 k (omega arith)))) ∙ go (sameTerm a b)
+  where
+    go : (c : Bool) → resolveTerms c s a b ≡ wordsOf tabWords (resolveEq s c r a b [])
+    go true = refl
+    go false = refl
+
+eqn-size : (x : Atom) → IsEqn x → length (atomWords x) ≡ 3
+eqn-size (tab t) h = absurd h
+eqn-size (eqn p a b) h = refl
+
+pub resolve-cons : (s : Sig) (x : Atom) (xs : List Atom) → resolve s (x ∷ xs) ≡ resolve s (x ∷ []) ++ resolve s xs
+resolve-cons s (tab t) xs = refl
+resolve-cons s (eqn p a b) xs = go (sameTerm a b)
+  where
+    go : (c : Bool) → resolveEq s c p a b (resolve s xs) ≡ resolveEq s c p a b [] ++ resolve s xs
+    go true = refl
+    go false = refl
+
+-- ---- the loop on its way: i words are passed, k are written
+
+pub record Resolving (s : Sig) (l m : List ℕ) (from n to i k : ℕ) : Type 0 where
+  pub written : List Tab
+  pub todo : List Atom
+  pub same : resolve s (atomsIn l from n) ≡ written ++ resolve s todo
+  pub atoms : AtomsAt todo m (from + i) (n - i)
+  pub tabs : TabsAt written m to k
+  pub only : Only l m to (to + k)
+  pub inside : i ≤ n
+  pub room : k + length (wordsOf tabWords (resolve s todo)) ≡ length (wordsOf tabWords (resolve s (atomsIn l from n)))
+
+-- a run is carried, so that an equality is next, if anything
+pub record Ran (s : Sig) (l m : List ℕ) (from n to i k : ℕ) : Type 0 where
+  pub here : Resolving s l m from n to i k
+  pub first : StartsEqn (here .todo)
+
+module _ (s : Sig) (l : List ℕ) (from n to : ℕ) (c : ResolveAsks s l from n to) where
+  pub resolving-start : Resolving s l l from n to 0 0
+  resolving-start =
+      record {
+        written = [];
+        todo = atomsIn l from n;
+        same = refl;
+        atoms = subst (λ (q : ℕ). AtomsAt (atomsIn l from n) l q (n - 0)) (plus from) (subst (λ (q : ℕ). AtomsAt (atomsIn l from n) l from q) (minus n) (c .atoms));
+        tabs = no-tabs l to (omega (arith, c .room));
+        only = only-same l to (to + 0);
+        inside = omega arith;
+        room = omega arith;
+      }
+    where
+      plus : (p : ℕ) → p ≡ p + 0
+      plus p = omega arith
+
+      minus : (p : ℕ) → p ≡ p - 0
+      minus p = omega arith
+
+  -- a run of other atoms is carried: r words
+  module _ (m : List ℕ) (i k : ℕ) (w : Resolving s l m from n to i k) where
+    pub others-here : AtomsAt (atomsIn m (from + i) (n - i)) m (from + i) (n - i)
+    others-here = atoms-read m (from + i) (n - i) (w .todo) (w .atoms)
+
+    module _ (r : ℕ) (e : r ≡ othersIn m (from + i) (n - i)) where
+      abbrev run : List Tab
+      run = untilEqn (w .todo)
+
+      abbrev rest : List Atom
+      rest = fromEqn (w .todo)
+
+      run-size : r ≡ length (wordsOf tabWords run)
+      run-size = e ∙ ap (λ (xs : List Atom). length (wordsOf tabWords (untilEqn xs))) (atoms-is m (from + i) (n - i) (w .todo) (w .atoms))
+
+      stands : TabsAt run m (from + i) r
+      stands = run-tabs (w .todo) m (from + i) (n - i) r (w .atoms) run-size
+
+      inside : i + r ≤ n
+      inside = omega (arith, w .inside, run-inside (w .todo) m (from + i) (n - i) r (w .atoms) run-size)
+
+      run-sizes : length (wordsOf tabWords (resolve s (w .todo))) ≡ r + length (wordsOf tabWords (resolve s rest))
+      run-sizes =
+          ap (λ (ts : List Tab). length (wordsOf tabWords ts)) (until-resolve s (w .todo)) ∙ length-words-append tabWords run (resolve s rest)
+          ∙ ap (λ (j : ℕ). j + length (wordsOf tabWords (resolve s rest))) (sym run-size)
+
+      room : to + k + r ≤ length m
+      room = omega (arith, w .room, run-sizes, c .room, w .only .size)
+
+      pub run-asks : (to + k + r ≤ length m) × (from + i + r ≤ length m) × (from + i + r ≤ to + k) × (i + r ≤ n)
+      run-asks = (room, stands .within, omega (arith, inside, c .clear), inside)
+
+      words-are : part m (from + i) r ≡ wordsOf tabWords run
+      words-are = ap (part m (from + i)) run-size ∙ stands .at .words
+
+      pub resolving-run : (m₂ : List ℕ) → m₂ ≡ splice m (to + k) (part m (from + i) r) → Ran s l m₂ from n to (i + r) (k + r)
+      resolving-run m₂ em =
+          let new : List ℕ = wordsOf tabWords run in
+          let o : Only m (splice m (to + k) new) (to + k) (to + (k + r)) = only-splice m (to + k) new (to + (k + r)) (omega (arith, run-size)) (omega (arith, room)) in
+          let behind : TabsAt run (splice m (to + k) new) (to + k) r =
+          record {
+            fits = stands .fits;
+            bare = stands .bare;
+            size = run-size;
+            at = at-splice m (to + k) new (omega (arith, room, run-size));
+            within = omega (arith, o .size, room);
+          } in
+          subst (λ (x : List ℕ). Ran s l x from n to (i + r) (k + r)) (sym (em ∙ ap (splice m (to + k)) words-are))
+          (record {
+            here = record {
+              written = w .written ++ run;
+              todo = rest;
+              same = w .same ∙ ap (λ (ts : List Tab). w .written ++ ts) (until-resolve s (w .todo)) ∙ sym (append-assoc (w .written) run (resolve s rest));
+              atoms = atoms-before o (run-rest (w .todo) m (from + i) (n - i) r (w .atoms) run-size (from + (i + r)) (n - (i + r)) (omega arith) (omega arith)) (omega (arith, inside, c .clear));
+              tabs = tabs-join (w .written) run (splice m (to + k) new) to k (to + k) r (tabs-before o (w .tabs) (omega arith)) behind refl;
+              only = only-then (only-wide to (to + (k + r)) (w .only) (omega arith) (omega arith)) (only-wide to (to + (k + r)) o (omega arith) (omega arith));
+              inside = inside;
+              room = omega (arith, w .room, run-sizes);
+            };
+            first = from-starts (w .todo);
+          })
+
+  -- then an equality is next, and the words that it becomes
+  module _ (m : List ℕ) (i k : ℕ) (g : Ran s l m from n to i k) (h : i < n) where
+    abbrev w : Resolving s l m from n to i k
+    w = g .here
+
+    resolve-here : First (w .todo) m (from + i) (n - i)
+    resolve-here = first-atom (w .todo) m (from + i) (n - i) (w .atoms) (omega arith)
+
+    is-eqn : IsEqn (resolve-here .atom)
+    is-eqn = subst (λ (xs : List Atom). StartsEqn xs) (resolve-here .is) (g .first)
+
+    three : length (atomWords (resolve-here .atom)) ≡ 3
+    three = eqn-size (resolve-here .atom) is-eqn
+
+    pub equality-inside : i + 3 ≤ n
+    equality-inside = omega (arith, three, resolve-here .inside)
+
+    wrote : resolveAt s m (from + i) ≡ wordsOf tabWords (resolve s (resolve-here .atom ∷ []))
+    wrote = resolve-atom s m (from + i) (resolve-here .atom) is-eqn (resolve-here .stands)
+
+    split : resolve s (w .todo) ≡ resolve s (resolve-here .atom ∷ []) ++ resolve s (resolve-here .rest)
+    split = ap (resolve s) (resolve-here .is) ∙ resolve-cons s (resolve-here .atom) (resolve-here .rest)
+
+    sizes : length (wordsOf tabWords (resolve s (w .todo))) ≡ length (resolveAt s m (from + i)) + length (wordsOf tabWords (resolve s (resolve-here .rest)))
+    sizes =
+        ap (λ (ts : List Tab). length (wordsOf tabWords ts)) split
+        ∙ length-words-append tabWords (resolve s (resolve-here .atom ∷ [])) (resolve s (resolve-here .rest))
+        ∙ ap (λ (ws : List ℕ). length ws + length (wordsOf tabWords (resolve s (resolve-here .rest)))) (sym wrote)
+
+    pub resolve-one-asks : ResolveOneAsks s m (from + i) (to + k)
+    resolve-one-asks = record { whole = omega (arith, equality-inside, w .atoms .within); room = omega (arith, w .room, sizes, c .room, w .only .size) }
+
+    pub resolving-next : s .valueEq < limit12 → (m₂ : List ℕ) (k₂ : ℕ) → k₂ ≡ k + length (resolveAt s m (from + i))
+        → m₂ ≡ splice m (to + k) (resolveAt s m (from + i)) → Resolving s l m₂ from n to (i + 3) k₂
+    resolving-next v m₂ k₂ ek em =
+        let new : List ℕ = resolveAt s m (from + i) in
+        let one : List Tab = resolve s (resolve-here .atom ∷ []) in
+        let o : Only m (splice m (to + k) new) (to + k) (to + k₂) = only-splice m (to + k) new (to + k₂) (omega arith) (omega (arith, resolve-one-asks .room)) in
+        let at : At (wordsOf tabWords one) (splice m (to + k) new) (to + k) =
+        subst (λ (ws : List ℕ). At ws (splice m (to + k) new) (to + k)) wrote (at-splice m (to + k) new (resolve-one-asks .room)) in
+        let behind : TabsAt one (splice m (to + k) new) (to + k) (length new) =
+        record {
+          fits = resolve-encodable s v (resolve-here .atom ∷ []) (resolve-here .fits, tt);
+          bare = bare-resolve s (resolve-here .atom ∷ []) (resolve-here .bare, tt);
+          size = ap length wrote;
+          at = at;
+          within = omega (arith, o .size, resolve-one-asks .room);
+        } in
+        subst (λ (x : List ℕ). Resolving s l x from n to (i + 3) k₂) (sym em)
+        (record {
+          written = w .written ++ one;
+          todo = resolve-here .rest;
+          same = w .same ∙ ap (λ (ts : List Tab). w .written ++ ts) split ∙ sym (append-assoc (w .written) one (resolve s (resolve-here .rest)));
+          atoms = atoms-before o (resolve-here .after (from + (i + 3)) (n - (i + 3)) (omega (arith, three)) (omega (arith, three))) (omega (arith, equality-inside, c .clear));
+          tabs = subst (λ (q : ℕ). TabsAt (w .written ++ one) (splice m (to + k) new) to q) (sym ek)
+              (tabs-join (w .written) one (splice m (to + k) new) to k (to + k) (length new) (tabs-before o (w .tabs) (omega arith)) behind refl);
+          only = only-then (only-wide to (to + k₂) (w .only) (omega arith) (omega arith)) (only-wide to (to + k₂) o (omega arith) (omega arith));
+          inside = equality-inside;
+          room = omega (arith, w .room, sizes);
+        })
+
+  pub resolving-end : (m : List ℕ) (i k : ℕ) → Resolving s l m from n to i k → n ≤ i → Resolved s l m from n to k
+  resolving-end m i k w h =
+      let e = none-left (w .todo) m (from + i) (n - i) (w .atoms) (omega arith) in
+      record {
+        tabs = subst (λ (ts : List Tab). TabsAt ts m to k) (sym (w .same ∙ ap (λ (xs : List Atom). w .written ++ resolve s xs) e ∙ append-nil (w .written))) (w .tabs);
+        only = w .only;
+      }

@@ -1,0 +1,31 @@
+-- `spans::whole` meets its contract. Assumes nothing.
+use Rattle.octets.specs.Words.{words}
+use Rattle.canonicalize.proofs.SpanLaws.{whole-built}
+use borrow.Author.Needs.{needs}
+use Rattle.canonicalize.proofs.spans.whole.Statement.{statement}
+use Rattle.canonicalize.proofs.spans.whole.Tie as tie
+
+cast-put-two : tie.Need-cast-put-two
+cast-put-two c = search needs
+
+add-put-two : tie.Need-add-put-two
+add-put-two c = search needs
+
+cast-put-two-2 : tie.Need-cast-put-two-2
+cast-put-two-2 c = search needs
+
+put-two-requires : tie.Need-put-two-requires
+put-two-requires c κs = search needs
+
+same-length : tie.Need-same-length
+same-length c = search needs
+
+returns : tie.Need-returns
+returns c =
+    let a = c .before .before .before .before .before .args in
+    whole-built (words (a .s .now)) _ (a .at) (a .n) (a .table) (c .before .before .before .before .before .pre) (c .before .before .put-two .ensures .1)
+
+pub whole-spec : {M : Type 1} → statement M
+whole-spec =
+    tie.close
+    (tie.spec cast-put-two add-put-two cast-put-two-2 put-two-requires same-length returns)

@@ -1,0 +1,7 @@
+-- Laws of a merge pass on a scratch, in reading order: from links to the whole, and its groups for what follows it.
+pub mod ChainLaws
+pub mod Linking
+pub mod Groups
+pub mod Keeping
+pub mod MergingAll
+pub mod PassGroups

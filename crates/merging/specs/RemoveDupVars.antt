@@ -1,0 +1,230 @@
+-- What the functions of `remove_dup_vars` ask and give, in the definitions' words. Assumes nothing: these are definitions.
+use mathlib.Core.Bool.{Bool, false, true, _&&_, cond, not}
+use mathlib.Core.List.{List, [], _++_, _∷_, map}
+use mathlib.Core.Path.{_≡_}
+use Prim.Native.Nat.{_*_, _+_, _-_, _<_, _≤_, ℕ}
+use lib.Dec.{eqb}
+use lib.ListN.{getD, length}
+use Rattle.octets.specs.Regions.{At, Only, part, splice}
+use Rattle.rules.specs.Flat.{Atom, Tab, eqn, tabWords, wordsOf}
+use Rattle.rules.specs.RemoveDupVars.{alike, keep, merged, seen}
+use Rattle.rules.specs.Signature.{sameTerm}
+use Rattle.rules.specs.Words.{unit}
+use Rattle.meaning.specs.Meaning.{All}
+use Rattle.bodies.specs.Standing.{TabAt, TabsAt, sizeAt, tabAt, tabsIn}
+use Rattle.merging.specs.declared.Merged.{Merged}
+use Rattle.merging.specs.Chains.{LinksAt, MarksAt}
+
+-- ---- groups
+
+-- the equalities of a group: its first output is equal to each of the others
+pub record Group : Type 0 where
+  pub left : ℕ
+  pub rights : List ℕ
+
+-- a group without equalities is not written
+abbrev pub groupFor : ℕ → List ℕ → List ℕ
+groupFor left [] = []
+groupFor left (r ∷ rs) = left ∷ length (r ∷ rs) ∷ r ∷ rs
+
+abbrev pub groupWords : Group → List ℕ
+groupWords g = groupFor (g .left) (g .rights)
+
+-- the later outputs of a's group that are unlike a's
+abbrev pub rightsOf : Tab → List Tab → List ℕ
+rightsOf a [] = []
+rightsOf a (b ∷ xs) = cond (alike a b && not (sameTerm (a .out) (b .out))) (b .out ∷ rightsOf a xs) (rightsOf a xs)
+
+abbrev pub groupOf : Tab → List Tab → Group
+groupOf a xs = record { left = a .out; rights = rightsOf a xs }
+
+-- the groups of a pass, which follow their first atoms
+abbrev pub groupsOf : List Tab → List Tab → List Group
+groupsOf firsts [] = []
+groupsOf firsts (a ∷ xs) = cond (seen a firsts) (groupsOf firsts xs) (groupOf a xs ∷ groupsOf (a ∷ firsts) xs)
+
+-- the equalities themselves
+abbrev pub eqnsOf : Group → List Atom
+eqnsOf g = map (λ (r : ℕ). eqn 0 (g .left) r) (g .rights)
+
+abbrev pub allEqns : List Group → List Atom
+allEqns [] = []
+allEqns (g ∷ gs) = eqnsOf g ++ allEqns gs
+
+-- ---- two atoms
+
+pub record MemberAsks (l : List ℕ) (p q mark to : ℕ) : Type 0 where
+  pub first : TabAt l p
+  pub later : TabAt l q
+  pub apart : to < mark
+  pub below : mark < p
+  pub behind : p ≤ q
+
+-- what is written of the atom at q
+abbrev pub cellsOf : (isAlike isSame : Bool) → ℕ → List ℕ
+cellsOf true false b = b ∷ []
+cellsOf true true b = []
+cellsOf false same b = []
+
+abbrev pub cellsAt : List ℕ → ℕ → ℕ → List ℕ
+cellsAt l p q = cellsOf (alike (tabAt l p) (tabAt l q)) (sameTerm (tabAt l p .out) (tabAt l q .out)) (tabAt l q .out)
+
+abbrev pub marked : Bool → List ℕ → ℕ → List ℕ
+marked true l mark = splice l mark (1 ∷ [])
+marked false l mark = l
+
+pub record Member (l m : List ℕ) (p q mark to r : ℕ) : Type 0 where
+  pub size : r ≡ length (cellsAt l p q)
+  pub words : m ≡ splice (marked (alike (tabAt l p) (tabAt l q)) l mark) to (cellsAt l p q)
+
+-- ---- the group of an atom
+
+-- the atoms behind that at offset i
+unfoldable pub behind : List ℕ → (from n i : ℕ) → List Tab
+behind l from n i = tabsIn l (from + i + sizeAt l (from + i)) (n - i - sizeAt l (from + i))
+
+-- they stand, they are linked by some number of buckets, and there is room for the group below the links
+pub record GroupAsks (l : List ℕ) (from n i links to : ℕ) : Type 0 where
+  pub tabs : TabsAt (tabAt l (from + i) ∷ behind l from n i) l (from + i) (n - i)
+  pub buckets : ℕ
+  pub linked : LinksAt buckets (tabAt l (from + i) ∷ behind l from n i) i l links
+  pub inside : i < n
+  pub small : n < 0x1000_0000
+  pub below : links + n + 1 ≤ from
+  pub room : to + length (groupWords (groupOf (tabAt l (from + i)) (behind l from n i))) ≤ links
+
+-- of the atoms ts, which stand from offset i on, those alike to a are marked
+unfoldable pub MarkedBy : Tab → List Tab → ℕ → List ℕ → List ℕ → ℕ → Type 0
+MarkedBy a [] i l m links = Unit {0}
+MarkedBy a (t ∷ ts) i l m links =
+    (getD m (links + i + 2) 0 ≡ cond (alike a t) 1 (getD l (links + i + 2) 0)) × MarkedBy a ts (i + length (tabWords t)) l m links
+
+-- the links of the atoms ts are as they were
+unfoldable pub LinksKept : List Tab → ℕ → List ℕ → List ℕ → ℕ → Type 0
+LinksKept [] i l m links = Unit {0}
+LinksKept (t ∷ ts) i l m links =
+    (getD m (links + i + 1) 0 ≡ getD l (links + i + 1) 0) × LinksKept ts (i + length (tabWords t)) l m links
+
+pub record Grouped (l m : List ℕ) (from n i links to r : ℕ) : Type 0 where
+  pub at : At (groupWords (groupOf (tabAt l (from + i)) (behind l from n i))) m to
+  pub size : r ≡ length (groupWords (groupOf (tabAt l (from + i)) (behind l from n i)))
+  pub marks : MarkedBy (tabAt l (from + i)) (behind l from n i) (i + sizeAt l (from + i)) l m links
+  pub chained : LinksKept (behind l from n i) (i + sizeAt l (from + i)) l m links
+  -- the marks of the atom itself and of those before it stay
+  pub passed : (j : ℕ) → links + 2 ≤ j → j ≤ links + i + 2 → getD m j 0 ≡ getD l j 0
+  pub only : Only l m to (links + n + 1)
+
+-- ---- one atom of a pass
+
+-- of the atoms that are left those are marked that are alike to one of `firsts`
+pub record MergeOneAsks (l : List ℕ) (from n i eqs links : ℕ) (t : Merged) : Type 0 where
+  pub firsts : List Tab
+  pub tabs : TabsAt (tabAt l (from + i) ∷ behind l from n i) l (from + i) (n - i)
+  pub buckets : ℕ
+  pub linked : LinksAt buckets (tabAt l (from + i) ∷ behind l from n i) i l links
+  pub marks : MarksAt firsts (tabAt l (from + i) ∷ behind l from n i) i l links
+  pub inside : i < n
+  pub small : n < 0x1000_0000
+  pub down : t .kept ≤ i
+  pub few : t .atoms ≤ t .kept
+  pub below : links + n + 1 ≤ from
+  pub room : seen (tabAt l (from + i)) firsts ≡ false → eqs + t .eqs + length (groupWords (groupOf (tabAt l (from + i)) (behind l from n i))) ≤ links
+
+-- a kept atom: its group is written, those alike behind it are marked, and it is counted
+pub record KeptOne (l m : List ℕ) (from n i eqs links : ℕ) (t r : Merged) : Type 0 where
+  pub more : ℕ
+  pub group : Grouped l m from n i links (eqs + t .eqs) more
+  pub eqs-end : r .eqs ≡ t .eqs + more
+  pub kept-end : r .kept ≡ t .kept + sizeAt l (from + i)
+  pub atoms-end : r .atoms ≡ t .atoms + 1
+
+abbrev pub OneStep : (wasSeen : Bool) → List ℕ → List ℕ → (from n i eqs links : ℕ) → Merged → Merged → Type 0
+OneStep true l m from n i eqs links t r = (r ≡ t) × (m ≡ l)
+OneStep false l m from n i eqs links t r = KeptOne l m from n i eqs links t r
+
+pub record MergedOne (l m : List ℕ) (from n i eqs links : ℕ) (t r : Merged) : Type 0 where
+  pub step : (firsts : List Tab) → MarksAt firsts (tabAt l (from + i) ∷ behind l from n i) i l links → OneStep (seen (tabAt l (from + i)) firsts) l m from n i eqs links t r
+
+-- ---- atoms by their marks
+
+-- of the atoms ts, which stand from offset i on, those without a mark
+unfoldable pub unmarkedOf : List Tab → ℕ → List ℕ → ℕ → List Tab
+unmarkedOf [] i l links = []
+unmarkedOf (t ∷ ts) i l links =
+    let rest = unmarkedOf ts (i + length (tabWords t)) l links in
+    cond (eqb (getD l (links + i + 2) 0) 0) (t ∷ rest) rest
+
+-- the offset of the first one with a mark, or their end
+unfoldable pub runEnd : List Tab → ℕ → List ℕ → ℕ → ℕ
+runEnd [] i l links = i
+runEnd (t ∷ ts) i l links = cond (eqb (getD l (links + i + 2) 0) 0) (runEnd ts (i + length (tabWords t)) l links) i
+
+-- the atoms from offset i on stand, and their marks lie below them
+pub record RunAsks (l : List ℕ) (from n i links : ℕ) : Type 0 where
+  pub tabs : TabsAt (tabsIn l (from + i) (n - i)) l (from + i) (n - i)
+  pub inside : i ≤ n
+  pub below : links + n + 1 ≤ from
+
+pub record KeepAsks (l : List ℕ) (from n links : ℕ) : Type 0 where
+  pub tabs : TabsAt (tabsIn l from n) l from n
+  pub below : links + n + 1 ≤ from
+
+-- the atoms without a mark stand one behind the other, and nothing is written but where atoms stood
+pub record Keeps (l m : List ℕ) (from n links : ℕ) : Type 0 where
+  pub size : ℕ
+  pub tabs : TabsAt (unmarkedOf (tabsIn l from n) 0 l links) m from size
+  pub only : Only l m from (from + n)
+
+-- ---- a pass
+
+pub record MergeAsks (l : List ℕ) (from n eqs links : ℕ) : Type 0 where
+  pub tabs : TabsAt (tabsIn l from n) l from n
+  pub buckets : ℕ
+  pub linked : LinksAt buckets (tabsIn l from n) 0 l links
+  pub marks : MarksAt [] (tabsIn l from n) 0 l links
+  pub small : n < 0x1000_0000
+  pub below : links + n + 1 ≤ from
+  pub room : eqs + length (wordsOf groupWords (groupsOf [] (tabsIn l from n))) ≤ links
+
+-- the groups are written, and of the atoms, which stay where they are, those have no mark that a pass keeps
+pub record GroupedAll (l m : List ℕ) (from n eqs links : ℕ) (r : Merged) : Type 0 where
+  pub groups : At (wordsOf groupWords (groupsOf [] (tabsIn l from n))) m eqs
+  pub size : r .eqs ≡ length (wordsOf groupWords (groupsOf [] (tabsIn l from n)))
+  pub unmarked : unmarkedOf (tabsIn l from n) 0 m links ≡ keep [] (tabsIn l from n)
+  pub kept : r .kept ≡ length (wordsOf tabWords (keep [] (tabsIn l from n)))
+  pub atoms : r .atoms ≡ length (keep [] (tabsIn l from n))
+  pub only : Only l m eqs (links + n + 1)
+
+pub record MergedAll (l m : List ℕ) (from n eqs links : ℕ) (r : Merged) : Type 0 where
+  pub groups : At (wordsOf groupWords (groupsOf [] (tabsIn l from n))) m eqs
+  pub size : r .eqs ≡ length (wordsOf groupWords (groupsOf [] (tabsIn l from n)))
+  pub tabs : TabsAt (keep [] (tabsIn l from n)) m from (r .kept)
+  pub atoms : r .atoms ≡ length (keep [] (tabsIn l from n))
+  pub only : Only l m eqs (from + n)
+
+pub record PassAsks (l : List ℕ) (from n eqs links table : ℕ) : Type 0 where
+  pub tabs : TabsAt (tabsIn l from n) l from n
+  pub small : n < 0x1000_0000
+  pub room-eqs : eqs + length (wordsOf groupWords (groupsOf [] (tabsIn l from n))) ≤ links
+  pub below : links + n + 1 ≤ from
+  pub beyond : from + n ≤ table
+  pub room : table + n + 1 ≤ length l
+
+pub record Passed (l m : List ℕ) (from n eqs table : ℕ) (r : Merged) : Type 0 where
+  pub groups : At (wordsOf groupWords (groupsOf [] (tabsIn l from n))) m eqs
+  pub size : r .eqs ≡ length (wordsOf groupWords (groupsOf [] (tabsIn l from n)))
+  pub tabs : TabsAt (keep [] (tabsIn l from n)) m from (r .kept)
+  pub atoms : r .atoms ≡ length (keep [] (tabsIn l from n))
+  pub only : Only l m eqs (table + n + 1)
+
+-- ---- groups where they stand
+
+-- groups that are written have an equality each
+abbrev pub Some : Group → Type 0
+Some g = 1 ≤ length (g .rights)
+
+pub record GroupsAt (gs : List Group) (l : List ℕ) (p n : ℕ) : Type 0 where
+  pub some : All Some gs
+  pub few : All (λ (g : Group). length (g .rights) < unit) gs
+  pub size : n ≡ length (wordsOf groupWords gs)
+  pub at : At (wordsOf groupWords gs) l p
