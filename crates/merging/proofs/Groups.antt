@@ -22,11 +22,11 @@ use Rattle.meaning.proofs.WordLaws.{two-tab}
 use Rattle.meaning.specs.Meaning.{All}
 use Rattle.meaning.specs.ReadBack.{EncodableTab, tabFrom}
 use Rattle.bodies.specs.Buckets.{bucketIn, bucketOf, keyOf, mixAll}
+use Rattle.merging.specs.Chains.{LinksAt, MarksAt, markOf, nextIn}
+use Rattle.merging.specs.RemoveDupVars.{GroupAsks, Grouped, LinksKept, MarkedBy, Member, MemberAsks, behind, cellsAt, cellsOf, groupFor, marked, rightsOf}
 use Rattle.bodies.specs.Standing.{BareTab, TabAt, TabsAt, sizeAt, tabAt}
 use Rattle.bodies.proofs.BucketLaws.{alike-bucket}
 use Rattle.bodies.proofs.Standing.{size-tab, tab-is, tab-there}
-use Rattle.merging.specs.Chains.{LinksAt, MarksAt, markOf, nextIn}
-use Rattle.merging.specs.RemoveDupVars.{GroupAsks, Grouped, LinksKept, MarkedBy, Member, MemberAsks, behind, cellsAt, cellsOf, groupFor, marked, rightsOf}
 
 other-unlike : (count : ℕ) (a b : Tab) → (bucketIn count b ≡ bucketIn count a → ⊥) → alike a b ≡ false
 other-unlike count a b n = go (alike a b) refl
@@ -362,7 +362,6 @@ pub record Following (l m : List ℕ) (from n i links to next k : ℕ) : Type 0 
   pub size : k ≡ length (rightsOf (tabAt l (from + i)) done)
   pub marks : MarkedBy (tabAt l (from + i)) done (i + sizeAt l (from + i)) l m links
   pub chained : LinksKept done (i + sizeAt l (from + i)) l m links
-  pub passed : (j : ℕ) → links + 2 ≤ j → j ≤ links + i + 2 → getD m j 0 ≡ getD l j 0
   pub only : Only l m to (links + off + 1)
   pub off-is : off ≡ i + sizeAt l (from + i) + length (wordsOf tabWords done)
   pub inside : off ≤ n
@@ -410,7 +409,6 @@ module _ (l : List ℕ) (from n i links to : ℕ) (c : GroupAsks l from n i link
         size = refl;
         marks = tt;
         chained = tt;
-        passed = λ j a b. refl;
         only = only-same l to (links + (i + sizeAt l (from + i)) + 1);
         off-is = omega arith;
         inside = here-in;
@@ -649,7 +647,6 @@ module _ (l : List ℕ) (from n i links to : ℕ) (c : GroupAsks l from n i link
               size = ek ∙ ap (λ (x : ℕ). k + x) (d .size ∙ ap length cells-are) ∙ sym size₂;
               marks = marked-join (tabAt l (from + i)) l m₂ links (w .done ++ met .skip) (met .atom ∷ []) (i + sizeAt l (from + i)) (next - 1) marks₁ marks₂ (sym met-end);
               chained = kept-join (tabAt l (from + i)) l m₂ links (w .done ++ met .skip) (met .atom ∷ []) (i + sizeAt l (from + i)) (next - 1) chained₁ chained₂ (sym met-end);
-              passed = λ j a b. let y : j ≤ links + (next - 1) = omega (arith, o-is, w .off-is, two-here) in same-words j a y ∙ w .passed j a b;
               only = only-then (only-wide to (links + off₂ + 1) (w .only) (omega arith) (omega (arith, o-is)))
                   (only-then (only-wide to (links + off₂ + 1) mid-only (omega (arith, follow-room)) (omega (arith, two-tab (met .atom), met .at)))
                   (only-wide to (links + off₂ + 1) cell-only (omega arith) (omega (arith, room₂, low))));
@@ -694,7 +691,6 @@ module _ (l : List ℕ) (from n i links to : ℕ) (c : GroupAsks l from n i link
             size = ap length (sym g);
             marks = marks-end;
             chained = chained-end;
-            passed = w .passed;
             only = only-end;
           }
 
@@ -723,6 +719,5 @@ module _ (l : List ℕ) (from n i links to : ℕ) (c : GroupAsks l from n i link
             size = omega (arith, k-is) ∙ ap length (sym g);
             marks = marked-on t l m links m₂ n same (behind l from n i) (i + sizeAt l (from + i)) (omega (arith, two-here)) behind-size marks-end;
             chained = kept-on t l m links m₂ n same (behind l from n i) (i + sizeAt l (from + i)) (omega (arith, two-here)) behind-size chained-end;
-            passed = λ j x z. let y : j ≤ links + n = omega (arith, here-in, two-here) in same j x y ∙ w .passed j x z;
             only = only-then only-end (only-wide to (links + n + 1) o (omega arith) (omega (arith, to-in, here-in, two-here)));
           }

@@ -2,6 +2,5 @@
 pub mod ChainLaws
 pub mod Linking
 pub mod Groups
-pub mod Keeping
 pub mod MergingAll
 pub mod PassGroups

@@ -4,20 +4,85 @@ use mathlib.Core.List.{List, [], _++_, _∷_, append-assoc, append-nil}
 use mathlib.Core.Path.{_∙_, _≡_, ap, ap₂, refl, subst, sym}
 use Prim.Native.Nat.{_+_, _-_, _<_, _≤_, ℕ}
 use native.Mathlib.Omega.{arith}
-use lib.ListN.{getD, length, length-append}
-use Rattle.octets.proofs.Places.{at-after, at-before, at-join, at-left, at-nil, only-same, only-then, only-wide}
-use Rattle.octets.specs.Regions.{At, Only}
+use lib.ListN.{drop, getD, length, length-append, take, take-append-drop}
+use lib.Seq.{drop-drop}
+use Rattle.octets.proofs.Places.{at-before, at-join, at-left, at-nil, at-splice, getD-only-before, only-same, only-splice, only-then, only-wide}
+use Rattle.octets.proofs.Splice.{length-part, splice-is}
+use Rattle.octets.specs.Regions.{At, Only, part, splice}
 use Rattle.rules.specs.Flat.{Tab, tabWords, wordsOf}
 use Rattle.rules.specs.RemoveDupVars.{keep, seen}
 use Rattle.meaning.proofs.Lists.{length-words, length-words-append, words-append}
 use Rattle.meaning.proofs.WordLaws.{two-tab}
-use Rattle.bodies.specs.Standing.{TabsAt, sizeAt, tabAt, tabsIn}
-use Rattle.bodies.proofs.Standing.{FirstTab, first-tab, no-tab-left, none-passed, size-tab, tab-is, tabs-after, tabs-is, tabs-read}
 use Rattle.merging.specs.declared.Merged.{Merged}
+use Rattle.merging.specs.declared.Merging.{Merging}
 use Rattle.merging.specs.Chains.{LinkAsks, Linked, LinksAt, MarksAt, markOf}
-use Rattle.merging.specs.RemoveDupVars.{Group, GroupAsks, Grouped, GroupedAll, KeepAsks, Keeps, KeptOne, LinksKept, MarkedBy, MergeAsks, MergeOneAsks, MergedAll, MergedOne, OneStep, PassAsks, Passed, behind, groupOf, groupWords, groupsOf, unmarkedOf}
+use Rattle.merging.specs.RemoveDupVars.{DroppedOne, Group, GroupAsks, Grouped, KeptOne, LinksKept, MarkedBy, MergeAsks, MergeOneAsks, MergedAll, MergedOne, OneStep, PassAsks, Passed, behind, groupOf, groupWords, groupsOf}
+use Rattle.bodies.specs.Standing.{TabsAt, sizeAt, tabAt, tabsIn}
 use Rattle.merging.proofs.Groups.{links-after, marks-after}
-use Rattle.merging.proofs.Keeping.{unmarked-all, unmarked-one, unmarked-same}
+use Rattle.bodies.proofs.Standing.{FirstTab, first-tab, no-tab-left, no-tabs, none-passed, size-tab, tab-is, tabs-after, tabs-before, tabs-is, tabs-join, tabs-read}
+
+-- ---- words carried to where they are
+
+pub splice-itself : (l : List ℕ) (p n : ℕ) → p + n ≤ length l → splice l p (part l p n) ≡ l
+splice-itself l p n h =
+    splice-is l p (part l p n) ∙ append-assoc (take p l) (part l p n) (drop (p + length (part l p n)) l)
+    ∙ ap (λ (k : ℕ). take p l ++ (part l p n ++ drop (p + k) l)) (length-part l p n h)
+    ∙ ap (λ (x : List ℕ). take p l ++ (part l p n ++ x)) (sym (drop-drop n p l))
+    ∙ ap (λ (x : List ℕ). take p l ++ x) (take-append-drop n (drop p l)) ∙ take-append-drop p l
+
+-- ---- a run of atoms moves down
+
+tabs-to : {ts : List Tab} {l : List ℕ} {p n : ℕ} (q k : ℕ) → TabsAt ts l p n → p ≡ q → n ≡ k → TabsAt ts l q k
+tabs-to {ts} {l} {p} {n} q k h e f = subst (λ (x : ℕ). TabsAt ts l x k) e (subst (λ (x : ℕ). TabsAt ts l p x) f h)
+
+-- behind those that were moved before, and nothing is written but below the run's end
+module _ (held run : List Tab) (m : List ℕ) (from i kept start : ℕ) (hs : TabsAt held m from kept) (rs : TabsAt run m (from + start) (i - start))
+    (down : kept ≤ start) (up : start ≤ i) (m₂ : List ℕ) (em : m₂ ≡ splice m (from + kept) (part m (from + start) (i - start))) where
+  move-is : m₂ ≡ splice m (from + kept) (wordsOf tabWords run)
+  move-is =
+      em ∙ ap (λ (k : ℕ). splice m (from + kept) (part m (from + start) k)) (rs .size) ∙ ap (splice m (from + kept)) (rs .at .words)
+
+  move-fits : from + kept + length (wordsOf tabWords run) ≤ length m
+  move-fits = omega (arith, rs .size, rs .within, down)
+
+  move-narrow : Only m m₂ (from + kept) (from + kept + length (wordsOf tabWords run))
+  move-narrow =
+      subst (λ (x : List ℕ). Only m x (from + kept) (from + kept + length (wordsOf tabWords run))) (sym move-is)
+      (only-splice m (from + kept) (wordsOf tabWords run) (from + kept + length (wordsOf tabWords run)) refl move-fits)
+
+  move-only : Only m m₂ (from + kept) (from + i)
+  move-only = only-wide (from + kept) (from + i) move-narrow (omega arith) (omega (arith, rs .size, down, up))
+
+  moved : TabsAt run m₂ (from + kept) (i - start)
+  moved =
+      record {
+        fits = rs .fits;
+        bare = rs .bare;
+        size = rs .size;
+        at = subst (λ (x : List ℕ). At (wordsOf tabWords run) x (from + kept)) (sym move-is) (at-splice m (from + kept) (wordsOf tabWords run) move-fits);
+        within = omega (arith, rs .size, move-fits, move-only .size);
+      }
+
+  move-tabs : TabsAt (held ++ run) m₂ from (kept + (i - start))
+  move-tabs = tabs-join held run m₂ from kept (from + kept) (i - start) (tabs-before move-only hs (omega arith)) moved refl
+
+-- links and marks below what is written stay
+module _ (l m : List ℕ) (a e links : ℕ) (o : Only l m a e) where
+  links-below : (count : ℕ) (ts : List Tab) (i : ℕ) → links + i + length (wordsOf tabWords ts) < a → LinksAt count ts i l links → LinksAt count ts i m links
+  unfolding LinksAt
+  links-below count [] i h k = tt
+  links-below count (t ∷ ts) i h k =
+      let n = length-append (tabWords t) (wordsOf tabWords ts) in
+      let two = two-tab t in
+      (getD-only-before (links + i + 1) o (omega arith) ∙ k .0, links-below count ts (i + length (tabWords t)) (omega arith) (k .1))
+
+  marks-below : (firsts ts : List Tab) (i : ℕ) → links + i + length (wordsOf tabWords ts) < a → MarksAt firsts ts i l links → MarksAt firsts ts i m links
+  unfolding MarksAt
+  marks-below firsts [] i h k = tt
+  marks-below firsts (t ∷ ts) i h k =
+      let n = length-append (tabWords t) (wordsOf tabWords ts) in
+      let two = two-tab t in
+      (getD-only-before (links + i + 2) o (omega arith) ∙ k .0, marks-below firsts ts (i + length (tabWords t)) (omega arith) (k .1))
 
 -- ---- a pass over atoms on its way: `gs` are its groups and `ks` are kept so far, `firsts` being the same in another order
 
@@ -44,7 +109,7 @@ module _ (ts : List Tab) (gs : List Group) (ks firsts : List Tab) (a : Tab) (xs 
 
 -- ---- the ways out of `merge_one`
 
-module _ (l : List ℕ) (from n i eqs links : ℕ) (t : Merged) (c : MergeOneAsks l from n i eqs links t) where
+module _ (l : List ℕ) (from n i eqs links : ℕ) (t : Merging) (c : MergeOneAsks l from n i eqs links t) where
   one-stands : At (tabWords (tabAt l (from + i))) l (from + i)
   one-stands = at-left (wordsOf tabWords (behind l from n i)) (c .tabs .at)
 
@@ -76,11 +141,22 @@ module _ (l : List ℕ) (from n i eqs links : ℕ) (t : Merged) (c : MergeOneAsk
   pub one-mark : links + i + 2 < length l
   one-mark = omega (arith, one-top, c .below, one-in, one-two)
 
-  pub one-skipped : (w : ℕ) → w ≡ getD l (links + i + 2) 0 → (w ≡ 0 → ⊥) → MergedOne l l from n i eqs links t t
-  one-skipped w e h =
+  pub one-end : i + sizeAt l (from + i) ≤ n
+  one-end = omega (arith, one-in)
+
+  pub one-within : from + t .start + (i - t .start) ≤ length l
+  one-within = omega (arith, one-top, c .run, c .inside)
+
+  pub one-dropped : (w : ℕ) → w ≡ getD l (links + i + 2) 0 → (w ≡ 0 → ⊥) → (z : ℕ) → z ≡ sizeAt l (from + i) → (m : List ℕ)
+      → m ≡ splice l (from + t .kept) (part l (from + t .start) (i - t .start))
+      → MergedOne l m from n i eqs links t (record { eqs = t .eqs; kept = t .kept + (i - t .start); atoms = t .atoms; start = i + z })
+  one-dropped w e h z ez m em =
+      let r : Merging = record { eqs = t .eqs; kept = t .kept + (i - t .start); atoms = t .atoms; start = i + z } in
+      let dropped : DroppedOne l m from i t r =
+      record { words = em; eqs-end = refl; kept-end = refl; atoms-end = refl; start-end = ap (λ (x : ℕ). i + x) ez } in
       record {
         step = λ firsts k.
-            subst (λ (b : Bool). OneStep b l l from n i eqs links t t) (sym (is-marked (seen (tabAt l (from + i)) firsts) w (e ∙ mark-tells firsts k) h)) (refl, refl);
+            subst (λ (b : Bool). OneStep b l m from n i eqs links t r) (sym (is-marked (seen (tabAt l (from + i)) firsts) w (e ∙ mark-tells firsts k) h)) dropped;
       }
 
   module _ (w : ℕ) (e : w ≡ getD l (links + i + 2) 0) (h : w ≡ 0) where
@@ -95,78 +171,66 @@ module _ (l : List ℕ) (from n i eqs links : ℕ) (t : Merged) (c : MergeOneAsk
         record { tabs = c .tabs; buckets = c .buckets; linked = c .linked; inside = c .inside; small = c .small; below = c .below; room = one-room }
 
     module _ (m : List ℕ) (g : ℕ) (k : Grouped l m from n i links (eqs + t .eqs) g) where
-      still : At (tabWords (tabAt l (from + i))) m (from + i)
-      still = at-after (k .only) one-stands (omega (arith, c .below))
-
-      still-size : sizeAt m (from + i) ≡ sizeAt l (from + i)
-      still-size = size-tab (tabAt l (from + i)) (c .tabs .fits .0) m (from + i) still ∙ sym one-size
-
       pub one-eqs : eqs + t .eqs + g ≤ links
       one-eqs = omega (arith, one-room, k .size)
 
-      module _ (z : ℕ) (ez : z ≡ sizeAt m (from + i)) where
-        pub one-end : i + z ≤ n
-        one-end = omega (arith, ez, still-size, one-in)
-
-        pub one-kept : MergedOne l m from n i eqs links t (record { eqs = t .eqs + g; kept = t .kept + z; atoms = t .atoms + 1 })
-        one-kept =
-            let r : Merged = record { eqs = t .eqs + g; kept = t .kept + z; atoms = t .atoms + 1 } in
-            let kept-one : KeptOne l m from n i eqs links t r =
-            record { more = g; group = k; eqs-end = refl; kept-end = ap (λ (x : ℕ). t .kept + x) (ez ∙ still-size); atoms-end = refl } in
-            record { step = λ firsts q. subst (λ (b : Bool). OneStep b l m from n i eqs links t r) (sym (unseen firsts q)) kept-one }
+      pub one-kept : MergedOne l m from n i eqs links t (record { eqs = t .eqs + g; kept = t .kept; atoms = t .atoms + 1; start = t .start })
+      one-kept =
+          let r : Merging = record { eqs = t .eqs + g; kept = t .kept; atoms = t .atoms + 1; start = t .start } in
+          let kept-one : KeptOne l m from n i eqs links t r =
+          record { more = g; group = k; eqs-end = refl; kept-end = refl; atoms-end = refl; start-end = refl } in
+          record { step = λ firsts q. subst (λ (b : Bool). OneStep b l m from n i eqs links t r) (sym (unseen firsts q)) kept-one }
 
 -- ---- a pass in words on its way
 
-pub record MergingAll (l m : List ℕ) (from n eqs links i : ℕ) (t : Merged) : Type 0 where
+-- of the atoms that are kept `held` were moved to the front, and `run` stand where they stood, up to the atom that is next
+pub record MergingAll (l m : List ℕ) (from n eqs links i : ℕ) (t : Merging) : Type 0 where
   pub gs : List Group
-  pub ks : List Tab
+  pub held : List Tab
+  pub run : List Tab
   pub firsts : List Tab
-  pub done : List Tab
   pub left : List Tab
   pub buckets : ℕ
-  pub same : tabsIn l from n ≡ done ++ left
-  pub grouping : Grouping (tabsIn l from n) gs ks firsts left
+  pub grouping : Grouping (tabsIn l from n) gs (held ++ run) firsts left
   pub tabs : TabsAt left m (from + i) (n - i)
   pub linked : LinksAt buckets left i m links
   pub marks : MarksAt firsts left i m links
-  pub unmarked : unmarkedOf done 0 m links ≡ ks
-  pub off-is : i ≡ length (wordsOf tabWords done)
-  pub kept : t .kept ≡ length (wordsOf tabWords ks)
+  pub helds : TabsAt held m from (t .kept)
+  pub runs : TabsAt run m (from + t .start) (i - t .start)
   pub at : At (wordsOf groupWords gs) m eqs
   pub size : t .eqs ≡ length (wordsOf groupWords gs)
-  pub atoms : t .atoms ≡ length ks
-  pub down : t .kept ≤ i
-  pub only : Only l m eqs (links + n + 1)
+  pub atoms : t .atoms ≡ length (held ++ run)
+  pub down : t .kept ≤ t .start
+  pub up : t .start ≤ i
+  pub only : Only l m eqs (from + n)
   pub inside : i ≤ n
 
 module _ (l : List ℕ) (from n eqs links : ℕ) (c : MergeAsks l from n eqs links) where
-  pub merging-start : MergingAll l l from n eqs links 0 (record { eqs = 0; kept = 0; atoms = 0 })
-  unfolding unmarkedOf
+  pub merging-start : MergingAll l l from n eqs links 0 (record { eqs = 0; kept = 0; atoms = 0; start = 0 })
   merging-start =
       record {
         gs = [];
-        ks = [];
+        held = [];
+        run = [];
         firsts = [];
-        done = [];
         left = tabsIn l from n;
         buckets = c .buckets;
-        same = refl;
         grouping = record { groups = refl; kept = refl };
         tabs = none-passed (tabsIn l from n) l from n (c .tabs);
         linked = c .linked;
         marks = c .marks;
-        unmarked = refl;
-        off-is = refl;
-        kept = refl;
+        helds = no-tabs l from (omega (arith, c .tabs .within));
+        runs = no-tabs l (from + 0) (omega (arith, c .tabs .within));
         at = at-nil l eqs (omega (arith, c .room, c .below, c .tabs .within));
         size = refl;
         atoms = refl;
         down = omega arith;
-        only = only-same l eqs (links + n + 1);
+        up = omega arith;
+        only = only-same l eqs (from + n);
         inside = omega arith;
       }
 
-  module _ (m : List ℕ) (i : ℕ) (t : Merged) (w : MergingAll l m from n eqs links i t) (h : i < n) where
+  module _ (m : List ℕ) (i : ℕ) (t : Merging) (w : MergingAll l m from n eqs links i t) (h : i < n) where
     pub pass-here : FirstTab (w .left) m (from + i) (n - i)
     pass-here = first-tab (w .left) m (from + i) (n - i) (w .tabs) (omega arith)
 
@@ -192,8 +256,8 @@ module _ (l : List ℕ) (from n eqs links : ℕ) (c : MergeAsks l from n eqs lin
     all-is : tabAt m (from + i) ∷ behind m from n i ≡ w .left
     all-is = ap₂ (λ (a : Tab) (ts : List Tab). a ∷ ts) here-is rest-is ∙ sym (pass-here .is)
 
-    grouping : Grouping (tabsIn l from n) (w .gs) (w .ks) (w .firsts) (pass-here .atom ∷ pass-here .rest)
-    grouping = subst (λ (ts : List Tab). Grouping (tabsIn l from n) (w .gs) (w .ks) (w .firsts) ts) (pass-here .is) (w .grouping)
+    grouping : Grouping (tabsIn l from n) (w .gs) (w .held ++ w .run) (w .firsts) (pass-here .atom ∷ pass-here .rest)
+    grouping = subst (λ (ts : List Tab). Grouping (tabsIn l from n) (w .gs) (w .held ++ w .run) (w .firsts) ts) (pass-here .is) (w .grouping)
 
     linked : LinksAt (w .buckets) (pass-here .atom ∷ pass-here .rest) i m links
     linked = subst (λ (ts : List Tab). LinksAt (w .buckets) ts i m links) (pass-here .is) (w .linked)
@@ -212,8 +276,8 @@ module _ (l : List ℕ) (from n eqs links : ℕ) (c : MergeAsks l from n eqs lin
 
     -- the atom starts a group
     module _ (f : seen (tabAt m (from + i)) (w .firsts) ≡ false) where
-      new : Grouping (tabsIn l from n) (w .gs ++ groupOf (pass-here .atom) (pass-here .rest) ∷ []) (w .ks ++ pass-here .atom ∷ []) (pass-here .atom ∷ w .firsts) (pass-here .rest)
-      new = grouping-keep (tabsIn l from n) (w .gs) (w .ks) (w .firsts) (pass-here .atom) (pass-here .rest) grouping (sym seen-is ∙ f)
+      new : Grouping (tabsIn l from n) (w .gs ++ groupOf (pass-here .atom) (pass-here .rest) ∷ []) ((w .held ++ w .run) ++ pass-here .atom ∷ []) (pass-here .atom ∷ w .firsts) (pass-here .rest)
+      new = grouping-keep (tabsIn l from n) (w .gs) (w .held ++ w .run) (w .firsts) (pass-here .atom) (pass-here .rest) grouping (sym seen-is ∙ f)
 
       gs-size : length (wordsOf groupWords (w .gs ++ groupOf (pass-here .atom) (pass-here .rest) ∷ []))
           ≡ t .eqs + length (groupWords (groupOf (tabAt m (from + i)) (behind m from n i)))
@@ -242,7 +306,18 @@ module _ (l : List ℕ) (from n eqs links : ℕ) (c : MergeAsks l from n eqs lin
           inside = h;
           small = c .small;
           down = w .down;
-          few = omega (arith, w .atoms, w .kept, length-words tabWords 2 two-tab (w .ks));
+          run = w .up;
+          few = omega (
+            arith,
+            w .atoms,
+            w .down,
+            w .up,
+            w .helds .size,
+            w .runs .size,
+            length-append (w .held) (w .run),
+            length-words tabWords 2 two-tab (w .held),
+            length-words tabWords 2 two-tab (w .run),
+          );
           below = c .below;
           room = λ f. eqs-fit f;
         }
@@ -262,63 +337,44 @@ module _ (l : List ℕ) (from n eqs links : ℕ) (c : MergeAsks l from n eqs lin
       unfolding MarksAt
       marks-on = subst (λ (x : ℕ). MarksAt (w .firsts) (pass-here .rest) x m links) i-is (marks .1)
 
-      mark : getD m (links + i + 2) 0 ≡ markOf (seen (tabAt m (from + i)) (w .firsts))
-      unfolding MarksAt
-      mark = marks-asked .0
-
-      same₂ : tabsIn l from n ≡ (w .done ++ pass-here .atom ∷ []) ++ pass-here .rest
-      same₂ = w .same ∙ ap (λ (ts : List Tab). w .done ++ ts) (pass-here .is) ∙ sym (append-assoc (w .done) (pass-here .atom ∷ []) (pass-here .rest))
-
-      off₂ : i₂ ≡ length (wordsOf tabWords (w .done ++ pass-here .atom ∷ []))
-      off₂ =
-          omega (
-            arith,
-            i-is,
-            w .off-is,
-            length-words-append tabWords (w .done) (pass-here .atom ∷ []),
-            length-append (tabWords (pass-here .atom)) [],
-          )
-
-      -- one more atom is passed, the marks of those before it being as they were
-      unmarked₂ : (m₂ : List ℕ) (b : Bool) → seen (tabAt m (from + i)) (w .firsts) ≡ b → ((j : ℕ) → links + 2 ≤ j → j ≤ links + i + 2 → getD m₂ j 0 ≡ getD m j 0)
-          → unmarkedOf (w .done ++ pass-here .atom ∷ []) 0 m₂ links ≡ w .ks ++ cond b [] (pass-here .atom ∷ [])
-      unmarked₂ m₂ b f same =
-          unmarked-one m₂ links (w .done) (pass-here .atom) 0 i b (omega (arith, w .off-is))
-          (same (links + i + 2) (omega arith) (omega arith) ∙ mark ∙ ap markOf f)
-          ∙ ap (λ (us : List Tab). us ++ cond b [] (pass-here .atom ∷ []))
-          (unmarked-same m m₂ links i (λ j x y. let v : j ≤ links + i + 2 = omega arith in same j x v) (w .done) 0 (omega (arith, w .off-is)) ∙ w .unmarked)
-
-      skipped : (m₂ : List ℕ) (r : Merged) → seen (tabAt m (from + i)) (w .firsts) ≡ true → r ≡ t → m₂ ≡ m → MergingAll l m₂ from n eqs links i₂ r
-      skipped m₂ r f er em =
-          subst (λ (x : List ℕ). MergingAll l x from n eqs links i₂ r) (sym em)
-          (subst (λ (x : Merged). MergingAll l m from n eqs links i₂ x) (sym er)
-          (record {
+      dropped : (m₂ : List ℕ) (r : Merging) → seen (tabAt m (from + i)) (w .firsts) ≡ true → DroppedOne m m₂ from i t r → MergingAll l m₂ from n eqs links i₂ r
+      dropped m₂ r f k =
+          let o : Only m m₂ (from + t .kept) (from + i) =
+          move-only (w .held) (w .run) m from i (t .kept) (t .start) (w .helds) (w .runs) (w .down) (w .up) m₂ (k .words) in
+          let low : links + i₂ + length (wordsOf tabWords (pass-here .rest)) < from + t .kept =
+          omega (arith, rest-at .size, c .below, ei, pass-in) in
+          let fit : eqs + length (wordsOf groupWords (w .gs)) ≤ links =
+          omega (arith, c .room, ap (λ (gs : List Group). length (wordsOf groupWords gs)) (w .grouping .groups) ∙ length-words-append groupWords (w .gs) (groupsOf (w .firsts) (w .left))) in
+          let ks : w .held ++ w .run ≡ (w .held ++ w .run) ++ [] = sym (append-nil (w .held ++ w .run)) in
+          record {
             gs = w .gs;
-            ks = w .ks;
+            held = w .held ++ w .run;
+            run = [];
             firsts = w .firsts;
-            done = w .done ++ pass-here .atom ∷ [];
             left = pass-here .rest;
             buckets = w .buckets;
-            same = same₂;
-            grouping = grouping-drop (tabsIn l from n) (w .gs) (w .ks) (w .firsts) (pass-here .atom) (pass-here .rest) grouping (sym seen-is ∙ f);
-            tabs = rest-at;
-            linked = linked-on;
-            marks = marks-on;
-            unmarked = unmarked₂ m true f (λ j x y. refl) ∙ append-nil (w .ks);
-            off-is = off₂;
-            kept = w .kept;
-            at = w .at;
-            size = w .size;
-            atoms = w .atoms;
-            down = omega (arith, w .down);
-            only = w .only;
+            grouping = subst (λ (us : List Tab). Grouping (tabsIn l from n) (w .gs) us (w .firsts) (pass-here .rest)) ks
+                (grouping-drop (tabsIn l from n) (w .gs) (w .held ++ w .run) (w .firsts) (pass-here .atom) (pass-here .rest) grouping (sym seen-is ∙ f));
+            tabs = tabs-after o rest-at (omega (arith, ei));
+            linked = links-below m m₂ (from + t .kept) (from + i) links o (w .buckets) (pass-here .rest) i₂ low linked-on;
+            marks = marks-below m m₂ (from + t .kept) (from + i) links o (w .firsts) (pass-here .rest) i₂ low marks-on;
+            helds = tabs-to from (r .kept) (move-tabs (w .held) (w .run) m from i (t .kept) (t .start) (w .helds) (w .runs) (w .down) (w .up) m₂ (k .words)) refl (sym (k .kept-end));
+            runs = tabs-to (from + r .start) (i₂ - r .start) (no-tabs m₂ (from + r .start) (omega (arith, k .start-end, pass-in, c .tabs .within, w .only .size, o .size))) refl
+                (omega (arith, k .start-end, ei));
+            at = at-before o (w .at) (omega (arith, fit, c .below));
+            size = k .eqs-end ∙ w .size;
+            atoms = k .atoms-end ∙ w .atoms ∙ ap length ks;
+            down = omega (arith, k .kept-end, k .start-end, w .down, w .up);
+            up = omega (arith, k .start-end, ei);
+            only = only-then (w .only) (only-wide eqs (from + n) o (omega (arith, fit, c .below)) (omega (arith, h)));
             inside = omega (arith, pass-in);
-          }))
+          }
 
-      stayed : (m₂ : List ℕ) (r : Merged) → seen (tabAt m (from + i)) (w .firsts) ≡ false → KeptOne m m₂ from n i eqs links t r → MergingAll l m₂ from n eqs links i₂ r
+      stayed : (m₂ : List ℕ) (r : Merging) → seen (tabAt m (from + i)) (w .firsts) ≡ false → KeptOne m m₂ from n i eqs links t r → MergingAll l m₂ from n eqs links i₂ r
       stayed m₂ r f k =
           let g : Group = groupOf (pass-here .atom) (pass-here .rest) in
           let fit = eqs-fit f in
+          let o : Only m m₂ (eqs + t .eqs) (links + n + 1) = k .group .only in
           let chained : LinksKept (pass-here .rest) i₂ m m₂ links =
           subst (λ (ts : List Tab). LinksKept ts i₂ m m₂ links) rest-is
           (subst (λ (x : ℕ). LinksKept (behind m from n i) x m m₂ links) (sym ei) (k .group .chained)) in
@@ -326,100 +382,87 @@ module _ (l : List ℕ) (from n eqs links : ℕ) (c : MergeAsks l from n eqs lin
           subst (λ (a : Tab). MarkedBy a (pass-here .rest) i₂ m m₂ links) here-is
           (subst (λ (ts : List Tab). MarkedBy (tabAt m (from + i)) ts i₂ m m₂ links) rest-is
           (subst (λ (x : ℕ). MarkedBy (tabAt m (from + i)) (behind m from n i) x m m₂ links) (sym ei) (k .group .marks))) in
+          let one : TabsAt (pass-here .atom ∷ []) m (from + i) (sizeAt m (from + i)) =
+          record {
+            fits = (pass-here .fits, tt);
+            bare = (pass-here .bare, tt);
+            size = z ∙ ap length (sym (append-nil (tabWords (pass-here .atom))));
+            at = subst (λ (ws : List ℕ). At ws m (from + i)) (sym (append-nil (tabWords (pass-here .atom)))) (pass-here .stands);
+            within = omega (arith, pass-here .stands .within, z);
+          } in
+          let longer : TabsAt (w .run ++ pass-here .atom ∷ []) m (from + t .start) (i - t .start + sizeAt m (from + i)) =
+          tabs-join (w .run) (pass-here .atom ∷ []) m (from + t .start) (i - t .start) (from + i) (sizeAt m (from + i)) (w .runs) one (omega (arith, w .up)) in
+          let ks : (w .held ++ w .run) ++ pass-here .atom ∷ [] ≡ w .held ++ (w .run ++ pass-here .atom ∷ []) =
+          append-assoc (w .held) (w .run) (pass-here .atom ∷ []) in
           let group : At (groupWords g) m₂ (eqs + t .eqs) = subst (λ (ws : List ℕ). At ws m₂ (eqs + t .eqs)) group-is (k .group .at) in
           let group-one : At (wordsOf groupWords (g ∷ [])) m₂ (eqs + t .eqs) =
           subst (λ (ws : List ℕ). At ws m₂ (eqs + t .eqs)) (sym (append-nil (groupWords g))) group in
           record {
             gs = w .gs ++ g ∷ [];
-            ks = w .ks ++ pass-here .atom ∷ [];
+            held = w .held;
+            run = w .run ++ pass-here .atom ∷ [];
             firsts = pass-here .atom ∷ w .firsts;
-            done = w .done ++ pass-here .atom ∷ [];
             left = pass-here .rest;
             buckets = w .buckets;
-            same = same₂;
-            grouping = new f;
-            tabs = tabs-after (k .group .only) rest-at (omega (arith, c .below));
+            grouping = subst (λ (us : List Tab). Grouping (tabsIn l from n) (w .gs ++ g ∷ []) us (pass-here .atom ∷ w .firsts) (pass-here .rest)) ks (new f);
+            tabs = tabs-after o rest-at (omega (arith, c .below));
             linked = links-after (w .buckets) (pass-here .rest) i₂ m m₂ links chained linked-on;
             marks = marks-after (pass-here .atom) (w .firsts) (pass-here .rest) i₂ m m₂ links marked marks-on;
-            unmarked = unmarked₂ m₂ false f (k .group .passed);
-            off-is = off₂;
-            kept = omega (
-              arith,
-              k .kept-end,
-              w .kept,
-              z,
-              length-words-append tabWords (w .ks) (pass-here .atom ∷ []),
-              length-append (tabWords (pass-here .atom)) [],
-            );
+            helds = tabs-to from (r .kept) (tabs-after o (w .helds) (omega (arith, c .below))) refl (sym (k .kept-end));
+            runs = tabs-to (from + r .start) (i₂ - r .start) (tabs-after o longer (omega (arith, c .below))) (omega (arith, k .start-end)) (omega (arith, k .start-end, ei, w .up));
             at = subst (λ (ws : List ℕ). At ws m₂ eqs) (sym (words-append groupWords (w .gs) (g ∷ [])))
-                (at-join (at-before (k .group .only) (w .at) (omega (arith, w .size))) group-one (omega (arith, w .size)));
+                (at-join (at-before o (w .at) (omega (arith, w .size))) group-one (omega (arith, w .size)));
             size = k .eqs-end ∙ ap (λ (x : ℕ). t .eqs + x) (k .group .size) ∙ sym (gs-size f);
-            atoms = omega (arith, k .atoms-end, w .atoms, length-append (w .ks) (pass-here .atom ∷ []));
-            down = omega (arith, k .kept-end, w .down);
-            only = only-then (w .only) (only-wide eqs (links + n + 1) (k .group .only) (omega arith) (omega arith));
+            atoms = omega (arith, k .atoms-end, w .atoms, ap length ks, length-append (w .held ++ w .run) (pass-here .atom ∷ []));
+            down = omega (arith, k .kept-end, k .start-end, w .down);
+            up = omega (arith, k .start-end, ei, w .up);
+            only = only-then (w .only) (only-wide eqs (from + n) o (omega arith) (omega (arith, c .below)));
             inside = omega (arith, pass-in);
           }
 
-      pub merging-next : (m₂ : List ℕ) (r : Merged) → MergedOne m m₂ from n i eqs links t r → MergingAll l m₂ from n eqs links i₂ r
+      pub merging-next : (m₂ : List ℕ) (r : Merging) → MergedOne m m₂ from n i eqs links t r → MergingAll l m₂ from n eqs links i₂ r
       merging-next m₂ r o = go (seen (tabAt m (from + i)) (w .firsts)) refl (o .step (w .firsts) marks-asked)
         where
           go : (b : Bool) → seen (tabAt m (from + i)) (w .firsts) ≡ b → OneStep b m m₂ from n i eqs links t r → MergingAll l m₂ from n eqs links i₂ r
-          go true e k = skipped m₂ r e (k .0) (k .1)
+          go true e k = dropped m₂ r e k
           go false e k = stayed m₂ r e k
 
-  pub merging-end : (m : List ℕ) (i : ℕ) (t : Merged) → MergingAll l m from n eqs links i t → n ≤ i → GroupedAll l m from n eqs links t
-  merging-end m i t w h =
-      let none = no-tab-left (w .left) m (from + i) (n - i) (w .tabs) (omega arith) in
-      let all : tabsIn l from n ≡ w .done = w .same ∙ ap (λ (ts : List Tab). w .done ++ ts) none ∙ append-nil (w .done) in
-      let gs : groupsOf [] (tabsIn l from n) ≡ w .gs =
-      w .grouping .groups ∙ ap (λ (ts : List Tab). w .gs ++ groupsOf (w .firsts) ts) none ∙ append-nil (w .gs) in
-      let ks : keep [] (tabsIn l from n) ≡ w .ks =
-      w .grouping .kept ∙ ap (λ (ts : List Tab). w .ks ++ keep (w .firsts) ts) none ∙ append-nil (w .ks) in
-      record {
-        groups = subst (λ (x : List Group). At (wordsOf groupWords x) m eqs) (sym gs) (w .at);
-        size = w .size ∙ ap (λ (x : List Group). length (wordsOf groupWords x)) (sym gs);
-        unmarked = ap (λ (ts : List Tab). unmarkedOf ts 0 m links) all ∙ w .unmarked ∙ sym ks;
-        kept = w .kept ∙ ap (λ (ts : List Tab). length (wordsOf tabWords ts)) (sym ks);
-        atoms = w .atoms ∙ ap length (sym ks);
-        only = w .only;
-      }
+  -- the last run moves
+  module _ (m : List ℕ) (i : ℕ) (t : Merging) (w : MergingAll l m from n eqs links i t) (h : n ≤ i) where
+    pub last-up : t .start ≤ n
+    last-up = omega (arith, w .up, w .inside)
 
-  -- ---- what is kept moves down
+    pub last-within : from + t .start + (n - t .start) ≤ length m
+    last-within = omega (arith, last-up, w .only .size, c .tabs .within)
 
-  module _ (m : List ℕ) (t : Merged) (g : GroupedAll l m from n eqs links t) where
-    still-tabs : TabsAt (tabsIn l from n) m from n
-    still-tabs = tabs-after (g .only) (c .tabs) (c .below)
+    last-run : TabsAt (w .run) m (from + t .start) (n - t .start)
+    last-run = tabs-to (from + t .start) (n - t .start) (w .runs) refl (omega (arith, w .inside, h))
 
-    still-is : tabsIn m from n ≡ tabsIn l from n
-    still-is = tabs-is m from n (tabsIn l from n) still-tabs
+    gs-all : groupsOf [] (tabsIn l from n) ≡ w .gs
+    gs-all =
+        w .grouping .groups
+        ∙ ap (λ (ts : List Tab). w .gs ++ groupsOf (w .firsts) ts) (no-tab-left (w .left) m (from + i) (n - i) (w .tabs) (omega arith)) ∙ append-nil (w .gs)
 
-    pub all-stay : t .kept ≡ n → MergedAll l m from n eqs links t
-    all-stay e =
-        let all : keep [] (tabsIn l from n) ≡ tabsIn l from n =
-        sym (g .unmarked)
-        ∙ unmarked-all m links (tabsIn l from n) 0 (ap (λ (ts : List Tab). length (wordsOf tabWords ts)) (g .unmarked) ∙ sym (g .kept) ∙ e ∙ c .tabs .size) in
+    ks-all : keep [] (tabsIn l from n) ≡ w .held ++ w .run
+    ks-all =
+        w .grouping .kept
+        ∙ ap (λ (ts : List Tab). (w .held ++ w .run) ++ keep (w .firsts) ts) (no-tab-left (w .left) m (from + i) (n - i) (w .tabs) (omega arith))
+        ∙ append-nil (w .held ++ w .run)
+
+    pub merging-end : (m₂ : List ℕ) → m₂ ≡ splice m (from + t .kept) (part m (from + t .start) (n - t .start))
+        → MergedAll l m₂ from n eqs links (record { eqs = t .eqs; kept = t .kept + (n - t .start); atoms = t .atoms })
+    merging-end m₂ em =
+        let o : Only m m₂ (from + t .kept) (from + n) =
+        move-only (w .held) (w .run) m from n (t .kept) (t .start) (w .helds) last-run (w .down) last-up m₂ em in
+        let tabs : TabsAt (w .held ++ w .run) m₂ from (t .kept + (n - t .start)) =
+        move-tabs (w .held) (w .run) m from n (t .kept) (t .start) (w .helds) last-run (w .down) last-up m₂ em in
+        let fit : eqs + length (wordsOf groupWords (w .gs)) ≤ links = omega (arith, c .room, ap (λ (gs : List Group). length (wordsOf groupWords gs)) gs-all) in
         record {
-          groups = g .groups;
-          size = g .size;
-          tabs = subst (λ (ts : List Tab). TabsAt ts m from (t .kept)) (sym all) (subst (λ (k : ℕ). TabsAt (tabsIn l from n) m from k) (sym e) still-tabs);
-          atoms = g .atoms;
-          only = only-wide eqs (from + n) (g .only) (omega arith) (omega (arith, c .below));
-        }
-
-    pub keep-asked : KeepAsks m from n links
-    keep-asked = record { tabs = tabs-read m from n (tabsIn l from n) still-tabs; below = c .below }
-
-    pub some-stay : (m₂ : List ℕ) → Keeps m m₂ from n links → MergedAll l m₂ from n eqs links t
-    some-stay m₂ k =
-        let is : unmarkedOf (tabsIn m from n) 0 m links ≡ keep [] (tabsIn l from n) = ap (λ (ts : List Tab). unmarkedOf ts 0 m links) still-is ∙ g .unmarked in
-        let s : TabsAt (keep [] (tabsIn l from n)) m₂ from (k .size) = subst (λ (ts : List Tab). TabsAt ts m₂ from (k .size)) is (k .tabs) in
-        record {
-          groups = at-before (k .only) (g .groups) (omega (arith, c .room, c .below));
-          size = g .size;
-          tabs = subst (λ (q : ℕ). TabsAt (keep [] (tabsIn l from n)) m₂ from q) (s .size ∙ sym (g .kept)) s;
-          atoms = g .atoms;
-          only = only-then (only-wide eqs (from + n) (g .only) (omega arith) (omega (arith, c .below)))
-              (only-wide eqs (from + n) (k .only) (omega (arith, c .room, c .below)) (omega arith));
+          groups = subst (λ (x : List Group). At (wordsOf groupWords x) m₂ eqs) (sym gs-all) (at-before o (w .at) (omega (arith, fit, c .below)));
+          size = w .size ∙ ap (λ (x : List Group). length (wordsOf groupWords x)) (sym gs-all);
+          tabs = subst (λ (ts : List Tab). TabsAt ts m₂ from (t .kept + (n - t .start))) (sym ks-all) tabs;
+          atoms = w .atoms ∙ ap length (sym ks-all);
+          only = only-then (w .only) (only-wide eqs (from + n) o (omega (arith, fit, c .below)) (omega arith));
         }
 
 -- ---- a pass with its links

@@ -3,7 +3,6 @@ use mathlib.Core.Bool.{Bool, false, true, _&&_, cond, not}
 use mathlib.Core.List.{List, [], _++_, _∷_, map}
 use mathlib.Core.Path.{_≡_}
 use Prim.Native.Nat.{_*_, _+_, _-_, _<_, _≤_, ℕ}
-use lib.Dec.{eqb}
 use lib.ListN.{getD, length}
 use Rattle.octets.specs.Regions.{At, Only, part, splice}
 use Rattle.rules.specs.Flat.{Atom, Tab, eqn, tabWords, wordsOf}
@@ -11,9 +10,10 @@ use Rattle.rules.specs.RemoveDupVars.{alike, keep, merged, seen}
 use Rattle.rules.specs.Signature.{sameTerm}
 use Rattle.rules.specs.Words.{unit}
 use Rattle.meaning.specs.Meaning.{All}
-use Rattle.bodies.specs.Standing.{TabAt, TabsAt, sizeAt, tabAt, tabsIn}
 use Rattle.merging.specs.declared.Merged.{Merged}
+use Rattle.merging.specs.declared.Merging.{Merging}
 use Rattle.merging.specs.Chains.{LinksAt, MarksAt}
+use Rattle.bodies.specs.Standing.{TabAt, TabsAt, sizeAt, tabAt, tabsIn}
 
 -- ---- groups
 
@@ -110,14 +110,12 @@ pub record Grouped (l m : List ℕ) (from n i links to r : ℕ) : Type 0 where
   pub size : r ≡ length (groupWords (groupOf (tabAt l (from + i)) (behind l from n i)))
   pub marks : MarkedBy (tabAt l (from + i)) (behind l from n i) (i + sizeAt l (from + i)) l m links
   pub chained : LinksKept (behind l from n i) (i + sizeAt l (from + i)) l m links
-  -- the marks of the atom itself and of those before it stay
-  pub passed : (j : ℕ) → links + 2 ≤ j → j ≤ links + i + 2 → getD m j 0 ≡ getD l j 0
   pub only : Only l m to (links + n + 1)
 
 -- ---- one atom of a pass
 
--- of the atoms that are left those are marked that are alike to one of `firsts`
-pub record MergeOneAsks (l : List ℕ) (from n i eqs links : ℕ) (t : Merged) : Type 0 where
+-- of the atoms that are left those are marked that are alike to one of `firsts`; the run of kept ones ends where the atom stands
+pub record MergeOneAsks (l : List ℕ) (from n i eqs links : ℕ) (t : Merging) : Type 0 where
   pub firsts : List Tab
   pub tabs : TabsAt (tabAt l (from + i) ∷ behind l from n i) l (from + i) (n - i)
   pub buckets : ℕ
@@ -125,55 +123,35 @@ pub record MergeOneAsks (l : List ℕ) (from n i eqs links : ℕ) (t : Merged) :
   pub marks : MarksAt firsts (tabAt l (from + i) ∷ behind l from n i) i l links
   pub inside : i < n
   pub small : n < 0x1000_0000
-  pub down : t .kept ≤ i
-  pub few : t .atoms ≤ t .kept
+  pub down : t .kept ≤ t .start
+  pub run : t .start ≤ i
+  pub few : t .atoms ≤ i
   pub below : links + n + 1 ≤ from
   pub room : seen (tabAt l (from + i)) firsts ≡ false → eqs + t .eqs + length (groupWords (groupOf (tabAt l (from + i)) (behind l from n i))) ≤ links
 
--- a kept atom: its group is written, those alike behind it are marked, and it is counted
-pub record KeptOne (l m : List ℕ) (from n i eqs links : ℕ) (t r : Merged) : Type 0 where
+-- a dropped atom: the run before it moves down, and the next one starts behind it
+pub record DroppedOne (l m : List ℕ) (from i : ℕ) (t r : Merging) : Type 0 where
+  pub words : m ≡ splice l (from + t .kept) (part l (from + t .start) (i - t .start))
+  pub eqs-end : r .eqs ≡ t .eqs
+  pub kept-end : r .kept ≡ t .kept + (i - t .start)
+  pub atoms-end : r .atoms ≡ t .atoms
+  pub start-end : r .start ≡ i + sizeAt l (from + i)
+
+-- a kept atom: its group is written, those alike behind it are marked, and it is counted; it stays in the run
+pub record KeptOne (l m : List ℕ) (from n i eqs links : ℕ) (t r : Merging) : Type 0 where
   pub more : ℕ
   pub group : Grouped l m from n i links (eqs + t .eqs) more
   pub eqs-end : r .eqs ≡ t .eqs + more
-  pub kept-end : r .kept ≡ t .kept + sizeAt l (from + i)
+  pub kept-end : r .kept ≡ t .kept
   pub atoms-end : r .atoms ≡ t .atoms + 1
+  pub start-end : r .start ≡ t .start
 
-abbrev pub OneStep : (wasSeen : Bool) → List ℕ → List ℕ → (from n i eqs links : ℕ) → Merged → Merged → Type 0
-OneStep true l m from n i eqs links t r = (r ≡ t) × (m ≡ l)
+abbrev pub OneStep : (wasSeen : Bool) → List ℕ → List ℕ → (from n i eqs links : ℕ) → Merging → Merging → Type 0
+OneStep true l m from n i eqs links t r = DroppedOne l m from i t r
 OneStep false l m from n i eqs links t r = KeptOne l m from n i eqs links t r
 
-pub record MergedOne (l m : List ℕ) (from n i eqs links : ℕ) (t r : Merged) : Type 0 where
+pub record MergedOne (l m : List ℕ) (from n i eqs links : ℕ) (t r : Merging) : Type 0 where
   pub step : (firsts : List Tab) → MarksAt firsts (tabAt l (from + i) ∷ behind l from n i) i l links → OneStep (seen (tabAt l (from + i)) firsts) l m from n i eqs links t r
-
--- ---- atoms by their marks
-
--- of the atoms ts, which stand from offset i on, those without a mark
-unfoldable pub unmarkedOf : List Tab → ℕ → List ℕ → ℕ → List Tab
-unmarkedOf [] i l links = []
-unmarkedOf (t ∷ ts) i l links =
-    let rest = unmarkedOf ts (i + length (tabWords t)) l links in
-    cond (eqb (getD l (links + i + 2) 0) 0) (t ∷ rest) rest
-
--- the offset of the first one with a mark, or their end
-unfoldable pub runEnd : List Tab → ℕ → List ℕ → ℕ → ℕ
-runEnd [] i l links = i
-runEnd (t ∷ ts) i l links = cond (eqb (getD l (links + i + 2) 0) 0) (runEnd ts (i + length (tabWords t)) l links) i
-
--- the atoms from offset i on stand, and their marks lie below them
-pub record RunAsks (l : List ℕ) (from n i links : ℕ) : Type 0 where
-  pub tabs : TabsAt (tabsIn l (from + i) (n - i)) l (from + i) (n - i)
-  pub inside : i ≤ n
-  pub below : links + n + 1 ≤ from
-
-pub record KeepAsks (l : List ℕ) (from n links : ℕ) : Type 0 where
-  pub tabs : TabsAt (tabsIn l from n) l from n
-  pub below : links + n + 1 ≤ from
-
--- the atoms without a mark stand one behind the other, and nothing is written but where atoms stood
-pub record Keeps (l m : List ℕ) (from n links : ℕ) : Type 0 where
-  pub size : ℕ
-  pub tabs : TabsAt (unmarkedOf (tabsIn l from n) 0 l links) m from size
-  pub only : Only l m from (from + n)
 
 -- ---- a pass
 
@@ -185,15 +163,6 @@ pub record MergeAsks (l : List ℕ) (from n eqs links : ℕ) : Type 0 where
   pub small : n < 0x1000_0000
   pub below : links + n + 1 ≤ from
   pub room : eqs + length (wordsOf groupWords (groupsOf [] (tabsIn l from n))) ≤ links
-
--- the groups are written, and of the atoms, which stay where they are, those have no mark that a pass keeps
-pub record GroupedAll (l m : List ℕ) (from n eqs links : ℕ) (r : Merged) : Type 0 where
-  pub groups : At (wordsOf groupWords (groupsOf [] (tabsIn l from n))) m eqs
-  pub size : r .eqs ≡ length (wordsOf groupWords (groupsOf [] (tabsIn l from n)))
-  pub unmarked : unmarkedOf (tabsIn l from n) 0 m links ≡ keep [] (tabsIn l from n)
-  pub kept : r .kept ≡ length (wordsOf tabWords (keep [] (tabsIn l from n)))
-  pub atoms : r .atoms ≡ length (keep [] (tabsIn l from n))
-  pub only : Only l m eqs (links + n + 1)
 
 pub record MergedAll (l m : List ℕ) (from n eqs links : ℕ) (r : Merged) : Type 0 where
   pub groups : At (wordsOf groupWords (groupsOf [] (tabsIn l from n))) m eqs

@@ -4,10 +4,11 @@
 // The equalities of a group are written as its first output, the count of the others, and those: the first one stands once, since every
 // equality of the group has it on its left.
 ghost use mathlib.Core.Path.{_≡_};
-ghost use Prim.Native.Nat.{_+_, _-_};
+ghost use Prim.Native.Nat.{_+_, _≤_};
+ghost use lib.ListN.{length};
 ghost use Rattle.octets.specs.Words.{words};
-ghost use Rattle.bodies.specs.Standing.{tabsIn};
-ghost use Rattle.merging.specs.RemoveDupVars.{MemberAsks, Member, GroupAsks, Grouped, MergeOneAsks, MergedOne, MergeAsks, GroupedAll, RunAsks, runEnd, KeepAsks, Keeps, MergedAll, PassAsks, Passed};
+ghost use Rattle.octets.specs.Regions.{part, splice};
+ghost use Rattle.merging.specs.RemoveDupVars.{MemberAsks, Member, GroupAsks, Grouped, MergeOneAsks, MergedOne, MergeAsks, MergedAll, PassAsks, Passed};
 
 pub mod chains; // chains.rt: atoms of one bucket, linked
 
@@ -55,15 +56,35 @@ fn group(s: &mut [u8], from: usize, n: usize, i: usize, links: usize, to: usize)
     k + 2
 }
 
-// What a pass has done so far: the words of its groups, the words of the atoms that it keeps, and how many atoms those are.
+// What a pass has done: the words of its groups, the words of the atoms that it keeps, and how many atoms those are.
 pub struct Merged {
     pub eqs: usize,
     pub kept: usize,
     pub atoms: usize,
 }
 
-// One atom of a pass, at offset i of the n words at `from`. If it is marked, an atom before it is alike, and it is passed over. Else its group
-// is written behind those at `eqs`, and it is counted. No atom moves yet.
+// What a pass has done so far: the words of its groups, the words of the atoms that were moved to the front, how many atoms are kept, and where
+// the run of kept atoms starts that stands where it stood.
+struct Merging {
+    eqs: usize,
+    kept: usize,
+    atoms: usize,
+    start: usize,
+}
+
+// Writes the n words at `from` at `to`, which lies below it or is it.
+fn carry_down(s: &mut [u8], to: usize, from: usize, n: usize)
+    requires { ⌜ (to ≤ from) × (from + n ≤ length (words (now s))) ⌝ }
+    ensures { λ _. ⌜ words (now (s .exit)) ≡ splice (words (now (s .entry))) to (part (words (now (s .entry))) from n) ⌝ }
+{
+    if to == from {
+        return;
+    }
+    octets::regions::carry(s, to, from, n);
+}
+
+// One atom of a pass, at offset i of the n words at `from`. If it is marked, an atom before it is alike, and it goes: the run before it ends, and
+// moves down to the atoms that are kept. Else its group is written behind those at `eqs`, and it joins the run.
 fn merge_one(
     s: &mut [u8],
     from: usize,
@@ -71,33 +92,42 @@ fn merge_one(
     i: usize,
     eqs: usize,
     links: usize,
-    t: Merged,
-) -> Merged
+    t: Merging,
+) -> Merging
     requires { ⌜ MergeOneAsks (words (now s)) from n i eqs links t ⌝ }
     ensures { λ r. ⌜ MergedOne (words (now (s .entry))) (words (now (s .exit))) from n i eqs links t r ⌝ }
 {
     if octets::get(s, links + i + 2) != 0 {
-        return t;
+        let z = size(s, from + i);
+        let run = i - t.start;
+        carry_down(s, from + t.kept, from + t.start, run);
+        return Merging {
+            eqs: t.eqs,
+            kept: t.kept + run,
+            atoms: t.atoms,
+            start: i + z,
+        };
     }
     let e = group(s, from, n, i, links, eqs + t.eqs);
-    let z = size(s, from + i);
-    Merged {
+    Merging {
         eqs: t.eqs + e,
-        kept: t.kept + z,
+        kept: t.kept,
         atoms: t.atoms + 1,
+        start: t.start,
     }
 }
 
-// The groups of the atoms in the n words at `from`, which are linked, written at `eqs`. The atoms stay where they are: those that a pass drops
-// are marked.
-fn group_all(s: &mut [u8], from: usize, n: usize, eqs: usize, links: usize) -> Merged
+// A pass over the atoms in the n words at `from`, which are linked. Its groups are written at `eqs`, and the atoms that it keeps move down, a
+// run of them at a time: most passes drop few atoms, and where none is dropped none moves.
+fn merge_all(s: &mut [u8], from: usize, n: usize, eqs: usize, links: usize) -> Merged
     requires { ⌜ MergeAsks (words (now s)) from n eqs links ⌝ }
-    ensures { λ r. ⌜ GroupedAll (words (now (s .entry))) (words (now (s .exit))) from n eqs links r ⌝ }
+    ensures { λ r. ⌜ MergedAll (words (now (s .entry))) (words (now (s .exit))) from n eqs links r ⌝ }
 {
-    let mut t = Merged {
+    let mut t = Merging {
         eqs: 0,
         kept: 0,
         atoms: 0,
+        start: 0,
     };
     let mut i = 0;
     while i < n {
@@ -105,52 +135,13 @@ fn group_all(s: &mut [u8], from: usize, n: usize, eqs: usize, links: usize) -> M
         t = merge_one(s, from, n, i, eqs, links, t);
         i += z;
     }
-    t
-}
-
-// The end of the run of atoms without a mark that starts at offset i of the n words at `from`: the offset of the first marked one, or n.
-fn run_end(s: &[u8], from: usize, n: usize, i: usize, links: usize) -> usize
-    requires { ⌜ RunAsks (words (now s)) from n i links ⌝ }
-    ensures { λ r. ⌜ r ≡ runEnd (tabsIn (words (now (s .entry))) (from + i) (n - i)) i (words (now (s .entry))) links ⌝ }
-{
-    let mut k = i;
-    while k < n {
-        if octets::get(s, links + k + 2) != 0 {
-            return k;
-        }
-        k += size(s, from + k);
+    let last = n - t.start;
+    carry_down(s, from + t.kept, from + t.start, last);
+    Merged {
+        eqs: t.eqs,
+        kept: t.kept + last,
+        atoms: t.atoms,
     }
-    k
-}
-
-// Drops the marked ones of the atoms in the n words at `from`: the others move down to `from`. Those before the first marked one stand there,
-// and behind each marked one a run of others is carried at once.
-fn keep(s: &mut [u8], from: usize, n: usize, links: usize)
-    requires { ⌜ KeepAsks (words (now s)) from n links ⌝ }
-    ensures { λ _. ⌜ Keeps (words (now (s .entry))) (words (now (s .exit))) from n links ⌝ }
-{
-    let mut i = run_end(s, from, n, 0, links);
-    let mut to = i;
-    while i < n {
-        let j = i + size(s, from + i);
-        i = run_end(s, from, n, j, links);
-        octets::regions::carry(s, from + to, from + j, i - j);
-        to += i - j;
-    }
-}
-
-// A pass over the atoms in the n words at `from`, which are linked. Its groups are written at `eqs`, and then the atoms that it keeps move down,
-// unless it keeps them all.
-fn merge_all(s: &mut [u8], from: usize, n: usize, eqs: usize, links: usize) -> Merged
-    requires { ⌜ MergeAsks (words (now s)) from n eqs links ⌝ }
-    ensures { λ r. ⌜ MergedAll (words (now (s .entry))) (words (now (s .exit))) from n eqs links r ⌝ }
-{
-    let t = group_all(s, from, n, eqs, links);
-    if t.kept == n {
-        return t;
-    }
-    keep(s, from, n, links);
-    t
 }
 
 // A pass over the atoms in the n words at `from`. They are linked first, at `links`, with as many buckets at `table` as they have words, and
