@@ -15,27 +15,10 @@ use Rattle.walks.specs.Steps.{Piece, Walked, InAnswer, OnStack, Room, Counted, 
 use Rattle.walks.specs.declared.Walk.{Walk}
 use Rattle.walks.proofs.Frames.{kept-none}
 use Rattle.walks.proofs.Steps.{went, Own, full-first, first-stop, first-done}
-use Rattle.walks.proofs.Rows.{Going, Left}
 use Rattle.walks.proofs.Read.{leaf-cases, call-cases, exprs-many}
 use Rattle.walks.proofs.Words.{head-word}
 use Rattle.query.specs.Flattened.{flattened, flattenedAll}
-use Rattle.query.proofs.Pieces.{callPiece, flattened-leaf, flattened-call, flattened-row}
-
--- ---- a row of arguments on its way, by the three places that its loop keeps
-
-abbrev pub here : ℕ → ℕ → ℕ → Walk
-here next to log = record { next = next; to = to; log = log; term = 0; refused = 0 }
-
-pub going-here : {at to sp lg top : ℕ} {s cs s1 cs1 : List ℕ} {w : Walk} → Going at to sp lg s cs top s1 cs1 w → Going at to sp lg s cs top s1 cs1 (here (w .next) (w .to) (w .log))
-going-here g =
-    record { done = g .done; fine = refl; next = g .next; words = g .words; wordsTo = g .wordsTo; stack = g .stack; stackTo = g .stackTo; kept = g .kept }
-
-pub left-here : (sig : Sig) (ws : List ℕ) (d n at to sp lg : ℕ) (s cs : List ℕ) (x : ExprsAt sig ws d n at) {left top : ℕ} {s1 cs1 : List ℕ} {w : Walk}
-    → Left flattened flattenedAll flattened-row sig ws d n at to sp lg s cs x left top s1 cs1 w
-    → Left flattened flattenedAll flattened-row sig ws d n at to sp lg s cs x left top s1 cs1 (here (w .next) (w .to) (w .log))
-left-here sig ws d n at to sp lg s cs x l = record { rest = l .rest; whole = l .whole }
-
--- ---- an expression
+use Rattle.query.proofs.Pieces.{callPiece, flattened-leaf, flattened-call}
 
 module _ (sig : Sig) (ws : List ℕ) (d at to sp lg : ℕ) (s cs : List ℕ) (x : ExprAt sig ws d at) (c : Counted sig cs) (w : ℕ) (is : w ≡ getD ws at 0) where
   pub leaf-way : literalBase ≤ w

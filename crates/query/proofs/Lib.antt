@@ -2,4 +2,6 @@
 pub mod Pieces
 pub mod Direct
 pub mod Exprs
+pub mod Arguments
+pub mod Calls
 pub mod Facts

@@ -6,3 +6,4 @@ pub mod Read
 pub mod Rows
 pub mod Words
 pub mod Asks
+pub mod Turns

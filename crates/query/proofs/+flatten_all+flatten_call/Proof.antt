@@ -1,22 +1,17 @@
--- Flattening a call and a row of arguments: the one proof of their cycle. The depth falls at each call's arguments. Assumes nothing.
-use Prim.Native.Nat.{_+_, _*_, _-_, _≤_}
+-- Flattening a call and a row of arguments: the one proof of their cycle. The depth falls at each call's arguments. What is known at a place of the
+-- code is said once, as a record of `Arguments` or `Calls`, and the needs behind that place cite it. Assumes nothing.
+use Prim.Native.Nat.{ℕ, _+_, _*_, _-_, _<_}
 use mathlib.Core.Path.{_≡_, refl, _∙_}
 use native.Mathlib.Omega.{arith}
-use lib.ListN.{length, getD}
+use lib.ListN.{length}
 use Rattle.octets.specs.Words.{words}
 use Rattle.octets.proofs.Words.{length-words, length-words-kept}
-use Rattle.rules.specs.Words.{countOf}
-use Rattle.rules.specs.Signature.{Sig}
-use Rattle.walks.specs.Steps.{Counted, ExprsAt, Room}
 use Rattle.walks.specs.declared.Walk.{Walk}
-use Rattle.walks.proofs.Asks.{expr-inside, counted-kept, first-at, room-in, call-facts}
-use Rattle.walks.proofs.Rows.{Going, going-start, going-room, Left, left-all, left-none, left-stop, left-next, left-going}
-use Rattle.query.specs.Flattened.{flattened, flattenedAll}
-use Rattle.query.proofs.Pieces.{flattened-row}
-use Rattle.query.proofs.Direct.{atom-room-in, run-in, walked-anew, leaves-walked}
-use Rattle.query.proofs.Exprs.{here, going-here, left-here, leaf-way, full-way, stop-way, atom-room, done-way}
+use Rattle.walks.proofs.Turns.{Turn}
+use Rattle.query.proofs.Exprs.{leaf-way, full-way}
+use Rattle.query.proofs.Arguments.{here, Row, row-start, row-turn, row-done, row-stop, row-next}
+use Rattle.query.proofs.Calls.{CallAt, call-at, Begun, begun-known, begun-room, begun-leaves, begun-stop, begun-atom, begun-done}
 use borrow.Author.Needs.{needs}
-use Prim.Native.Nat.{ℕ, _<_}
 use borrow.Fn.Kinds.{In}
 use borrow.Fn.PlainCycle.{Measures, is, falls, and}
 use Rattle.query.proofs.flatten_all.Reads as flatten-all
@@ -40,1260 +35,306 @@ abbrev μ-flatten-all : Measures 3 flatten-all-kinds.ps ℕ
 abbrev μ-flatten-call : Measures 3 flatten-call-kinds.ps ℕ
 μ-flatten-call κs a = length (words (a .0 .now)) - a .1 .0 + 2 * a .1 .1 .1 .0
 
+-- what each is given at the measure t, what a call of it asks below t, and what its own calls claim
 abbrev flatten-all-at : ℕ → In 3 flatten-all-kinds.ps
-flatten-all-at t =
-    and 3 flatten-all-kinds.ps (is 3 flatten-all-kinds.ps μ-flatten-all t) flatten-all.Pre
+flatten-all-at t = and 3 flatten-all-kinds.ps (is 3 flatten-all-kinds.ps μ-flatten-all t) flatten-all.Pre
 
 abbrev flatten-all-below : ℕ → In 3 flatten-all-kinds.ps
-flatten-all-below t =
-    and 3 flatten-all-kinds.ps (falls 3 flatten-all-kinds.ps _<_ μ-flatten-all t) flatten-all.Pre
+flatten-all-below t = and 3 flatten-all-kinds.ps (falls 3 flatten-all-kinds.ps _<_ μ-flatten-all t) flatten-all.Pre
 
 abbrev flatten-call-at : ℕ → In 3 flatten-call-kinds.ps
-flatten-call-at t =
-    and 3 flatten-call-kinds.ps (is 3 flatten-call-kinds.ps μ-flatten-call t) flatten-call.Pre
+flatten-call-at t = and 3 flatten-call-kinds.ps (is 3 flatten-call-kinds.ps μ-flatten-call t) flatten-call.Pre
 
 abbrev flatten-call-below : ℕ → In 3 flatten-call-kinds.ps
-flatten-call-below t =
-    and
-    3
-    flatten-call-kinds.ps
-    (falls 3 flatten-call-kinds.ps _<_ μ-flatten-call t)
-    flatten-call.Pre
+flatten-call-below t = and 3 flatten-call-kinds.ps (falls 3 flatten-call-kinds.ps _<_ μ-flatten-call t) flatten-call.Pre
+
+abbrev flatten-all-calls : ℕ → flatten-all-lts.Claims
+flatten-all-calls t = (get-reads.Asked, get-reads.Learnt, put-reads.Asked, put-reads.Learnt, flatten-call-below t, flatten-call.Post)
+
+abbrev flatten-call-calls : ℕ → flatten-call-lts.Claims
+flatten-call-calls t = (
+  take-reads.Asked,
+  take-reads.Learnt,
+  leaves-reads.Asked,
+  leaves-reads.Learnt,
+  put-around-reads.Asked,
+  put-around-reads.Learnt,
+  flatten-all-below t,
+  flatten-all.Post,
+  put-atom-reads.Asked,
+  put-atom-reads.Learnt,
+)
+
+-- ---- flatten_all: what is left of the row makes the whole, and no turn changes how long the lists are
 
 abbrev flatten-all-Inv-loop : flatten-all-lts.InvT-loop
 flatten-all-Inv-loop rule at n depth counters₀ scratch₀ to sp log left₀ next₀ end₀ top₀ uses₀ counters scratch left next end top uses =
     (length counters ≡ length counters₀) × (length scratch ≡ length scratch₀)
-    × (Going at to sp log (words scratch₀) (words counters₀) top (words scratch) (words counters) (here next end uses))
-    × ((sig : Sig) (x : ExprsAt sig (words rule) depth n at) → Counted sig (words counters₀)
-    → Left flattened flattenedAll flattened-row sig (words rule) depth n at to sp log (words scratch₀) (words counters₀) x left top (words scratch) (words counters) (here next end uses))
+    × (Row (words rule) depth n at to sp log (words scratch₀) (words counters₀) left next end top uses (words scratch) (words counters))
 
 abbrev flatten-all-μ-loop : flatten-all-lts.MeasureT-loop
 flatten-all-μ-loop rule at n depth counters₀ scratch₀ to sp log left₀ next₀ end₀ top₀ uses₀ counters scratch left next end top uses = left
 
-flatten-all-loop-holds : (t : ℕ) → flatten-all-lts.Need-loop-holds (
-  get-reads.Asked,
-  get-reads.Learnt,
-  put-reads.Asked,
-  put-reads.Learnt,
-  flatten-call-below t,
-  flatten-call.Post,
-) (flatten-all-at t) flatten-all.Post flatten-all-Inv-loop flatten-all-μ-loop
-flatten-all-loop-holds t c =
-    let a = c .before .before .before .args in
-    let ws = words (a .rule .now) in
-    let cs = words (a .counters .now) in
-    let s = words (a .scratch .now) in
-    let q = c .before .before .before .pre .1 .0 in
-    let room = c .before .before .before .pre .1 .1 in (
-      refl,
-      refl,
-      going-start (a .at) (a .to) (a .sp) (a .log) 0 s cs,
-      λ sig x n. left-all flattened flattenedAll flattened-row sig ws (a .depth) (a .n) (a .at) (a .to) (a .sp) (a .log) s cs x 0,
-    )
+flatten-all-loop-holds : (t : ℕ) → flatten-all-lts.Need-loop-holds (flatten-all-calls t) (flatten-all-at t) flatten-all.Post flatten-all-Inv-loop flatten-all-μ-loop
+flatten-all-loop-holds t c = (refl, refl, row-start (c .before .before .before .pre .1 .1) (c .before .before .before .pre .1 .0))
 
-flatten-all-get-requires : (t : ℕ) → flatten-all-lts.Need-get-requires (
-  get-reads.Asked,
-  get-reads.Learnt,
-  put-reads.Asked,
-  put-reads.Learnt,
-  flatten-call-below t,
-  flatten-call.Post,
-) (flatten-all-at t) flatten-all.Post flatten-all-Inv-loop flatten-all-μ-loop
-flatten-all-get-requires t c κs =
-    let a = c .before .before .before .before .before .args in
-    let ws = words (a .rule .now) in
-    let cs = words (a .counters .now) in
-    let s = words (a .scratch .now) in
-    let q = c .before .before .before .before .before .pre .1 .0 in
-    let room = c .before .before .before .before .before .pre .1 .1 in
+-- what each turn's calls ask
+flatten-all-turn : (t : ℕ) (c : flatten-all-lts.In-loop (flatten-all-calls t) (flatten-all-at t) flatten-all.Post flatten-all-Inv-loop flatten-all-μ-loop)
+    → let a = c .before .before .before .before .before .args in
     let l = c .before .loop in
-    let i = l .inv in
-    let s1 = words (l .scratch) in
-    let cs1 = words (l .counters) in
-    let v = here (l .next) (l .end) (l .uses) in
-    let hc : length cs1 ≡ length cs = length-words-kept (l .counters) (a .counters .now) (i .0) in
-    let hs : length s1 ≡ length s = length-words-kept (l .scratch) (a .scratch .now) (i .1) in
-    let now = going-room (length ws) (length s1) room hs (i .2) in
-    let lt = i .3 (q .sig) (q .known .0) (q .known .1) in
-    let some = c .loop-test .taken in
-    let e = first-at (q .sig) ws (a .depth) (l .left) (l .next) (lt .rest) some in
-    let inside = expr-inside (q .sig) ws (a .depth) (l .next) e in
-    inside
+    Turn (words (a .rule .now)) (a .depth) (a .at) (l .left) (l .top) (words (a .scratch .now)) (words (a .counters .now)) (words (l .scratch)) (words (l .counters)) (here (l .next) (l .end) (l .uses))
+flatten-all-turn t c =
+    let a = c .before .before .before .before .before .args in
+    let l = c .before .loop in
+    row-turn (l .inv .2) (c .loop-test .taken) (length-words-kept (l .counters) (a .counters .now) (l .inv .0)) (length-words-kept (l .scratch) (a .scratch .now) (l .inv .1))
 
-flatten-all-put-requires : (t : ℕ) → flatten-all-lts.Need-put-requires (
-  get-reads.Asked,
-  get-reads.Learnt,
-  put-reads.Asked,
-  put-reads.Learnt,
-  flatten-call-below t,
-  flatten-call.Post,
-) (flatten-all-at t) flatten-all.Post flatten-all-Inv-loop flatten-all-μ-loop
-flatten-all-put-requires t c κs =
-    let a = c .before .before .before .before .before .before .before .before .args in
-    let ws = words (a .rule .now) in
-    let cs = words (a .counters .now) in
-    let s = words (a .scratch .now) in
-    let q = c .before .before .before .before .before .before .before .before .pre .1 .0 in
-    let room = c .before .before .before .before .before .before .before .before .pre .1 .1 in
-    let l = c .before .before .before .before .loop in
-    let i = l .inv in
-    let s1 = words (l .scratch) in
-    let cs1 = words (l .counters) in
-    let v = here (l .next) (l .end) (l .uses) in
-    let hc : length cs1 ≡ length cs = length-words-kept (l .counters) (a .counters .now) (i .0) in
-    let hs : length s1 ≡ length s = length-words-kept (l .scratch) (a .scratch .now) (i .1) in
-    let now = going-room (length ws) (length s1) room hs (i .2) in
-    let lt = i .3 (q .sig) (q .known .0) (q .known .1) in
-    let some = c .before .before .before .loop-test .taken in
-    let e = first-at (q .sig) ws (a .depth) (l .left) (l .next) (lt .rest) some in
-    let inside = expr-inside (q .sig) ws (a .depth) (l .next) e in
-    omega (arith, now .stack, now .log, inside)
+flatten-all-get-requires : (t : ℕ) → flatten-all-lts.Need-get-requires (flatten-all-calls t) (flatten-all-at t) flatten-all.Post flatten-all-Inv-loop flatten-all-μ-loop
+flatten-all-get-requires t c κs = flatten-all-turn t c .inside
 
-flatten-all-add-next : (t : ℕ) → flatten-all-lts.Need-add-next (
-  get-reads.Asked,
-  get-reads.Learnt,
-  put-reads.Asked,
-  put-reads.Learnt,
-  flatten-call-below t,
-  flatten-call.Post,
-) (flatten-all-at t) flatten-all.Post flatten-all-Inv-loop flatten-all-μ-loop
-flatten-all-add-next t c =
-    let a = c .before .before .before .before .before .before .before .before .before .before .before .args in
-    let ws = words (a .rule .now) in
-    let cs = words (a .counters .now) in
-    let s = words (a .scratch .now) in
-    let q = c .before .before .before .before .before .before .before .before .before .before .before .pre .1 .0 in
-    let room = c .before .before .before .before .before .before .before .before .before .before .before .pre .1 .1 in
-    let l = c .before .before .before .before .before .before .before .loop in
-    let i = l .inv in
-    let s1 = words (l .scratch) in
-    let cs1 = words (l .counters) in
-    let v = here (l .next) (l .end) (l .uses) in
-    let hc : length cs1 ≡ length cs = length-words-kept (l .counters) (a .counters .now) (i .0) in
-    let hs : length s1 ≡ length s = length-words-kept (l .scratch) (a .scratch .now) (i .1) in
-    let now = going-room (length ws) (length s1) room hs (i .2) in
-    let lt = i .3 (q .sig) (q .known .0) (q .known .1) in
-    let some = c .before .before .before .before .before .before .loop-test .taken in
-    let e = first-at (q .sig) ws (a .depth) (l .left) (l .next) (lt .rest) some in
-    let inside = expr-inside (q .sig) ws (a .depth) (l .next) e in
-    omega (arith, inside, length-words (a .rule .now), c .before .before .before .before .before .before .before .before .before .before .before .good)
+flatten-all-put-requires : (t : ℕ) → flatten-all-lts.Need-put-requires (flatten-all-calls t) (flatten-all-at t) flatten-all.Post flatten-all-Inv-loop flatten-all-μ-loop
+flatten-all-put-requires t c κs = let m = flatten-all-turn t (c .before .before .before) in omega (arith, m .room .stack, m .room .log, m .inside)
 
-flatten-all-add-top : (t : ℕ) → flatten-all-lts.Need-add-top (
-  get-reads.Asked,
-  get-reads.Learnt,
-  put-reads.Asked,
-  put-reads.Learnt,
-  flatten-call-below t,
-  flatten-call.Post,
-) (flatten-all-at t) flatten-all.Post flatten-all-Inv-loop flatten-all-μ-loop
+flatten-all-add-next : (t : ℕ) → flatten-all-lts.Need-add-next (flatten-all-calls t) (flatten-all-at t) flatten-all.Post flatten-all-Inv-loop flatten-all-μ-loop
+flatten-all-add-next t c = omega (arith, flatten-all-turn t (c .before .before .before .before .before .before) .inside, length-words (c .before .before .before .before .before .before .before .before .before .before .before .args .rule .now), c .before .before .before .before .before .before .before .before .before .before .before .good)
+
+flatten-all-add-top : (t : ℕ) → flatten-all-lts.Need-add-top (flatten-all-calls t) (flatten-all-at t) flatten-all.Post flatten-all-Inv-loop flatten-all-μ-loop
 flatten-all-add-top t c =
-    let a = c .before .before .before .before .before .before .before .before .before .before .before .args in
-    let ws = words (a .rule .now) in
-    let cs = words (a .counters .now) in
-    let s = words (a .scratch .now) in
-    let q = c .before .before .before .before .before .before .before .before .before .before .before .pre .1 .0 in
-    let room = c .before .before .before .before .before .before .before .before .before .before .before .pre .1 .1 in
-    let l = c .before .before .before .before .before .before .before .loop in
-    let i = l .inv in
-    let s1 = words (l .scratch) in
-    let cs1 = words (l .counters) in
-    let v = here (l .next) (l .end) (l .uses) in
-    let hc : length cs1 ≡ length cs = length-words-kept (l .counters) (a .counters .now) (i .0) in
-    let hs : length s1 ≡ length s = length-words-kept (l .scratch) (a .scratch .now) (i .1) in
-    let now = going-room (length ws) (length s1) room hs (i .2) in
-    let lt = i .3 (q .sig) (q .known .0) (q .known .1) in
-    let some = c .before .before .before .before .before .before .loop-test .taken in
-    let e = first-at (q .sig) ws (a .depth) (l .left) (l .next) (lt .rest) some in
-    let inside = expr-inside (q .sig) ws (a .depth) (l .next) e in
-    omega (arith, now .stack, now .log, inside, hs, length-words (a .scratch .now), c .before .before .before .before .before .before .before .before .before .before .before .good)
+    let m = flatten-all-turn t (c .before .before .before .before .before .before) in
+    omega (arith, m .room .stack, m .room .log, m .inside, m .scratch, length-words (c .before .before .before .before .before .before .before .before .before .before .before .args .scratch .now), c .before .before .before .before .before .before .before .before .before .before .before .good)
 
-flatten-all-sub-left : (t : ℕ) → flatten-all-lts.Need-sub-left (
-  get-reads.Asked,
-  get-reads.Learnt,
-  put-reads.Asked,
-  put-reads.Learnt,
-  flatten-call-below t,
-  flatten-call.Post,
-) (flatten-all-at t) flatten-all.Post flatten-all-Inv-loop flatten-all-μ-loop
+flatten-all-sub-left : (t : ℕ) → flatten-all-lts.Need-sub-left (flatten-all-calls t) (flatten-all-at t) flatten-all.Post flatten-all-Inv-loop flatten-all-μ-loop
 flatten-all-sub-left t c = omega (arith, c .before .before .before .before .before .before .loop-test .taken)
 
-flatten-all-loop-less : (t : ℕ) → flatten-all-lts.Need-loop-less (
-  get-reads.Asked,
-  get-reads.Learnt,
-  put-reads.Asked,
-  put-reads.Learnt,
-  flatten-call-below t,
-  flatten-call.Post,
-) (flatten-all-at t) flatten-all.Post flatten-all-Inv-loop flatten-all-μ-loop
+flatten-all-loop-less : (t : ℕ) → flatten-all-lts.Need-loop-less (flatten-all-calls t) (flatten-all-at t) flatten-all.Post flatten-all-Inv-loop flatten-all-μ-loop
 flatten-all-loop-less t c = omega (arith, c .before .before .before .before .before .before .loop-test .taken)
 
-flatten-all-loop-again : (t : ℕ) → flatten-all-lts.Need-loop-again (
-  get-reads.Asked,
-  get-reads.Learnt,
-  put-reads.Asked,
-  put-reads.Learnt,
-  flatten-call-below t,
-  flatten-call.Post,
-) (flatten-all-at t) flatten-all.Post flatten-all-Inv-loop flatten-all-μ-loop
+flatten-all-loop-again : (t : ℕ) → flatten-all-lts.Need-loop-again (flatten-all-calls t) (flatten-all-at t) flatten-all.Post flatten-all-Inv-loop flatten-all-μ-loop
 flatten-all-loop-again t c =
-    let a = c .before .before .before .before .before .before .before .before .before .before .before .args in
-    let ws = words (a .rule .now) in
-    let cs = words (a .counters .now) in
-    let s = words (a .scratch .now) in
-    let q = c .before .before .before .before .before .before .before .before .before .before .before .pre .1 .0 in
-    let room = c .before .before .before .before .before .before .before .before .before .before .before .pre .1 .1 in
     let l = c .before .before .before .before .before .before .before .loop in
-    let i = l .inv in
-    let s1 = words (l .scratch) in
-    let cs1 = words (l .counters) in
-    let v = here (l .next) (l .end) (l .uses) in
-    let hc : length cs1 ≡ length cs = length-words-kept (l .counters) (a .counters .now) (i .0) in
-    let hs : length s1 ≡ length s = length-words-kept (l .scratch) (a .scratch .now) (i .1) in
-    let now = going-room (length ws) (length s1) room hs (i .2) in
-    let lt = i .3 (q .sig) (q .known .0) (q .known .1) in
-    let some = c .before .before .before .before .before .before .loop-test .taken in
-    let e = first-at (q .sig) ws (a .depth) (l .left) (l .next) (lt .rest) some in
-    let inside = expr-inside (q .sig) ws (a .depth) (l .next) e in
-    let w = c .before .before .before .before .before .get .result in
-    let is : w ≡ getD ws (l .next) 0 = c .before .before .before .before .before .get .ensures .is in
+    let g = c .before .before .before .before .before .get in
     let p = c .before .before .put in
-    let r : Walk = record { next = l .next + 1; to = l .end; log = l .uses; term = w; refused = 0 } in (
-      i .0,
-      p .kept .0 ∙ i .1,
-      going-here (left-going flattened flattenedAll flattened-row (q .sig) ws (a .depth) (a .n) (a .at) (a .to) (a .sp) (a .log) s cs (q .known .0) (l .left) (l .top) s1 cs1 v lt some now s1 cs1 r (λ y. leaf-way (q .sig) ws (a .depth) (l .next) (l .end) (l .top) (l .uses) s1 cs1 y (counted-kept (q .known .1) hc) w is (c .before .before .before .before .if1 .taken)) _ room (i .2) refl (p .ensures)),
-      λ sig x n. left-here sig ws (a .depth) (a .n) (a .at) (a .to) (a .sp) (a .log) s cs x (left-next flattened flattenedAll flattened-row sig ws (a .depth) (a .n) (a .at) (a .to) (a .sp) (a .log) s cs x (l .left) (l .top) s1 cs1 v (i .3 sig x n) some now s1 cs1 r (λ y. leaf-way sig ws (a .depth) (l .next) (l .end) (l .top) (l .uses) s1 cs1 y (counted-kept n hc) w is (c .before .before .before .before .if1 .taken)) _ refl (p .ensures)),
+    let r : Walk = record { next = l .next + 1; to = l .end; log = l .uses; term = g .result; refused = 0 } in (
+      l .inv .0,
+      p .kept .0 ∙ l .inv .1,
+      row-next (l .inv .2) (flatten-all-turn t (c .before .before .before .before .before .before)) (words (l .scratch)) (words (l .counters)) r
+          (λ sig e n. leaf-way sig _ (c .before .before .before .before .before .before .before .before .before .before .before .args .depth) (l .next) (l .end) (l .top) (l .uses) (words (l .scratch)) (words (l .counters)) e n (g .result) (g .ensures .is) (c .before .before .before .before .if1 .taken)) _ refl (p .ensures),
     )
 
-flatten-all-flatten-call-requires : (t : ℕ) → flatten-all-lts.Need-flatten-call-requires (
-  get-reads.Asked,
-  get-reads.Learnt,
-  put-reads.Asked,
-  put-reads.Learnt,
-  flatten-call-below t,
-  flatten-call.Post,
-) (flatten-all-at t) flatten-all.Post flatten-all-Inv-loop flatten-all-μ-loop
+flatten-all-flatten-call-requires : (t : ℕ) → flatten-all-lts.Need-flatten-call-requires (flatten-all-calls t) (flatten-all-at t) flatten-all.Post flatten-all-Inv-loop flatten-all-μ-loop
 flatten-all-flatten-call-requires t c κs =
-    let a = c .before .before .before .before .before .before .before .before .before .args in
-    let ws = words (a .rule .now) in
-    let cs = words (a .counters .now) in
-    let s = words (a .scratch .now) in
-    let q = c .before .before .before .before .before .before .before .before .before .pre .1 .0 in
-    let room = c .before .before .before .before .before .before .before .before .before .pre .1 .1 in
-    let l = c .before .before .before .before .before .loop in
-    let i = l .inv in
-    let s1 = words (l .scratch) in
-    let cs1 = words (l .counters) in
-    let v = here (l .next) (l .end) (l .uses) in
-    let hc : length cs1 ≡ length cs = length-words-kept (l .counters) (a .counters .now) (i .0) in
-    let hs : length s1 ≡ length s = length-words-kept (l .scratch) (a .scratch .now) (i .1) in
-    let now = going-room (length ws) (length s1) room hs (i .2) in
-    let lt = i .3 (q .sig) (q .known .0) (q .known .1) in
-    let some = c .before .before .before .before .loop-test .taken in
-    let e = first-at (q .sig) ws (a .depth) (l .left) (l .next) (lt .rest) some in
-    let inside = expr-inside (q .sig) ws (a .depth) (l .next) e in
-    let w = c .before .before .before .get .result in
-    let is : w ≡ getD ws (l .next) 0 = c .before .before .before .get .ensures .is in
-    (omega (arith, c .before .before .before .before .before .before .before .before .before .pre .0, i .2 .next), (record { sig = q .sig; known = (e, counted-kept (q .known .1) hc) }, (now, (is, c .before .before .if1 .left))))
+    let m = flatten-all-turn t (c .before .before .before .before) in
+    (omega (arith, c .before .before .before .before .before .before .before .before .before .pre .0, m .on), (record { sig = m .sig; known = (m .expr, m .counted) }, (m .room, (c .before .before .before .get .ensures .is, c .before .before .if1 .left))))
 
-flatten-all-same-length : (t : ℕ) → flatten-all-lts.Need-same-length (
-  get-reads.Asked,
-  get-reads.Learnt,
-  put-reads.Asked,
-  put-reads.Learnt,
-  flatten-call-below t,
-  flatten-call.Post,
-) (flatten-all-at t) flatten-all.Post flatten-all-Inv-loop flatten-all-μ-loop
+flatten-all-same-length : (t : ℕ) → flatten-all-lts.Need-same-length (flatten-all-calls t) (flatten-all-at t) flatten-all.Post flatten-all-Inv-loop flatten-all-μ-loop
 flatten-all-same-length t c = c .before .before .before .before .before .before .flatten-call .kept .1 .1 .1 .1 .0 ∙ c .before .before .before .before .before .before .before .before .before .before .before .before .loop .inv .0
 
-flatten-all-same-length-2 : (t : ℕ) → flatten-all-lts.Need-same-length-2 (
-  get-reads.Asked,
-  get-reads.Learnt,
-  put-reads.Asked,
-  put-reads.Learnt,
-  flatten-call-below t,
-  flatten-call.Post,
-) (flatten-all-at t) flatten-all.Post flatten-all-Inv-loop flatten-all-μ-loop
+flatten-all-same-length-2 : (t : ℕ) → flatten-all-lts.Need-same-length-2 (flatten-all-calls t) (flatten-all-at t) flatten-all.Post flatten-all-Inv-loop flatten-all-μ-loop
 flatten-all-same-length-2 t c = c .before .before .before .before .before .before .flatten-call .kept .1 .1 .1 .1 .1 .0 ∙ c .before .before .before .before .before .before .before .before .before .before .before .before .loop .inv .1
 
-flatten-all-returns : (t : ℕ) → flatten-all-lts.Need-returns (
-  get-reads.Asked,
-  get-reads.Learnt,
-  put-reads.Asked,
-  put-reads.Learnt,
-  flatten-call-below t,
-  flatten-call.Post,
-) (flatten-all-at t) flatten-all.Post flatten-all-Inv-loop flatten-all-μ-loop
+flatten-all-returns : (t : ℕ) → flatten-all-lts.Need-returns (flatten-all-calls t) (flatten-all-at t) flatten-all.Post flatten-all-Inv-loop flatten-all-μ-loop
 flatten-all-returns t c =
-    let a = c .before .before .before .before .before .before .before .before .before .before .before .before .before .before .before .before .args in
-    let ws = words (a .rule .now) in
-    let cs = words (a .counters .now) in
-    let s = words (a .scratch .now) in
-    let q = c .before .before .before .before .before .before .before .before .before .before .before .before .before .before .before .before .pre .1 .0 in
-    let room = c .before .before .before .before .before .before .before .before .before .before .before .before .before .before .before .before .pre .1 .1 in
-    let l = c .before .before .before .before .before .before .before .before .before .before .before .before .loop in
-    let i = l .inv in
-    let s1 = words (l .scratch) in
-    let cs1 = words (l .counters) in
-    let v = here (l .next) (l .end) (l .uses) in
-    let hc : length cs1 ≡ length cs = length-words-kept (l .counters) (a .counters .now) (i .0) in
-    let hs : length s1 ≡ length s = length-words-kept (l .scratch) (a .scratch .now) (i .1) in
-    let now = going-room (length ws) (length s1) room hs (i .2) in
-    let lt = i .3 (q .sig) (q .known .0) (q .known .1) in
-    let some = c .before .before .before .before .before .before .before .before .before .before .before .loop-test .taken in
-    let e = first-at (q .sig) ws (a .depth) (l .left) (l .next) (lt .rest) some in
-    let inside = expr-inside (q .sig) ws (a .depth) (l .next) e in
     let k = c .before .before .before .before .before .before .flatten-call in
-    let s2 = words (k .last .1 .1 .1 .1 .1 .0) in
-    let cs2 = words (k .last .1 .1 .1 .1 .0) in
-    let hs2 : length s2 ≡ length s1 = length-words-kept (k .last .1 .1 .1 .1 .1 .0) (l .scratch) (k .kept .1 .1 .1 .1 .1 .0) in
-    λ sig x n. left-stop flattened flattenedAll flattened-row sig ws (a .depth) (a .n) (a .at) (a .to) (a .sp) (a .log) s cs x (l .left) (l .top) s1 cs1 v (i .3 sig x n) some now s2 cs2 (k .result) (λ y. k .ensures sig y (counted-kept n hc)) (c .if2 .taken)
+    row-stop (c .before .before .before .before .before .before .before .before .before .before .before .before .loop .inv .2) (flatten-all-turn t (c .before .before .before .before .before .before .before .before .before .before .before)) (words (k .last .1 .1 .1 .1 .1 .0)) (words (k .last .1 .1 .1 .1 .0)) (k .result) (k .ensures) (c .if2 .taken)
 
-flatten-all-put-requires-2 : (t : ℕ) → flatten-all-lts.Need-put-requires-2 (
-  get-reads.Asked,
-  get-reads.Learnt,
-  put-reads.Asked,
-  put-reads.Learnt,
-  flatten-call-below t,
-  flatten-call.Post,
-) (flatten-all-at t) flatten-all.Post flatten-all-Inv-loop flatten-all-μ-loop
+flatten-all-put-requires-2 : (t : ℕ) → flatten-all-lts.Need-put-requires-2 (flatten-all-calls t) (flatten-all-at t) flatten-all.Post flatten-all-Inv-loop flatten-all-μ-loop
 flatten-all-put-requires-2 t c κs =
-    let a = c .before .before .before .before .before .before .before .before .before .before .before .before .before .before .before .before .before .args in
-    let ws = words (a .rule .now) in
-    let cs = words (a .counters .now) in
-    let s = words (a .scratch .now) in
-    let q = c .before .before .before .before .before .before .before .before .before .before .before .before .before .before .before .before .before .pre .1 .0 in
-    let room = c .before .before .before .before .before .before .before .before .before .before .before .before .before .before .before .before .before .pre .1 .1 in
-    let l = c .before .before .before .before .before .before .before .before .before .before .before .before .before .loop in
-    let i = l .inv in
-    let s1 = words (l .scratch) in
-    let cs1 = words (l .counters) in
-    let v = here (l .next) (l .end) (l .uses) in
-    let hc : length cs1 ≡ length cs = length-words-kept (l .counters) (a .counters .now) (i .0) in
-    let hs : length s1 ≡ length s = length-words-kept (l .scratch) (a .scratch .now) (i .1) in
-    let now = going-room (length ws) (length s1) room hs (i .2) in
-    let lt = i .3 (q .sig) (q .known .0) (q .known .1) in
-    let some = c .before .before .before .before .before .before .before .before .before .before .before .before .loop-test .taken in
-    let e = first-at (q .sig) ws (a .depth) (l .left) (l .next) (lt .rest) some in
-    let inside = expr-inside (q .sig) ws (a .depth) (l .next) e in
+    let m = flatten-all-turn t (c .before .before .before .before .before .before .before .before .before .before .before .before) in
     let k = c .before .before .before .before .before .before .before .flatten-call in
-    let s2 = words (k .last .1 .1 .1 .1 .1 .0) in
-    let cs2 = words (k .last .1 .1 .1 .1 .0) in
-    let hs2 : length s2 ≡ length s1 = length-words-kept (k .last .1 .1 .1 .1 .1 .0) (l .scratch) (k .kept .1 .1 .1 .1 .1 .0) in
-    omega (arith, now .stack, now .log, inside, hs2)
+    omega (arith, m .room .stack, m .room .log, m .inside, length-words-kept (k .last .1 .1 .1 .1 .1 .0) (c .before .before .before .before .before .before .before .before .before .before .before .before .before .loop .scratch) (k .kept .1 .1 .1 .1 .1 .0))
 
-flatten-all-add-top-2 : (t : ℕ) → flatten-all-lts.Need-add-top-2 (
-  get-reads.Asked,
-  get-reads.Learnt,
-  put-reads.Asked,
-  put-reads.Learnt,
-  flatten-call-below t,
-  flatten-call.Post,
-) (flatten-all-at t) flatten-all.Post flatten-all-Inv-loop flatten-all-μ-loop
+flatten-all-add-top-2 : (t : ℕ) → flatten-all-lts.Need-add-top-2 (flatten-all-calls t) (flatten-all-at t) flatten-all.Post flatten-all-Inv-loop flatten-all-μ-loop
 flatten-all-add-top-2 t c =
-    let a = c .before .before .before .before .before .before .before .before .before .before .before .before .before .before .before .before .before .before .before .before .args in
-    let ws = words (a .rule .now) in
-    let cs = words (a .counters .now) in
-    let s = words (a .scratch .now) in
-    let q = c .before .before .before .before .before .before .before .before .before .before .before .before .before .before .before .before .before .before .before .before .pre .1 .0 in
-    let room = c .before .before .before .before .before .before .before .before .before .before .before .before .before .before .before .before .before .before .before .before .pre .1 .1 in
-    let l = c .before .before .before .before .before .before .before .before .before .before .before .before .before .before .before .before .loop in
-    let i = l .inv in
-    let s1 = words (l .scratch) in
-    let cs1 = words (l .counters) in
-    let v = here (l .next) (l .end) (l .uses) in
-    let hc : length cs1 ≡ length cs = length-words-kept (l .counters) (a .counters .now) (i .0) in
-    let hs : length s1 ≡ length s = length-words-kept (l .scratch) (a .scratch .now) (i .1) in
-    let now = going-room (length ws) (length s1) room hs (i .2) in
-    let lt = i .3 (q .sig) (q .known .0) (q .known .1) in
-    let some = c .before .before .before .before .before .before .before .before .before .before .before .before .before .before .before .loop-test .taken in
-    let e = first-at (q .sig) ws (a .depth) (l .left) (l .next) (lt .rest) some in
-    let inside = expr-inside (q .sig) ws (a .depth) (l .next) e in
-    omega (arith, now .stack, now .log, inside, hs, length-words (a .scratch .now), c .before .before .before .before .before .before .before .before .before .before .before .before .before .before .before .before .before .before .before .before .good)
+    let m = flatten-all-turn t (c .before .before .before .before .before .before .before .before .before .before .before .before .before .before .before) in
+    omega (arith, m .room .stack, m .room .log, m .inside, m .scratch, length-words (c .before .before .before .before .before .before .before .before .before .before .before .before .before .before .before .before .before .before .before .before .args .scratch .now), c .before .before .before .before .before .before .before .before .before .before .before .before .before .before .before .before .before .before .before .before .good)
 
-flatten-all-sub-left-2 : (t : ℕ) → flatten-all-lts.Need-sub-left-2 (
-  get-reads.Asked,
-  get-reads.Learnt,
-  put-reads.Asked,
-  put-reads.Learnt,
-  flatten-call-below t,
-  flatten-call.Post,
-) (flatten-all-at t) flatten-all.Post flatten-all-Inv-loop flatten-all-μ-loop
+flatten-all-sub-left-2 : (t : ℕ) → flatten-all-lts.Need-sub-left-2 (flatten-all-calls t) (flatten-all-at t) flatten-all.Post flatten-all-Inv-loop flatten-all-μ-loop
 flatten-all-sub-left-2 t c = omega (arith, c .before .before .before .before .before .before .before .before .before .before .before .before .before .before .before .loop-test .taken)
 
-flatten-all-loop-less-2 : (t : ℕ) → flatten-all-lts.Need-loop-less-2 (
-  get-reads.Asked,
-  get-reads.Learnt,
-  put-reads.Asked,
-  put-reads.Learnt,
-  flatten-call-below t,
-  flatten-call.Post,
-) (flatten-all-at t) flatten-all.Post flatten-all-Inv-loop flatten-all-μ-loop
+flatten-all-loop-less-2 : (t : ℕ) → flatten-all-lts.Need-loop-less-2 (flatten-all-calls t) (flatten-all-at t) flatten-all.Post flatten-all-Inv-loop flatten-all-μ-loop
 flatten-all-loop-less-2 t c = omega (arith, c .before .before .before .before .before .before .before .before .before .before .before .before .before .before .before .loop-test .taken)
 
-flatten-all-loop-again-2 : (t : ℕ) → flatten-all-lts.Need-loop-again-2 (
-  get-reads.Asked,
-  get-reads.Learnt,
-  put-reads.Asked,
-  put-reads.Learnt,
-  flatten-call-below t,
-  flatten-call.Post,
-) (flatten-all-at t) flatten-all.Post flatten-all-Inv-loop flatten-all-μ-loop
+flatten-all-loop-again-2 : (t : ℕ) → flatten-all-lts.Need-loop-again-2 (flatten-all-calls t) (flatten-all-at t) flatten-all.Post flatten-all-Inv-loop flatten-all-μ-loop
 flatten-all-loop-again-2 t c =
-    let a = c .before .before .before .before .before .before .before .before .before .before .before .before .before .before .before .before .before .before .before .before .args in
-    let ws = words (a .rule .now) in
-    let cs = words (a .counters .now) in
-    let s = words (a .scratch .now) in
-    let q = c .before .before .before .before .before .before .before .before .before .before .before .before .before .before .before .before .before .before .before .before .pre .1 .0 in
-    let room = c .before .before .before .before .before .before .before .before .before .before .before .before .before .before .before .before .before .before .before .before .pre .1 .1 in
     let l = c .before .before .before .before .before .before .before .before .before .before .before .before .before .before .before .before .loop in
-    let i = l .inv in
-    let s1 = words (l .scratch) in
-    let cs1 = words (l .counters) in
-    let v = here (l .next) (l .end) (l .uses) in
-    let hc : length cs1 ≡ length cs = length-words-kept (l .counters) (a .counters .now) (i .0) in
-    let hs : length s1 ≡ length s = length-words-kept (l .scratch) (a .scratch .now) (i .1) in
-    let now = going-room (length ws) (length s1) room hs (i .2) in
-    let lt = i .3 (q .sig) (q .known .0) (q .known .1) in
-    let some = c .before .before .before .before .before .before .before .before .before .before .before .before .before .before .before .loop-test .taken in
-    let e = first-at (q .sig) ws (a .depth) (l .left) (l .next) (lt .rest) some in
-    let inside = expr-inside (q .sig) ws (a .depth) (l .next) e in
     let k = c .before .before .before .before .before .before .before .before .before .before .flatten-call in
-    let s2 = words (k .last .1 .1 .1 .1 .1 .0) in
-    let cs2 = words (k .last .1 .1 .1 .1 .0) in
-    let hs2 : length s2 ≡ length s1 = length-words-kept (k .last .1 .1 .1 .1 .1 .0) (l .scratch) (k .kept .1 .1 .1 .1 .1 .0) in
     let p = c .before .before .put2 in (
-      k .kept .1 .1 .1 .1 .0 ∙ i .0,
-      p .kept .0 ∙ k .kept .1 .1 .1 .1 .1 .0 ∙ i .1,
-      going-here (left-going flattened flattenedAll flattened-row (q .sig) ws (a .depth) (a .n) (a .at) (a .to) (a .sp) (a .log) s cs (q .known .0) (l .left) (l .top) s1 cs1 v lt some now s2 cs2 (k .result) (λ y. k .ensures (q .sig) y (counted-kept (q .known .1) hc)) _ room (i .2) (c .before .before .before .before .if2 .left) (p .ensures)),
-      λ sig x n. left-here sig ws (a .depth) (a .n) (a .at) (a .to) (a .sp) (a .log) s cs x (left-next flattened flattenedAll flattened-row sig ws (a .depth) (a .n) (a .at) (a .to) (a .sp) (a .log) s cs x (l .left) (l .top) s1 cs1 v (i .3 sig x n) some now s2 cs2 (k .result) (λ y. k .ensures sig y (counted-kept n hc)) _ (c .before .before .before .before .if2 .left) (p .ensures)),
+      k .kept .1 .1 .1 .1 .0 ∙ l .inv .0,
+      p .kept .0 ∙ k .kept .1 .1 .1 .1 .1 .0 ∙ l .inv .1,
+      row-next (l .inv .2) (flatten-all-turn t (c .before .before .before .before .before .before .before .before .before .before .before .before .before .before .before)) (words (k .last .1 .1 .1 .1 .1 .0)) (words (k .last .1 .1 .1 .1 .0)) (k .result) (k .ensures) _ (c .before .before .before .before .if2 .left) (p .ensures),
     )
 
-flatten-all-same-length-3 : (t : ℕ) → flatten-all-lts.Need-same-length-3 (
-  get-reads.Asked,
-  get-reads.Learnt,
-  put-reads.Asked,
-  put-reads.Learnt,
-  flatten-call-below t,
-  flatten-call.Post,
-) (flatten-all-at t) flatten-all.Post flatten-all-Inv-loop flatten-all-μ-loop
+flatten-all-same-length-3 : (t : ℕ) → flatten-all-lts.Need-same-length-3 (flatten-all-calls t) (flatten-all-at t) flatten-all.Post flatten-all-Inv-loop flatten-all-μ-loop
 flatten-all-same-length-3 t c = c .before .loop .inv .0
 
-flatten-all-same-length-4 : (t : ℕ) → flatten-all-lts.Need-same-length-4 (
-  get-reads.Asked,
-  get-reads.Learnt,
-  put-reads.Asked,
-  put-reads.Learnt,
-  flatten-call-below t,
-  flatten-call.Post,
-) (flatten-all-at t) flatten-all.Post flatten-all-Inv-loop flatten-all-μ-loop
+flatten-all-same-length-4 : (t : ℕ) → flatten-all-lts.Need-same-length-4 (flatten-all-calls t) (flatten-all-at t) flatten-all.Post flatten-all-Inv-loop flatten-all-μ-loop
 flatten-all-same-length-4 t c = c .before .loop .inv .1
 
-flatten-all-returns-2 : (t : ℕ) → flatten-all-lts.Need-returns-2 (
-  get-reads.Asked,
-  get-reads.Learnt,
-  put-reads.Asked,
-  put-reads.Learnt,
-  flatten-call-below t,
-  flatten-call.Post,
-) (flatten-all-at t) flatten-all.Post flatten-all-Inv-loop flatten-all-μ-loop
-flatten-all-returns-2 t c =
-    let a = c .before .before .before .before .before .args in
-    let ws = words (a .rule .now) in
-    let cs = words (a .counters .now) in
-    let s = words (a .scratch .now) in
-    let q = c .before .before .before .before .before .pre .1 .0 in
-    let room = c .before .before .before .before .before .pre .1 .1 in
-    let l = c .before .loop in
-    let i = l .inv in
-    let s1 = words (l .scratch) in
-    let cs1 = words (l .counters) in
-    let v = here (l .next) (l .end) (l .uses) in
-    let hc : length cs1 ≡ length cs = length-words-kept (l .counters) (a .counters .now) (i .0) in
-    let hs : length s1 ≡ length s = length-words-kept (l .scratch) (a .scratch .now) (i .1) in
-    let now = going-room (length ws) (length s1) room hs (i .2) in
-    let lt = i .3 (q .sig) (q .known .0) (q .known .1) in
-    λ sig x n. left-none flattened flattenedAll flattened-row sig ws (a .depth) (a .n) (a .at) (a .to) (a .sp) (a .log) s cs x (l .left) (l .top) s1 cs1 v (i .3 sig x n) (i .2 .fine)
-    (omega (arith, c .loop-test .left))
+flatten-all-returns-2 : (t : ℕ) → flatten-all-lts.Need-returns-2 (flatten-all-calls t) (flatten-all-at t) flatten-all.Post flatten-all-Inv-loop flatten-all-μ-loop
+flatten-all-returns-2 t c = row-done (c .before .loop .inv .2) (omega (arith, c .loop-test .left))
 
-flatten-call-sub-h : (t : ℕ) → flatten-call-lts.Need-sub-h (
-  take-reads.Asked,
-  take-reads.Learnt,
-  leaves-reads.Asked,
-  leaves-reads.Learnt,
-  put-around-reads.Asked,
-  put-around-reads.Learnt,
-  flatten-all-below t,
-  flatten-all.Post,
-  put-atom-reads.Asked,
-  put-atom-reads.Learnt,
-) (flatten-call-at t) flatten-call.Post
-flatten-call-sub-h t c =
-    let a = c .before .before .before .args in
-    let ws = words (a .rule .now) in
-    let cs = words (a .counters .now) in
-    let s = words (a .scratch .now) in
-    let q = c .before .before .before .pre .1 .0 in
-    let room = c .before .before .before .pre .1 .1 .0 in
-    let w = a .w in
-    let is : w ≡ getD ws (a .at) 0 = c .before .before .before .pre .1 .1 .1 .0 in
-    let low = c .before .before .before .pre .1 .1 .1 .1 in
-    let f = call-facts (q .sig) ws (a .depth) (a .at) cs w (q .known .0) (q .known .1) is low in
-    omega (arith, f .high)
+-- ---- flatten_call: the variable, then the run of names and literals, and from there the atom at once or the walk of all arguments
 
-flatten-call-sub-n : (t : ℕ) → flatten-call-lts.Need-sub-n (
-  take-reads.Asked,
-  take-reads.Learnt,
-  leaves-reads.Asked,
-  leaves-reads.Learnt,
-  put-around-reads.Asked,
-  put-around-reads.Learnt,
-  flatten-all-below t,
-  flatten-all.Post,
-  put-atom-reads.Asked,
-  put-atom-reads.Learnt,
-) (flatten-call-at t) flatten-call.Post
-flatten-call-sub-n t c =
-    let a = c .before .before .before .args in
-    let ws = words (a .rule .now) in
-    let cs = words (a .counters .now) in
-    let s = words (a .scratch .now) in
-    let q = c .before .before .before .pre .1 .0 in
-    let room = c .before .before .before .pre .1 .1 .0 in
-    let w = a .w in
-    let is : w ≡ getD ws (a .at) 0 = c .before .before .before .pre .1 .1 .1 .0 in
-    let low = c .before .before .before .pre .1 .1 .1 .1 in
-    let f = call-facts (q .sig) ws (a .depth) (a .at) cs w (q .known .0) (q .known .1) is low in
-    omega (arith, f .high)
+-- what is known at its entry
+flatten-call-begins : (t : ℕ) (c : flatten-call-lts.Start (flatten-call-calls t) (flatten-call-at t) flatten-call.Post)
+    → let a = c .args in
+    CallAt (words (a .rule .now)) (words (a .scratch .now)) (words (a .counters .now)) (a .depth) (a .at) (a .to) (a .sp) (a .log) (a .w)
+flatten-call-begins t c = call-at (c .pre .1 .0) (c .pre .1 .1 .0) (c .pre .1 .1 .1 .0) (c .pre .1 .1 .1 .1)
 
-flatten-call-take-requires : (t : ℕ) → flatten-call-lts.Need-take-requires (
-  take-reads.Asked,
-  take-reads.Learnt,
-  leaves-reads.Asked,
-  leaves-reads.Learnt,
-  put-around-reads.Asked,
-  put-around-reads.Learnt,
-  flatten-all-below t,
-  flatten-all.Post,
-  put-atom-reads.Asked,
-  put-atom-reads.Learnt,
-) (flatten-call-at t) flatten-call.Post
+-- and behind the names and literals that its arguments start with
+flatten-call-begun : (t : ℕ) (c : flatten-call-lts.After-leaves (flatten-call-calls t) (flatten-call-at t) flatten-call.Post)
+    → let a = c .before .before .before .before .before .before .before .before .before .before .before .before .before .args in
+    let v = c .before .before .before .before .before .before .before .take in
+    let l = c .leaves in
+    Begun (words (a .rule .now)) (words (a .scratch .now)) (words (a .counters .now)) (a .depth) (a .at) (a .to) (a .sp) (a .log) (a .w) (v .result) (l .result)
+    (words (v .last .1 .0)) (words (v .last .0)) (words (l .last .1 .1 .1 .0))
+flatten-call-begun t c =
+    let s = c .before .before .before .before .before .before .before .before .before .before .before .before .before in
+    let a = s .args in
+    let v = c .before .before .before .before .before .before .before .take in
+    let l = c .leaves in
+    record {
+      known = s .pre .1 .0;
+      is = s .pre .1 .1 .1 .0;
+      low = s .pre .1 .1 .1 .1;
+      room = s .pre .1 .1 .0;
+      taken = v .ensures;
+      some = c .before .before .if1 .left;
+      counters = length-words-kept (v .last .0) (a .counters .now) (v .kept .0);
+      scratch = length-words-kept (v .last .1 .0) (a .scratch .now) (v .kept .1 .0);
+      left = length-words-kept (l .last .1 .1 .1 .0) (v .last .1 .0) (l .kept .1 .1 .1 .0);
+      run = l .ensures .0;
+      put = l .ensures .1;
+    }
+
+flatten-call-sub-h : (t : ℕ) → flatten-call-lts.Need-sub-h (flatten-call-calls t) (flatten-call-at t) flatten-call.Post
+flatten-call-sub-h t c = omega (arith, flatten-call-begins t (c .before .before .before) .facts .high)
+
+flatten-call-sub-n : (t : ℕ) → flatten-call-lts.Need-sub-n (flatten-call-calls t) (flatten-call-at t) flatten-call.Post
+flatten-call-sub-n t c = omega (arith, flatten-call-begins t (c .before .before .before) .facts .high)
+
+flatten-call-take-requires : (t : ℕ) → flatten-call-lts.Need-take-requires (flatten-call-calls t) (flatten-call-at t) flatten-call.Post
 flatten-call-take-requires t c κs =
-    let a = c .before .before .before .before .before .args in
-    let ws = words (a .rule .now) in
-    let cs = words (a .counters .now) in
-    let s = words (a .scratch .now) in
-    let q = c .before .before .before .before .before .pre .1 .0 in
-    let room = c .before .before .before .before .before .pre .1 .1 .0 in
-    let w = a .w in
-    let is : w ≡ getD ws (a .at) 0 = c .before .before .before .before .before .pre .1 .1 .1 .0 in
-    let low = c .before .before .before .before .before .pre .1 .1 .1 .1 in
-    let f = call-facts (q .sig) ws (a .depth) (a .at) cs w (q .known .0) (q .known .1) is low in
-    (f .small, f .low, omega (arith, room .log, f .inside))
+    let b = flatten-call-begins t (c .before .before .before .before .before) in
+    (b .facts .small, b .facts .low, omega (arith, b .room .log, b .facts .inside))
 
-flatten-call-same-length : (t : ℕ) → flatten-call-lts.Need-same-length (
-  take-reads.Asked,
-  take-reads.Learnt,
-  leaves-reads.Asked,
-  leaves-reads.Learnt,
-  put-around-reads.Asked,
-  put-around-reads.Learnt,
-  flatten-all-below t,
-  flatten-all.Post,
-  put-atom-reads.Asked,
-  put-atom-reads.Learnt,
-) (flatten-call-at t) flatten-call.Post
+flatten-call-same-length : (t : ℕ) → flatten-call-lts.Need-same-length (flatten-call-calls t) (flatten-call-at t) flatten-call.Post
 flatten-call-same-length t c = search needs
 
-flatten-call-same-length-2 : (t : ℕ) → flatten-call-lts.Need-same-length-2 (
-  take-reads.Asked,
-  take-reads.Learnt,
-  leaves-reads.Asked,
-  leaves-reads.Learnt,
-  put-around-reads.Asked,
-  put-around-reads.Learnt,
-  flatten-all-below t,
-  flatten-all.Post,
-  put-atom-reads.Asked,
-  put-atom-reads.Learnt,
-) (flatten-call-at t) flatten-call.Post
+flatten-call-same-length-2 : (t : ℕ) → flatten-call-lts.Need-same-length-2 (flatten-call-calls t) (flatten-call-at t) flatten-call.Post
 flatten-call-same-length-2 t c = search needs
 
-flatten-call-returns : (t : ℕ) → flatten-call-lts.Need-returns (
-  take-reads.Asked,
-  take-reads.Learnt,
-  leaves-reads.Asked,
-  leaves-reads.Learnt,
-  put-around-reads.Asked,
-  put-around-reads.Learnt,
-  flatten-all-below t,
-  flatten-all.Post,
-  put-atom-reads.Asked,
-  put-atom-reads.Learnt,
-) (flatten-call-at t) flatten-call.Post
+flatten-call-returns : (t : ℕ) → flatten-call-lts.Need-returns (flatten-call-calls t) (flatten-call-at t) flatten-call.Post
 flatten-call-returns t c =
-    let a = c .before .before .before .before .before .before .before .before .before .before .before .args in
-    let ws = words (a .rule .now) in
-    let cs = words (a .counters .now) in
-    let s = words (a .scratch .now) in
-    let q = c .before .before .before .before .before .before .before .before .before .before .before .pre .1 .0 in
-    let room = c .before .before .before .before .before .before .before .before .before .before .before .pre .1 .1 .0 in
-    let w = a .w in
-    let is : w ≡ getD ws (a .at) 0 = c .before .before .before .before .before .before .before .before .before .before .before .pre .1 .1 .1 .0 in
-    let low = c .before .before .before .before .before .before .before .before .before .before .before .pre .1 .1 .1 .1 in
-    let t = c .before .before .before .before .before .take in
-    λ sig x n. full-way sig ws (a .depth) (a .at) (a .to) (a .sp) (a .log) s cs x n w is low (t .result) _ _ (t .ensures) (c .if1 .taken)
+    let s = c .before .before .before .before .before .before .before .before .before .before .before in
+    let a = s .args in
+    let v = c .before .before .before .before .before .take in
+    λ sig x n. full-way sig _ (a .depth) (a .at) (a .to) (a .sp) (a .log) _ _ x n (a .w) (s .pre .1 .1 .1 .0) (s .pre .1 .1 .1 .1) (v .result) _ _ (v .ensures) (c .if1 .taken)
 
-flatten-call-add-leaves : (t : ℕ) → flatten-call-lts.Need-add-leaves (
-  take-reads.Asked,
-  take-reads.Learnt,
-  leaves-reads.Asked,
-  leaves-reads.Learnt,
-  put-around-reads.Asked,
-  put-around-reads.Learnt,
-  flatten-all-below t,
-  flatten-all.Post,
-  put-atom-reads.Asked,
-  put-atom-reads.Learnt,
-) (flatten-call-at t) flatten-call.Post
-flatten-call-add-leaves t c =
-    let a = c .before .before .before .before .before .before .before .before .before .before .before .args in
-    let ws = words (a .rule .now) in
-    let cs = words (a .counters .now) in
-    let s = words (a .scratch .now) in
-    let q = c .before .before .before .before .before .before .before .before .before .before .before .pre .1 .0 in
-    let room = c .before .before .before .before .before .before .before .before .before .before .before .pre .1 .1 .0 in
-    let w = a .w in
-    let is : w ≡ getD ws (a .at) 0 = c .before .before .before .before .before .before .before .before .before .before .before .pre .1 .1 .1 .0 in
-    let low = c .before .before .before .before .before .before .before .before .before .before .before .pre .1 .1 .1 .1 in
-    let f = call-facts (q .sig) ws (a .depth) (a .at) cs w (q .known .0) (q .known .1) is low in
-    omega (arith, f .inside, length-words (a .rule .now))
+flatten-call-add-leaves : (t : ℕ) → flatten-call-lts.Need-add-leaves (flatten-call-calls t) (flatten-call-at t) flatten-call.Post
+flatten-call-add-leaves t c = omega (arith, flatten-call-begins t (c .before .before .before .before .before .before .before .before .before .before .before) .facts .inside, length-words (c .before .before .before .before .before .before .before .before .before .before .before .args .rule .now))
 
-flatten-call-cast-leaves : (t : ℕ) → flatten-call-lts.Need-cast-leaves (
-  take-reads.Asked,
-  take-reads.Learnt,
-  leaves-reads.Asked,
-  leaves-reads.Learnt,
-  put-around-reads.Asked,
-  put-around-reads.Learnt,
-  flatten-all-below t,
-  flatten-all.Post,
-  put-atom-reads.Asked,
-  put-atom-reads.Learnt,
-) (flatten-call-at t) flatten-call.Post
+flatten-call-cast-leaves : (t : ℕ) → flatten-call-lts.Need-cast-leaves (flatten-call-calls t) (flatten-call-at t) flatten-call.Post
 flatten-call-cast-leaves t c = search needs
 
-flatten-call-add-leaves-2 : (t : ℕ) → flatten-call-lts.Need-add-leaves-2 (
-  take-reads.Asked,
-  take-reads.Learnt,
-  leaves-reads.Asked,
-  leaves-reads.Learnt,
-  put-around-reads.Asked,
-  put-around-reads.Learnt,
-  flatten-all-below t,
-  flatten-all.Post,
-  put-atom-reads.Asked,
-  put-atom-reads.Learnt,
-) (flatten-call-at t) flatten-call.Post
-flatten-call-add-leaves-2 t c =
-    let a = c .before .before .before .before .before .before .before .before .before .before .before .before .args in
-    let ws = words (a .rule .now) in
-    let cs = words (a .counters .now) in
-    let s = words (a .scratch .now) in
-    let q = c .before .before .before .before .before .before .before .before .before .before .before .before .pre .1 .0 in
-    let room = c .before .before .before .before .before .before .before .before .before .before .before .before .pre .1 .1 .0 in
-    let w = a .w in
-    let is : w ≡ getD ws (a .at) 0 = c .before .before .before .before .before .before .before .before .before .before .before .before .pre .1 .1 .1 .0 in
-    let low = c .before .before .before .before .before .before .before .before .before .before .before .before .pre .1 .1 .1 .1 in
-    let f = call-facts (q .sig) ws (a .depth) (a .at) cs w (q .known .0) (q .known .1) is low in
-    let ar = atom-room-in (q .sig) ws s (a .depth - 1) (countOf w) (a .at) (a .to) (a .sp) (a .log) (f .args) room in
-    omega (arith, ar .words, length-words (a .scratch .now))
+flatten-call-add-leaves-2 : (t : ℕ) → flatten-call-lts.Need-add-leaves-2 (flatten-call-calls t) (flatten-call-at t) flatten-call.Post
+flatten-call-add-leaves-2 t c = omega (arith, flatten-call-begins t (c .before .before .before .before .before .before .before .before .before .before .before .before) .atom .words, length-words (c .before .before .before .before .before .before .before .before .before .before .before .before .args .scratch .now))
 
-flatten-call-leaves-requires : (t : ℕ) → flatten-call-lts.Need-leaves-requires (
-  take-reads.Asked,
-  take-reads.Learnt,
-  leaves-reads.Asked,
-  leaves-reads.Learnt,
-  put-around-reads.Asked,
-  put-around-reads.Learnt,
-  flatten-all-below t,
-  flatten-all.Post,
-  put-atom-reads.Asked,
-  put-atom-reads.Learnt,
-) (flatten-call-at t) flatten-call.Post
+flatten-call-leaves-requires : (t : ℕ) → flatten-call-lts.Need-leaves-requires (flatten-call-calls t) (flatten-call-at t) flatten-call.Post
 flatten-call-leaves-requires t c κs =
-    let a = c .before .before .before .before .before .before .before .before .before .before .before .before .args in
-    let ws = words (a .rule .now) in
-    let cs = words (a .counters .now) in
-    let s = words (a .scratch .now) in
-    let q = c .before .before .before .before .before .before .before .before .before .before .before .before .pre .1 .0 in
-    let room = c .before .before .before .before .before .before .before .before .before .before .before .before .pre .1 .1 .0 in
-    let w = a .w in
-    let is : w ≡ getD ws (a .at) 0 = c .before .before .before .before .before .before .before .before .before .before .before .before .pre .1 .1 .1 .0 in
-    let low = c .before .before .before .before .before .before .before .before .before .before .before .before .pre .1 .1 .1 .1 in
-    let f = call-facts (q .sig) ws (a .depth) (a .at) cs w (q .known .0) (q .known .1) is low in
-    let ar = atom-room-in (q .sig) ws s (a .depth - 1) (countOf w) (a .at) (a .to) (a .sp) (a .log) (f .args) room in
-    let t = c .before .before .before .before .before .before .take in
-    (ar .inside, omega (arith, ar .words, length-words-kept (t .last .1 .0) (a .scratch .now) (t .kept .1 .0)))
+    let b = flatten-call-begins t (c .before .before .before .before .before .before .before .before .before .before .before .before) in
+    let v = c .before .before .before .before .before .before .take in
+    (b .atom .inside, omega (arith, b .atom .words, length-words-kept (v .last .1 .0) (c .before .before .before .before .before .before .before .before .before .before .before .before .args .scratch .now) (v .kept .1 .0)))
 
-flatten-call-cast-if2 : (t : ℕ) → flatten-call-lts.Need-cast-if2 (
-  take-reads.Asked,
-  take-reads.Learnt,
-  leaves-reads.Asked,
-  leaves-reads.Learnt,
-  put-around-reads.Asked,
-  put-around-reads.Learnt,
-  flatten-all-below t,
-  flatten-all.Post,
-  put-atom-reads.Asked,
-  put-atom-reads.Learnt,
-) (flatten-call-at t) flatten-call.Post
+flatten-call-cast-if2 : (t : ℕ) → flatten-call-lts.Need-cast-if2 (flatten-call-calls t) (flatten-call-at t) flatten-call.Post
 flatten-call-cast-if2 t c = search needs
 
-flatten-call-add-put-around : (t : ℕ) → flatten-call-lts.Need-add-put-around (
-  take-reads.Asked,
-  take-reads.Learnt,
-  leaves-reads.Asked,
-  leaves-reads.Learnt,
-  put-around-reads.Asked,
-  put-around-reads.Learnt,
-  flatten-all-below t,
-  flatten-all.Post,
-  put-atom-reads.Asked,
-  put-atom-reads.Learnt,
-) (flatten-call-at t) flatten-call.Post
+flatten-call-add-put-around : (t : ℕ) → flatten-call-lts.Need-add-put-around (flatten-call-calls t) (flatten-call-at t) flatten-call.Post
 flatten-call-add-put-around t c = omega (arith, c .before .before .before .before .before .before .before .before .before .before .before .before .before .before .before .before .before .pre .1 .1 .1 .1)
 
-flatten-call-cast-put-around : (t : ℕ) → flatten-call-lts.Need-cast-put-around (
-  take-reads.Asked,
-  take-reads.Learnt,
-  leaves-reads.Asked,
-  leaves-reads.Learnt,
-  put-around-reads.Asked,
-  put-around-reads.Learnt,
-  flatten-all-below t,
-  flatten-all.Post,
-  put-atom-reads.Asked,
-  put-atom-reads.Learnt,
-) (flatten-call-at t) flatten-call.Post
+flatten-call-cast-put-around : (t : ℕ) → flatten-call-lts.Need-cast-put-around (flatten-call-calls t) (flatten-call-at t) flatten-call.Post
 flatten-call-cast-put-around t c = search needs
 
-flatten-call-put-around-requires : (t : ℕ) → flatten-call-lts.Need-put-around-requires (
-  take-reads.Asked,
-  take-reads.Learnt,
-  leaves-reads.Asked,
-  leaves-reads.Learnt,
-  put-around-reads.Asked,
-  put-around-reads.Learnt,
-  flatten-all-below t,
-  flatten-all.Post,
-  put-atom-reads.Asked,
-  put-atom-reads.Learnt,
-) (flatten-call-at t) flatten-call.Post
+flatten-call-put-around-requires : (t : ℕ) → flatten-call-lts.Need-put-around-requires (flatten-call-calls t) (flatten-call-at t) flatten-call.Post
 flatten-call-put-around-requires t c κs =
-    let a = c .before .before .before .before .before .before .before .before .before .before .before .before .before .before .before .before .before .args in
-    let ws = words (a .rule .now) in
-    let cs = words (a .counters .now) in
-    let s = words (a .scratch .now) in
-    let q = c .before .before .before .before .before .before .before .before .before .before .before .before .before .before .before .before .before .pre .1 .0 in
-    let room = c .before .before .before .before .before .before .before .before .before .before .before .before .before .before .before .before .before .pre .1 .1 .0 in
-    let w = a .w in
-    let is : w ≡ getD ws (a .at) 0 = c .before .before .before .before .before .before .before .before .before .before .before .before .before .before .before .before .before .pre .1 .1 .1 .0 in
-    let low = c .before .before .before .before .before .before .before .before .before .before .before .before .before .before .before .before .before .pre .1 .1 .1 .1 in
-    let f = call-facts (q .sig) ws (a .depth) (a .at) cs w (q .known .0) (q .known .1) is low in
-    let ar = atom-room-in (q .sig) ws s (a .depth - 1) (countOf w) (a .at) (a .to) (a .sp) (a .log) (f .args) room in
-    let t = c .before .before .before .before .before .before .before .before .before .before .before .take in
-    let s1 = words (t .last .1 .0) in
-    let cs1 = words (t .last .0) in
-    let hc : length cs1 ≡ length cs = length-words-kept (t .last .0) (a .counters .now) (t .kept .0) in
-    let hs : length s1 ≡ length s = length-words-kept (t .last .1 .0) (a .scratch .now) (t .kept .1 .0) in
-    let l = c .before .before .before .before .leaves in
-    let sl = words (l .last .1 .1 .1 .0) in
-    let hl : length sl ≡ length s1 = length-words-kept (l .last .1 .1 .1 .0) (t .last .1 .0) (l .kept .1 .1 .1 .0) in
-    omega (arith, ar .words)
+    let b = flatten-call-begun t (c .before .before .before .before) in
+    omega (arith, flatten-call-begins t (c .before .before .before .before .before .before .before .before .before .before .before .before .before .before .before .before .before) .atom .words, b .left, b .scratch)
 
-flatten-call-add-t31 : (t : ℕ) → flatten-call-lts.Need-add-t31 (
-  take-reads.Asked,
-  take-reads.Learnt,
-  leaves-reads.Asked,
-  leaves-reads.Learnt,
-  put-around-reads.Asked,
-  put-around-reads.Learnt,
-  flatten-all-below t,
-  flatten-all.Post,
-  put-atom-reads.Asked,
-  put-atom-reads.Learnt,
-) (flatten-call-at t) flatten-call.Post
-flatten-call-add-t31 t c =
-    let a = c .before .before .before .before .before .before .before .before .before .before .before .before .before .before .before .before .before .before .before .before .args in
-    let ws = words (a .rule .now) in
-    let cs = words (a .counters .now) in
-    let s = words (a .scratch .now) in
-    let q = c .before .before .before .before .before .before .before .before .before .before .before .before .before .before .before .before .before .before .before .before .pre .1 .0 in
-    let room = c .before .before .before .before .before .before .before .before .before .before .before .before .before .before .before .before .before .before .before .before .pre .1 .1 .0 in
-    let w = a .w in
-    let is : w ≡ getD ws (a .at) 0 = c .before .before .before .before .before .before .before .before .before .before .before .before .before .before .before .before .before .before .before .before .pre .1 .1 .1 .0 in
-    let low = c .before .before .before .before .before .before .before .before .before .before .before .before .before .before .before .before .before .before .before .before .pre .1 .1 .1 .1 in
-    let f = call-facts (q .sig) ws (a .depth) (a .at) cs w (q .known .0) (q .known .1) is low in
-    omega (arith, f .inside, length-words (a .rule .now))
+flatten-call-add-t31 : (t : ℕ) → flatten-call-lts.Need-add-t31 (flatten-call-calls t) (flatten-call-at t) flatten-call.Post
+flatten-call-add-t31 t c = omega (arith, flatten-call-begins t (c .before .before .before .before .before .before .before .before .before .before .before .before .before .before .before .before .before .before .before .before) .facts .inside, length-words (c .before .before .before .before .before .before .before .before .before .before .before .before .before .before .before .before .before .before .before .before .args .rule .now))
 
-flatten-call-add-t32 : (t : ℕ) → flatten-call-lts.Need-add-t32 (
-  take-reads.Asked,
-  take-reads.Learnt,
-  leaves-reads.Asked,
-  leaves-reads.Learnt,
-  put-around-reads.Asked,
-  put-around-reads.Learnt,
-  flatten-all-below t,
-  flatten-all.Post,
-  put-atom-reads.Asked,
-  put-atom-reads.Learnt,
-) (flatten-call-at t) flatten-call.Post
-flatten-call-add-t32 t c =
-    let a = c .before .before .before .before .before .before .before .before .before .before .before .before .before .before .before .before .before .before .before .before .args in
-    let ws = words (a .rule .now) in
-    let cs = words (a .counters .now) in
-    let s = words (a .scratch .now) in
-    let q = c .before .before .before .before .before .before .before .before .before .before .before .before .before .before .before .before .before .before .before .before .pre .1 .0 in
-    let room = c .before .before .before .before .before .before .before .before .before .before .before .before .before .before .before .before .before .before .before .before .pre .1 .1 .0 in
-    let w = a .w in
-    let is : w ≡ getD ws (a .at) 0 = c .before .before .before .before .before .before .before .before .before .before .before .before .before .before .before .before .before .before .before .before .pre .1 .1 .1 .0 in
-    let low = c .before .before .before .before .before .before .before .before .before .before .before .before .before .before .before .before .before .before .before .before .pre .1 .1 .1 .1 in
-    let f = call-facts (q .sig) ws (a .depth) (a .at) cs w (q .known .0) (q .known .1) is low in
-    let ar = atom-room-in (q .sig) ws s (a .depth - 1) (countOf w) (a .at) (a .to) (a .sp) (a .log) (f .args) room in
-    omega (arith, ar .inside, c .before .before .before .before .if2 .taken, length-words (a .rule .now))
+flatten-call-add-t32 : (t : ℕ) → flatten-call-lts.Need-add-t32 (flatten-call-calls t) (flatten-call-at t) flatten-call.Post
+flatten-call-add-t32 t c = omega (arith, flatten-call-begins t (c .before .before .before .before .before .before .before .before .before .before .before .before .before .before .before .before .before .before .before .before) .atom .inside, c .before .before .before .before .if2 .taken, length-words (c .before .before .before .before .before .before .before .before .before .before .before .before .before .before .before .before .before .before .before .before .args .rule .now))
 
-flatten-call-add-t33 : (t : ℕ) → flatten-call-lts.Need-add-t33 (
-  take-reads.Asked,
-  take-reads.Learnt,
-  leaves-reads.Asked,
-  leaves-reads.Learnt,
-  put-around-reads.Asked,
-  put-around-reads.Learnt,
-  flatten-all-below t,
-  flatten-all.Post,
-  put-atom-reads.Asked,
-  put-atom-reads.Learnt,
-) (flatten-call-at t) flatten-call.Post
+flatten-call-add-t33 : (t : ℕ) → flatten-call-lts.Need-add-t33 (flatten-call-calls t) (flatten-call-at t) flatten-call.Post
 flatten-call-add-t33 t c =
-    let a = c .before .before .before .before .before .before .before .before .before .before .before .before .before .before .before .before .before .before .before .before .args in
-    let ws = words (a .rule .now) in
-    let cs = words (a .counters .now) in
-    let s = words (a .scratch .now) in
-    let q = c .before .before .before .before .before .before .before .before .before .before .before .before .before .before .before .before .before .before .before .before .pre .1 .0 in
-    let room = c .before .before .before .before .before .before .before .before .before .before .before .before .before .before .before .before .before .before .before .before .pre .1 .1 .0 in
-    let w = a .w in
-    let is : w ≡ getD ws (a .at) 0 = c .before .before .before .before .before .before .before .before .before .before .before .before .before .before .before .before .before .before .before .before .pre .1 .1 .1 .0 in
-    let low = c .before .before .before .before .before .before .before .before .before .before .before .before .before .before .before .before .before .before .before .before .pre .1 .1 .1 .1 in
-    let f = call-facts (q .sig) ws (a .depth) (a .at) cs w (q .known .0) (q .known .1) is low in
-    omega (arith, room .log, f .inside, length-words (a .scratch .now), c .before .before .before .before .before .before .before .before .before .before .before .before .before .before .before .before .before .before .before .before .good)
+    let b = flatten-call-begins t (c .before .before .before .before .before .before .before .before .before .before .before .before .before .before .before .before .before .before .before .before) in
+    omega (arith, b .room .log, b .facts .inside, length-words (c .before .before .before .before .before .before .before .before .before .before .before .before .before .before .before .before .before .before .before .before .args .scratch .now), c .before .before .before .before .before .before .before .before .before .before .before .before .before .before .before .before .before .before .before .before .good)
 
-flatten-call-same-length-3 : (t : ℕ) → flatten-call-lts.Need-same-length-3 (
-  take-reads.Asked,
-  take-reads.Learnt,
-  leaves-reads.Asked,
-  leaves-reads.Learnt,
-  put-around-reads.Asked,
-  put-around-reads.Learnt,
-  flatten-all-below t,
-  flatten-all.Post,
-  put-atom-reads.Asked,
-  put-atom-reads.Learnt,
-) (flatten-call-at t) flatten-call.Post
+flatten-call-same-length-3 : (t : ℕ) → flatten-call-lts.Need-same-length-3 (flatten-call-calls t) (flatten-call-at t) flatten-call.Post
 flatten-call-same-length-3 t c = c .before .before .before .before .before .before .before .before .before .before .before .before .before .before .take .kept .0
 
-flatten-call-same-length-4 : (t : ℕ) → flatten-call-lts.Need-same-length-4 (
-  take-reads.Asked,
-  take-reads.Learnt,
-  leaves-reads.Asked,
-  leaves-reads.Learnt,
-  put-around-reads.Asked,
-  put-around-reads.Learnt,
-  flatten-all-below t,
-  flatten-all.Post,
-  put-atom-reads.Asked,
-  put-atom-reads.Learnt,
-) (flatten-call-at t) flatten-call.Post
+flatten-call-same-length-4 : (t : ℕ) → flatten-call-lts.Need-same-length-4 (flatten-call-calls t) (flatten-call-at t) flatten-call.Post
 flatten-call-same-length-4 t c = c .before .before .put-around .kept .0 ∙ c .before .before .before .before .before .before .before .leaves .kept .1 .1 .1 .0 ∙ c .before .before .before .before .before .before .before .before .before .before .before .before .before .before .take .kept .1 .0
 
-flatten-call-returns-2 : (t : ℕ) → flatten-call-lts.Need-returns-2 (
-  take-reads.Asked,
-  take-reads.Learnt,
-  leaves-reads.Asked,
-  leaves-reads.Learnt,
-  put-around-reads.Asked,
-  put-around-reads.Learnt,
-  flatten-all-below t,
-  flatten-all.Post,
-  put-atom-reads.Asked,
-  put-atom-reads.Learnt,
-) (flatten-call-at t) flatten-call.Post
-flatten-call-returns-2 t c =
-    let a = c .before .before .before .before .before .before .before .before .before .before .before .before .before .before .before .before .before .before .before .before .args in
-    let ws = words (a .rule .now) in
-    let cs = words (a .counters .now) in
-    let s = words (a .scratch .now) in
-    let q = c .before .before .before .before .before .before .before .before .before .before .before .before .before .before .before .before .before .before .before .before .pre .1 .0 in
-    let room = c .before .before .before .before .before .before .before .before .before .before .before .before .before .before .before .before .before .before .before .before .pre .1 .1 .0 in
-    let w = a .w in
-    let is : w ≡ getD ws (a .at) 0 = c .before .before .before .before .before .before .before .before .before .before .before .before .before .before .before .before .before .before .before .before .pre .1 .1 .1 .0 in
-    let low = c .before .before .before .before .before .before .before .before .before .before .before .before .before .before .before .before .before .before .before .before .pre .1 .1 .1 .1 in
-    let f = call-facts (q .sig) ws (a .depth) (a .at) cs w (q .known .0) (q .known .1) is low in
-    let ar = atom-room-in (q .sig) ws s (a .depth - 1) (countOf w) (a .at) (a .to) (a .sp) (a .log) (f .args) room in
-    let t = c .before .before .before .before .before .before .before .before .before .before .before .before .before .before .take in
-    let s1 = words (t .last .1 .0) in
-    let cs1 = words (t .last .0) in
-    let hc : length cs1 ≡ length cs = length-words-kept (t .last .0) (a .counters .now) (t .kept .0) in
-    let hs : length s1 ≡ length s = length-words-kept (t .last .1 .0) (a .scratch .now) (t .kept .1 .0) in
-    let l = c .before .before .before .before .before .before .before .leaves in
-    let sl = words (l .last .1 .1 .1 .0) in
-    let hl : length sl ≡ length s1 = length-words-kept (l .last .1 .1 .1 .0) (t .last .1 .0) (l .kept .1 .1 .1 .0) in
-    let behind : Room (length ws) (a .at + 1) (a .to) (a .sp) (a .log + 1) (length s1) = room-in 1 _ room (omega arith) hs in
-    let most : l .result ≤ countOf w = omega (arith, l .ensures .0, run-in ws (a .at + 1) (countOf w) (ar .inside)) in
-    let p = c .before .before .put-around in
-    let k : Walk = here (a .at + 1 + l .result) (a .to) (a .log + 1) in
-    λ sig x n. done-way sig ws (a .depth) (a .at) (a .to) (a .sp) (a .log) s cs x n w is low (t .result) s1 cs1 (t .ensures) room (c .before .before .before .before .before .before .before .before .before .if1 .left) hc (a .to + 1) sl cs1 k
-    (λ es. leaves-walked sig ws (a .depth - 1) (countOf w) (l .result) (a .at + 1) (a .to) (a .sp) (a .log + 1) s1 cs1 sl es behind most (l .ensures .1) (n .few) (omega (arith, ar .words)) (l .ensures .0) (c .before .before .before .before .if2 .taken))
-    _ _ refl (p .ensures .0) (omega (arith, ar .words)) (p .ensures .1)
+flatten-call-returns-2 : (t : ℕ) → flatten-call-lts.Need-returns-2 (flatten-call-calls t) (flatten-call-at t) flatten-call.Post
+flatten-call-returns-2 t c = let p = c .before .before .put-around in begun-leaves (flatten-call-begun t (c .before .before .before .before .before .before .before)) _ _ (c .before .before .before .before .if2 .taken) (p .ensures .0) (p .ensures .1)
 
-flatten-call-add-flatten-all : (t : ℕ) → flatten-call-lts.Need-add-flatten-all (
-  take-reads.Asked,
-  take-reads.Learnt,
-  leaves-reads.Asked,
-  leaves-reads.Learnt,
-  put-around-reads.Asked,
-  put-around-reads.Learnt,
-  flatten-all-below t,
-  flatten-all.Post,
-  put-atom-reads.Asked,
-  put-atom-reads.Learnt,
-) (flatten-call-at t) flatten-call.Post
-flatten-call-add-flatten-all t c =
-    let a = c .before .before .before .before .before .before .before .before .before .before .before .before .before .before .before .before .args in
-    let ws = words (a .rule .now) in
-    let cs = words (a .counters .now) in
-    let s = words (a .scratch .now) in
-    let q = c .before .before .before .before .before .before .before .before .before .before .before .before .before .before .before .before .pre .1 .0 in
-    let room = c .before .before .before .before .before .before .before .before .before .before .before .before .before .before .before .before .pre .1 .1 .0 in
-    let w = a .w in
-    let is : w ≡ getD ws (a .at) 0 = c .before .before .before .before .before .before .before .before .before .before .before .before .before .before .before .before .pre .1 .1 .1 .0 in
-    let low = c .before .before .before .before .before .before .before .before .before .before .before .before .before .before .before .before .pre .1 .1 .1 .1 in
-    let f = call-facts (q .sig) ws (a .depth) (a .at) cs w (q .known .0) (q .known .1) is low in
-    omega (arith, f .inside, length-words (a .rule .now))
+flatten-call-add-flatten-all : (t : ℕ) → flatten-call-lts.Need-add-flatten-all (flatten-call-calls t) (flatten-call-at t) flatten-call.Post
+flatten-call-add-flatten-all t c = omega (arith, flatten-call-begins t (c .before .before .before .before .before .before .before .before .before .before .before .before .before .before .before .before) .facts .inside, length-words (c .before .before .before .before .before .before .before .before .before .before .before .before .before .before .before .before .args .rule .now))
 
-flatten-call-cast-flatten-all : (t : ℕ) → flatten-call-lts.Need-cast-flatten-all (
-  take-reads.Asked,
-  take-reads.Learnt,
-  leaves-reads.Asked,
-  leaves-reads.Learnt,
-  put-around-reads.Asked,
-  put-around-reads.Learnt,
-  flatten-all-below t,
-  flatten-all.Post,
-  put-atom-reads.Asked,
-  put-atom-reads.Learnt,
-) (flatten-call-at t) flatten-call.Post
+flatten-call-cast-flatten-all : (t : ℕ) → flatten-call-lts.Need-cast-flatten-all (flatten-call-calls t) (flatten-call-at t) flatten-call.Post
 flatten-call-cast-flatten-all t c = search needs
 
-flatten-call-sub-flatten-all : (t : ℕ) → flatten-call-lts.Need-sub-flatten-all (
-  take-reads.Asked,
-  take-reads.Learnt,
-  leaves-reads.Asked,
-  leaves-reads.Learnt,
-  put-around-reads.Asked,
-  put-around-reads.Learnt,
-  flatten-all-below t,
-  flatten-all.Post,
-  put-atom-reads.Asked,
-  put-atom-reads.Learnt,
-) (flatten-call-at t) flatten-call.Post
-flatten-call-sub-flatten-all t c =
-    let a = c .before .before .before .before .before .before .before .before .before .before .before .before .before .before .before .before .args in
-    let ws = words (a .rule .now) in
-    let cs = words (a .counters .now) in
-    let s = words (a .scratch .now) in
-    let q = c .before .before .before .before .before .before .before .before .before .before .before .before .before .before .before .before .pre .1 .0 in
-    let room = c .before .before .before .before .before .before .before .before .before .before .before .before .before .before .before .before .pre .1 .1 .0 in
-    let w = a .w in
-    let is : w ≡ getD ws (a .at) 0 = c .before .before .before .before .before .before .before .before .before .before .before .before .before .before .before .before .pre .1 .1 .1 .0 in
-    let low = c .before .before .before .before .before .before .before .before .before .before .before .before .before .before .before .before .pre .1 .1 .1 .1 in
-    let f = call-facts (q .sig) ws (a .depth) (a .at) cs w (q .known .0) (q .known .1) is low in
-    omega (arith, f .deep)
+flatten-call-sub-flatten-all : (t : ℕ) → flatten-call-lts.Need-sub-flatten-all (flatten-call-calls t) (flatten-call-at t) flatten-call.Post
+flatten-call-sub-flatten-all t c = omega (arith, flatten-call-begins t (c .before .before .before .before .before .before .before .before .before .before .before .before .before .before .before .before) .facts .deep)
 
-flatten-call-add-flatten-all-2 : (t : ℕ) → flatten-call-lts.Need-add-flatten-all-2 (
-  take-reads.Asked,
-  take-reads.Learnt,
-  leaves-reads.Asked,
-  leaves-reads.Learnt,
-  put-around-reads.Asked,
-  put-around-reads.Learnt,
-  flatten-all-below t,
-  flatten-all.Post,
-  put-atom-reads.Asked,
-  put-atom-reads.Learnt,
-) (flatten-call-at t) flatten-call.Post
+flatten-call-add-flatten-all-2 : (t : ℕ) → flatten-call-lts.Need-add-flatten-all-2 (flatten-call-calls t) (flatten-call-at t) flatten-call.Post
 flatten-call-add-flatten-all-2 t c =
-    let a = c .before .before .before .before .before .before .before .before .before .before .before .before .before .before .before .before .before .before .args in
-    let ws = words (a .rule .now) in
-    let cs = words (a .counters .now) in
-    let s = words (a .scratch .now) in
-    let q = c .before .before .before .before .before .before .before .before .before .before .before .before .before .before .before .before .before .before .pre .1 .0 in
-    let room = c .before .before .before .before .before .before .before .before .before .before .before .before .before .before .before .before .before .before .pre .1 .1 .0 in
-    let w = a .w in
-    let is : w ≡ getD ws (a .at) 0 = c .before .before .before .before .before .before .before .before .before .before .before .before .before .before .before .before .before .before .pre .1 .1 .1 .0 in
-    let low = c .before .before .before .before .before .before .before .before .before .before .before .before .before .before .before .before .before .before .pre .1 .1 .1 .1 in
-    let f = call-facts (q .sig) ws (a .depth) (a .at) cs w (q .known .0) (q .known .1) is low in
-    omega (arith, room .log, f .inside, length-words (a .scratch .now))
+    let b = flatten-call-begins t (c .before .before .before .before .before .before .before .before .before .before .before .before .before .before .before .before .before .before) in
+    omega (arith, b .room .log, b .facts .inside, length-words (c .before .before .before .before .before .before .before .before .before .before .before .before .before .before .before .before .before .before .args .scratch .now))
 
-flatten-call-flatten-all-requires : (t : ℕ) → flatten-call-lts.Need-flatten-all-requires (
-  take-reads.Asked,
-  take-reads.Learnt,
-  leaves-reads.Asked,
-  leaves-reads.Learnt,
-  put-around-reads.Asked,
-  put-around-reads.Learnt,
-  flatten-all-below t,
-  flatten-all.Post,
-  put-atom-reads.Asked,
-  put-atom-reads.Learnt,
-) (flatten-call-at t) flatten-call.Post
+flatten-call-flatten-all-requires : (t : ℕ) → flatten-call-lts.Need-flatten-all-requires (flatten-call-calls t) (flatten-call-at t) flatten-call.Post
 flatten-call-flatten-all-requires t c κs =
-    let a = c .before .before .before .before .before .before .before .before .before .before .before .before .before .before .before .before .before .before .args in
-    let ws = words (a .rule .now) in
-    let cs = words (a .counters .now) in
-    let s = words (a .scratch .now) in
-    let q = c .before .before .before .before .before .before .before .before .before .before .before .before .before .before .before .before .before .before .pre .1 .0 in
-    let room = c .before .before .before .before .before .before .before .before .before .before .before .before .before .before .before .before .before .before .pre .1 .1 .0 in
-    let w = a .w in
-    let is : w ≡ getD ws (a .at) 0 = c .before .before .before .before .before .before .before .before .before .before .before .before .before .before .before .before .before .before .pre .1 .1 .1 .0 in
-    let low = c .before .before .before .before .before .before .before .before .before .before .before .before .before .before .before .before .before .before .pre .1 .1 .1 .1 in
-    let f = call-facts (q .sig) ws (a .depth) (a .at) cs w (q .known .0) (q .known .1) is low in
-    let t = c .before .before .before .before .before .before .before .before .before .before .before .before .take in
-    let s1 = words (t .last .1 .0) in
-    let cs1 = words (t .last .0) in
-    let hc : length cs1 ≡ length cs = length-words-kept (t .last .0) (a .counters .now) (t .kept .0) in
-    let hs : length s1 ≡ length s = length-words-kept (t .last .1 .0) (a .scratch .now) (t .kept .1 .0) in
-    let l = c .before .before .before .before .before .leaves in
-    let sl = words (l .last .1 .1 .1 .0) in
-    let hl : length sl ≡ length s1 = length-words-kept (l .last .1 .1 .1 .0) (t .last .1 .0) (l .kept .1 .1 .1 .0) in
-    (omega (arith, c .before .before .before .before .before .before .before .before .before .before .before .before .before .before .before .before .before .before .pre .0, f .inside, f .deep), (record { sig = q .sig; known = (f .args, counted-kept (q .known .1) hc) }, room-in 1 _ room (omega arith) (hl ∙ hs)))
+    let f = flatten-call-begins t (c .before .before .before .before .before .before .before .before .before .before .before .before .before .before .before .before .before .before) .facts in
+    let b = flatten-call-begun t (c .before .before .before .before .before) in
+    (omega (arith, c .before .before .before .before .before .before .before .before .before .before .before .before .before .before .before .before .before .before .pre .0, f .inside, f .deep), (begun-known b, begun-room b))
 
-flatten-call-same-length-5 : (t : ℕ) → flatten-call-lts.Need-same-length-5 (
-  take-reads.Asked,
-  take-reads.Learnt,
-  leaves-reads.Asked,
-  leaves-reads.Learnt,
-  put-around-reads.Asked,
-  put-around-reads.Learnt,
-  flatten-all-below t,
-  flatten-all.Post,
-  put-atom-reads.Asked,
-  put-atom-reads.Learnt,
-) (flatten-call-at t) flatten-call.Post
+flatten-call-same-length-5 : (t : ℕ) → flatten-call-lts.Need-same-length-5 (flatten-call-calls t) (flatten-call-at t) flatten-call.Post
 flatten-call-same-length-5 t c = c .before .before .before .before .before .before .flatten-all .kept .1 .1 .1 .1 .0 ∙ c .before .before .before .before .before .before .before .before .before .before .before .before .before .before .before .before .before .before .before .take .kept .0
 
-flatten-call-same-length-6 : (t : ℕ) → flatten-call-lts.Need-same-length-6 (
-  take-reads.Asked,
-  take-reads.Learnt,
-  leaves-reads.Asked,
-  leaves-reads.Learnt,
-  put-around-reads.Asked,
-  put-around-reads.Learnt,
-  flatten-all-below t,
-  flatten-all.Post,
-  put-atom-reads.Asked,
-  put-atom-reads.Learnt,
-) (flatten-call-at t) flatten-call.Post
+flatten-call-same-length-6 : (t : ℕ) → flatten-call-lts.Need-same-length-6 (flatten-call-calls t) (flatten-call-at t) flatten-call.Post
 flatten-call-same-length-6 t c = c .before .before .before .before .before .before .flatten-all .kept .1 .1 .1 .1 .1 .0 ∙ c .before .before .before .before .before .before .before .before .before .before .before .before .leaves .kept .1 .1 .1 .0 ∙ c .before .before .before .before .before .before .before .before .before .before .before .before .before .before .before .before .before .before .before .take .kept .1 .0
 
-flatten-call-returns-3 : (t : ℕ) → flatten-call-lts.Need-returns-3 (
-  take-reads.Asked,
-  take-reads.Learnt,
-  leaves-reads.Asked,
-  leaves-reads.Learnt,
-  put-around-reads.Asked,
-  put-around-reads.Learnt,
-  flatten-all-below t,
-  flatten-all.Post,
-  put-atom-reads.Asked,
-  put-atom-reads.Learnt,
-) (flatten-call-at t) flatten-call.Post
-flatten-call-returns-3 t c =
-    let a = c .before .before .before .before .before .before .before .before .before .before .before .before .before .before .before .before .before .before .before .before .before .before .before .before .before .args in
-    let ws = words (a .rule .now) in
-    let cs = words (a .counters .now) in
-    let s = words (a .scratch .now) in
-    let q = c .before .before .before .before .before .before .before .before .before .before .before .before .before .before .before .before .before .before .before .before .before .before .before .before .before .pre .1 .0 in
-    let room = c .before .before .before .before .before .before .before .before .before .before .before .before .before .before .before .before .before .before .before .before .before .before .before .before .before .pre .1 .1 .0 in
-    let w = a .w in
-    let is : w ≡ getD ws (a .at) 0 = c .before .before .before .before .before .before .before .before .before .before .before .before .before .before .before .before .before .before .before .before .before .before .before .before .before .pre .1 .1 .1 .0 in
-    let low = c .before .before .before .before .before .before .before .before .before .before .before .before .before .before .before .before .before .before .before .before .before .before .before .before .before .pre .1 .1 .1 .1 in
-    let f = call-facts (q .sig) ws (a .depth) (a .at) cs w (q .known .0) (q .known .1) is low in
-    let ar = atom-room-in (q .sig) ws s (a .depth - 1) (countOf w) (a .at) (a .to) (a .sp) (a .log) (f .args) room in
-    let t = c .before .before .before .before .before .before .before .before .before .before .before .before .before .before .before .before .before .before .before .take in
-    let s1 = words (t .last .1 .0) in
-    let cs1 = words (t .last .0) in
-    let hc : length cs1 ≡ length cs = length-words-kept (t .last .0) (a .counters .now) (t .kept .0) in
-    let hs : length s1 ≡ length s = length-words-kept (t .last .1 .0) (a .scratch .now) (t .kept .1 .0) in
-    let l = c .before .before .before .before .before .before .before .before .before .before .before .before .leaves in
-    let sl = words (l .last .1 .1 .1 .0) in
-    let hl : length sl ≡ length s1 = length-words-kept (l .last .1 .1 .1 .0) (t .last .1 .0) (l .kept .1 .1 .1 .0) in
-    let behind : Room (length ws) (a .at + 1) (a .to) (a .sp) (a .log + 1) (length s1) = room-in 1 _ room (omega arith) hs in
-    let most : l .result ≤ countOf w = omega (arith, l .ensures .0, run-in ws (a .at + 1) (countOf w) (ar .inside)) in
-    let k = c .before .before .before .before .before .before .flatten-all in
-    let s2 = words (k .last .1 .1 .1 .1 .1 .0) in
-    let cs2 = words (k .last .1 .1 .1 .1 .0) in
-    let hs2 : length s2 ≡ length s = length-words-kept (k .last .1 .1 .1 .1 .1 .0) (l .last .1 .1 .1 .0) (k .kept .1 .1 .1 .1 .1 .0) ∙ hl ∙ hs in
-    λ sig x n. stop-way sig ws (a .depth) (a .at) (a .to) (a .sp) (a .log) s cs x n w is low (t .result) s1 cs1 (t .ensures) room (c .before .before .before .before .before .before .before .before .before .before .before .before .before .before .if1 .left) hc (a .sp) s2 cs2 (k .result) (λ es. walked-anew sig ws (a .depth - 1) (countOf w) (l .result) (a .at + 1) (a .to) (a .sp) (a .log + 1) s1 cs1 sl es behind most (l .ensures .1) (k .ensures sig es (counted-kept n hc))) (c .if3 .taken)
+flatten-call-returns-3 : (t : ℕ) → flatten-call-lts.Need-returns-3 (flatten-call-calls t) (flatten-call-at t) flatten-call.Post
+flatten-call-returns-3 t c = let k = c .before .before .before .before .before .before .flatten-all in begun-stop (flatten-call-begun t (c .before .before .before .before .before .before .before .before .before .before .before .before)) (words (k .last .1 .1 .1 .1 .1 .0)) (words (k .last .1 .1 .1 .1 .0)) (k .result) (k .ensures) (c .if3 .taken)
 
-flatten-call-add-put-atom : (t : ℕ) → flatten-call-lts.Need-add-put-atom (
-  take-reads.Asked,
-  take-reads.Learnt,
-  leaves-reads.Asked,
-  leaves-reads.Learnt,
-  put-around-reads.Asked,
-  put-around-reads.Learnt,
-  flatten-all-below t,
-  flatten-all.Post,
-  put-atom-reads.Asked,
-  put-atom-reads.Learnt,
-) (flatten-call-at t) flatten-call.Post
+flatten-call-add-put-atom : (t : ℕ) → flatten-call-lts.Need-add-put-atom (flatten-call-calls t) (flatten-call-at t) flatten-call.Post
 flatten-call-add-put-atom t c = omega (arith, c .before .before .before .before .before .before .before .before .before .before .before .before .before .before .before .before .before .before .before .before .before .before .before .before .before .before .pre .1 .1 .1 .1)
 
-flatten-call-cast-put-atom : (t : ℕ) → flatten-call-lts.Need-cast-put-atom (
-  take-reads.Asked,
-  take-reads.Learnt,
-  leaves-reads.Asked,
-  leaves-reads.Learnt,
-  put-around-reads.Asked,
-  put-around-reads.Learnt,
-  flatten-all-below t,
-  flatten-all.Post,
-  put-atom-reads.Asked,
-  put-atom-reads.Learnt,
-) (flatten-call-at t) flatten-call.Post
+flatten-call-cast-put-atom : (t : ℕ) → flatten-call-lts.Need-cast-put-atom (flatten-call-calls t) (flatten-call-at t) flatten-call.Post
 flatten-call-cast-put-atom t c = search needs
 
-flatten-call-put-atom-requires : (t : ℕ) → flatten-call-lts.Need-put-atom-requires (
-  take-reads.Asked,
-  take-reads.Learnt,
-  leaves-reads.Asked,
-  leaves-reads.Learnt,
-  put-around-reads.Asked,
-  put-around-reads.Learnt,
-  flatten-all-below t,
-  flatten-all.Post,
-  put-atom-reads.Asked,
-  put-atom-reads.Learnt,
-) (flatten-call-at t) flatten-call.Post
+flatten-call-put-atom-requires : (t : ℕ) → flatten-call-lts.Need-put-atom-requires (flatten-call-calls t) (flatten-call-at t) flatten-call.Post
 flatten-call-put-atom-requires t c κs =
-    let a = c .before .before .before .before .before .before .before .before .before .before .before .before .before .before .before .before .before .before .before .before .before .before .before .before .before .before .args in
-    let ws = words (a .rule .now) in
-    let cs = words (a .counters .now) in
-    let s = words (a .scratch .now) in
-    let q = c .before .before .before .before .before .before .before .before .before .before .before .before .before .before .before .before .before .before .before .before .before .before .before .before .before .before .pre .1 .0 in
-    let room = c .before .before .before .before .before .before .before .before .before .before .before .before .before .before .before .before .before .before .before .before .before .before .before .before .before .before .pre .1 .1 .0 in
-    let w = a .w in
-    let is : w ≡ getD ws (a .at) 0 = c .before .before .before .before .before .before .before .before .before .before .before .before .before .before .before .before .before .before .before .before .before .before .before .before .before .before .pre .1 .1 .1 .0 in
-    let low = c .before .before .before .before .before .before .before .before .before .before .before .before .before .before .before .before .before .before .before .before .before .before .before .before .before .before .pre .1 .1 .1 .1 in
-    let f = call-facts (q .sig) ws (a .depth) (a .at) cs w (q .known .0) (q .known .1) is low in
-    let ar = atom-room-in (q .sig) ws s (a .depth - 1) (countOf w) (a .at) (a .to) (a .sp) (a .log) (f .args) room in
-    let t = c .before .before .before .before .before .before .before .before .before .before .before .before .before .before .before .before .before .before .before .before .take in
-    let s1 = words (t .last .1 .0) in
-    let cs1 = words (t .last .0) in
-    let hc : length cs1 ≡ length cs = length-words-kept (t .last .0) (a .counters .now) (t .kept .0) in
-    let hs : length s1 ≡ length s = length-words-kept (t .last .1 .0) (a .scratch .now) (t .kept .1 .0) in
-    let l = c .before .before .before .before .before .before .before .before .before .before .before .before .before .leaves in
-    let sl = words (l .last .1 .1 .1 .0) in
-    let hl : length sl ≡ length s1 = length-words-kept (l .last .1 .1 .1 .0) (t .last .1 .0) (l .kept .1 .1 .1 .0) in
-    let behind : Room (length ws) (a .at + 1) (a .to) (a .sp) (a .log + 1) (length s1) = room-in 1 _ room (omega arith) hs in
-    let most : l .result ≤ countOf w = omega (arith, l .ensures .0, run-in ws (a .at + 1) (countOf w) (ar .inside)) in
     let k = c .before .before .before .before .before .before .before .flatten-all in
-    let s2 = words (k .last .1 .1 .1 .1 .1 .0) in
-    let cs2 = words (k .last .1 .1 .1 .1 .0) in
-    let hs2 : length s2 ≡ length s = length-words-kept (k .last .1 .1 .1 .1 .1 .0) (l .last .1 .1 .1 .0) (k .kept .1 .1 .1 .1 .1 .0) ∙ hl ∙ hs in
-    let sig = q .sig in
-    let x = q .known .0 in
-    let n = q .known .1 in
-    atom-room sig ws (a .depth) (a .at) (a .to) (a .sp) (a .log) s cs x n w is low (t .result) s1 cs1 (t .ensures) room (c .before .before .before .before .before .before .before .before .before .before .before .before .before .before .before .if1 .left) hc (a .sp) s2 cs2 (k .result) (λ es. walked-anew sig ws (a .depth - 1) (countOf w) (l .result) (a .at + 1) (a .to) (a .sp) (a .log + 1) s1 cs1 sl es behind most (l .ensures .1) (k .ensures sig es (counted-kept n hc))) (length s2) (c .before .if3 .left) hs2
+    let kept = length-words-kept (k .last .1 .1 .1 .1 .1 .0) (c .before .before .before .before .before .before .before .before .before .before .before .before .before .leaves .last .1 .1 .1 .0) (k .kept .1 .1 .1 .1 .1 .0) in
+    begun-atom (flatten-call-begun t (c .before .before .before .before .before .before .before .before .before .before .before .before .before)) (words (k .last .1 .1 .1 .1 .1 .0)) (words (k .last .1 .1 .1 .1 .0)) (k .result) (k .ensures) (c .before .if3 .left) kept
 
-flatten-call-same-length-7 : (t : ℕ) → flatten-call-lts.Need-same-length-7 (
-  take-reads.Asked,
-  take-reads.Learnt,
-  leaves-reads.Asked,
-  leaves-reads.Learnt,
-  put-around-reads.Asked,
-  put-around-reads.Learnt,
-  flatten-all-below t,
-  flatten-all.Post,
-  put-atom-reads.Asked,
-  put-atom-reads.Learnt,
-) (flatten-call-at t) flatten-call.Post
+flatten-call-same-length-7 : (t : ℕ) → flatten-call-lts.Need-same-length-7 (flatten-call-calls t) (flatten-call-at t) flatten-call.Post
 flatten-call-same-length-7 t c = c .before .before .before .before .before .before .before .before .before .before .flatten-all .kept .1 .1 .1 .1 .0 ∙ c .before .before .before .before .before .before .before .before .before .before .before .before .before .before .before .before .before .before .before .before .before .before .before .take .kept .0
 
-flatten-call-same-length-8 : (t : ℕ) → flatten-call-lts.Need-same-length-8 (
-  take-reads.Asked,
-  take-reads.Learnt,
-  leaves-reads.Asked,
-  leaves-reads.Learnt,
-  put-around-reads.Asked,
-  put-around-reads.Learnt,
-  flatten-all-below t,
-  flatten-all.Post,
-  put-atom-reads.Asked,
-  put-atom-reads.Learnt,
-) (flatten-call-at t) flatten-call.Post
+flatten-call-same-length-8 : (t : ℕ) → flatten-call-lts.Need-same-length-8 (flatten-call-calls t) (flatten-call-at t) flatten-call.Post
 flatten-call-same-length-8 t c = c .before .before .put-atom .kept .0 ∙ c .before .before .before .before .before .before .before .before .before .before .flatten-all .kept .1 .1 .1 .1 .1 .0 ∙ c .before .before .before .before .before .before .before .before .before .before .before .before .before .before .before .before .leaves .kept .1 .1 .1 .0 ∙ c .before .before .before .before .before .before .before .before .before .before .before .before .before .before .before .before .before .before .before .before .before .before .before .take .kept .1 .0
 
-flatten-call-returns-4 : (t : ℕ) → flatten-call-lts.Need-returns-4 (
-  take-reads.Asked,
-  take-reads.Learnt,
-  leaves-reads.Asked,
-  leaves-reads.Learnt,
-  put-around-reads.Asked,
-  put-around-reads.Learnt,
-  flatten-all-below t,
-  flatten-all.Post,
-  put-atom-reads.Asked,
-  put-atom-reads.Learnt,
-) (flatten-call-at t) flatten-call.Post
+flatten-call-returns-4 : (t : ℕ) → flatten-call-lts.Need-returns-4 (flatten-call-calls t) (flatten-call-at t) flatten-call.Post
 flatten-call-returns-4 t c =
-    let a = c .before .before .before .before .before .before .before .before .before .before .before .before .before .before .before .before .before .before .before .before .before .before .before .before .before .before .before .before .before .args in
-    let ws = words (a .rule .now) in
-    let cs = words (a .counters .now) in
-    let s = words (a .scratch .now) in
-    let q = c .before .before .before .before .before .before .before .before .before .before .before .before .before .before .before .before .before .before .before .before .before .before .before .before .before .before .before .before .before .pre .1 .0 in
-    let room = c .before .before .before .before .before .before .before .before .before .before .before .before .before .before .before .before .before .before .before .before .before .before .before .before .before .before .before .before .before .pre .1 .1 .0 in
-    let w = a .w in
-    let is : w ≡ getD ws (a .at) 0 = c .before .before .before .before .before .before .before .before .before .before .before .before .before .before .before .before .before .before .before .before .before .before .before .before .before .before .before .before .before .pre .1 .1 .1 .0 in
-    let low = c .before .before .before .before .before .before .before .before .before .before .before .before .before .before .before .before .before .before .before .before .before .before .before .before .before .before .before .before .before .pre .1 .1 .1 .1 in
-    let f = call-facts (q .sig) ws (a .depth) (a .at) cs w (q .known .0) (q .known .1) is low in
-    let ar = atom-room-in (q .sig) ws s (a .depth - 1) (countOf w) (a .at) (a .to) (a .sp) (a .log) (f .args) room in
-    let t = c .before .before .before .before .before .before .before .before .before .before .before .before .before .before .before .before .before .before .before .before .before .before .before .take in
-    let s1 = words (t .last .1 .0) in
-    let cs1 = words (t .last .0) in
-    let hc : length cs1 ≡ length cs = length-words-kept (t .last .0) (a .counters .now) (t .kept .0) in
-    let hs : length s1 ≡ length s = length-words-kept (t .last .1 .0) (a .scratch .now) (t .kept .1 .0) in
-    let l = c .before .before .before .before .before .before .before .before .before .before .before .before .before .before .before .before .leaves in
-    let sl = words (l .last .1 .1 .1 .0) in
-    let hl : length sl ≡ length s1 = length-words-kept (l .last .1 .1 .1 .0) (t .last .1 .0) (l .kept .1 .1 .1 .0) in
-    let behind : Room (length ws) (a .at + 1) (a .to) (a .sp) (a .log + 1) (length s1) = room-in 1 _ room (omega arith) hs in
-    let most : l .result ≤ countOf w = omega (arith, l .ensures .0, run-in ws (a .at + 1) (countOf w) (ar .inside)) in
     let k = c .before .before .before .before .before .before .before .before .before .before .flatten-all in
-    let s2 = words (k .last .1 .1 .1 .1 .1 .0) in
-    let cs2 = words (k .last .1 .1 .1 .1 .0) in
-    let hs2 : length s2 ≡ length s = length-words-kept (k .last .1 .1 .1 .1 .1 .0) (l .last .1 .1 .1 .0) (k .kept .1 .1 .1 .1 .1 .0) ∙ hl ∙ hs in
-    λ sig x n. done-way sig ws (a .depth) (a .at) (a .to) (a .sp) (a .log) s cs x n w is low (t .result) s1 cs1 (t .ensures) room (c .before .before .before .before .before .before .before .before .before .before .before .before .before .before .before .before .before .before .if1 .left) hc (a .sp) s2 cs2 (k .result) (λ es. walked-anew sig ws (a .depth - 1) (countOf w) (l .result) (a .at + 1) (a .to) (a .sp) (a .log + 1) s1 cs1 sl es behind most (l .ensures .1) (k .ensures sig es (counted-kept n hc)))
-    _ _ (c .before .before .before .before .if3 .left) (c .before .before .put-atom .ensures .0) (omega (arith, room .words, room .stack, room .log, hs2, ar .inside)) (c .before .before .put-atom .ensures .1)
+    let p = c .before .before .put-atom in
+    let kept = length-words-kept (k .last .1 .1 .1 .1 .1 .0) (c .before .before .before .before .before .before .before .before .before .before .before .before .before .before .before .before .leaves .last .1 .1 .1 .0) (k .kept .1 .1 .1 .1 .1 .0) in
+    begun-done (flatten-call-begun t (c .before .before .before .before .before .before .before .before .before .before .before .before .before .before .before .before)) (words (k .last .1 .1 .1 .1 .1 .0)) (words (k .last .1 .1 .1 .1 .0)) (k .result) (k .ensures) (c .before .before .before .before .if3 .left) kept _ _ (p .ensures .0) (p .ensures .1)
 
 pub +flatten-all+flatten-call-spec : {M : Type 1} → statement M
-+flatten-all+flatten-call-spec = close μ-flatten-all μ-flatten-call (λ t. flatten-all-lts.spec (
-  get-reads.Asked,
-  get-reads.Learnt,
-  put-reads.Asked,
-  put-reads.Learnt,
-  flatten-call-below t,
-  flatten-call.Post,
-)
++flatten-all+flatten-call-spec = close μ-flatten-all μ-flatten-call (λ t. flatten-all-lts.spec (flatten-all-calls t)
     (flatten-all-at t)
     flatten-all.Post
     flatten-all-Inv-loop
@@ -1318,18 +359,7 @@ pub +flatten-all+flatten-call-spec : {M : Type 1} → statement M
     (flatten-all-same-length-3 t)
     (flatten-all-same-length-4 t)
     (flatten-all-returns-2 t))
-    λ t. flatten-call-lts.spec (
-      take-reads.Asked,
-      take-reads.Learnt,
-      leaves-reads.Asked,
-      leaves-reads.Learnt,
-      put-around-reads.Asked,
-      put-around-reads.Learnt,
-      flatten-all-below t,
-      flatten-all.Post,
-      put-atom-reads.Asked,
-      put-atom-reads.Learnt,
-    )
+    λ t. flatten-call-lts.spec (flatten-call-calls t)
     (flatten-call-at t)
     flatten-call.Post
     (flatten-call-sub-h t)
