@@ -3,6 +3,8 @@ pub mod Scopes
 pub mod Body
 pub mod Pieces
 pub mod Expressions
+pub mod Arguments
+pub mod Calls
 pub mod Plain
 pub mod Acting
 pub mod UnionAsSet
