@@ -1,15 +1,13 @@
--- Laws of buckets: keys word by word and without a loop, a bucket is one of those there are, and atoms that are alike fall into one. Assumes nothing.
-use mathlib.Core.Bool.{Bool, cond, true}
+-- Laws of buckets: keys word by word, a bucket is one of those there are, and atoms that are alike fall into one. Assumes nothing.
+use mathlib.Core.Bool.{true}
 use mathlib.Core.List.{List, [], _++_, _∷_}
 use mathlib.Core.Path.{_∙_, _≡_, ap, ap₂, refl, sym}
-use Prim.Native.Nat.{ℕ, suc, zero, _+_, _-_, _<_, _≤_}
+use Prim.Native.Nat.{ℕ, suc, zero, _+_, _<_, _≤_}
 use native.Mathlib.Omega.{arith}
 use native.Mathlib.Nat.{mul-lt-mul-of-pos-right}
 use native.Mathlib.Numerals.{add-one}
-use lib.Dec.{ltb}
 use lib.ListN.{getD, length, replicate}
-use borrow.Author.Tests.{le-ltb, lt-ltb}
-use Rattle.octets.proofs.Splice.{getD-part, length-part, part-more}
+use Rattle.octets.proofs.Splice.{length-part, part-join, part-more, part-one}
 use Rattle.octets.specs.Regions.{part}
 use Rattle.rules.specs.Flat.{Tab}
 use Rattle.rules.specs.RemoveDupVars.{alike}
@@ -19,56 +17,49 @@ use Rattle.bodies.specs.Buckets.{bucketIn, bucketOf, keyOf, mix, mixAll}
 
 -- ---- mixing, word by word
 
-mix-snoc : (k w : ℕ) (ws : List ℕ) → mixAll k (ws ++ w ∷ []) ≡ mix (mixAll k ws) w
+mix-append : (k : ℕ) (xs ys : List ℕ) → mixAll k (xs ++ ys) ≡ mixAll (mixAll k xs) ys
 unfolding mixAll
-mix-snoc k w [] = refl
-mix-snoc k w (x ∷ ws) = mix-snoc (mix k x) w ws
+mix-append k [] ys = refl
+mix-append k (x ∷ xs) ys = mix-append (mix k x) xs ys
 
-pub mix-more : (l : List ℕ) (p i : ℕ) → p + i < length l → mixAll 0 (part l p (i + 1)) ≡ mix (mixAll 0 (part l p i)) (getD l (p + i) 0)
-mix-more l p i h = ap (mixAll 0) (part-more l p i h) ∙ mix-snoc 0 (getD l (p + i) 0) (part l p i)
-
-pub mix-none : (l : List ℕ) (p : ℕ) → mixAll 0 (part l p 0) ≡ 0
+mix-one : (k w : ℕ) → mixAll k (w ∷ []) ≡ mix k w
 unfolding mixAll
-mix-none l p = refl
+mix-one k w = refl
 
--- ---- keys of few words, as the code comes to them
+pub mix-more : (k : ℕ) (l : List ℕ) (p i : ℕ) → p + i < length l → mixAll k (part l p (i + 1)) ≡ mix (mixAll k (part l p i)) (getD l (p + i) 0)
+mix-more k l p i h = ap (mixAll k) (part-more l p i h) ∙ mix-append k (part l p i) (getD l (p + i) 0 ∷ []) ∙ mix-one (mixAll k (part l p i)) (getD l (p + i) 0)
 
-module _ (l : List ℕ) (p n a b k : ℕ) (some : 0 < n) (within : p + n ≤ length l) (ea : a ≡ getD l p 0) (eb : b ≡ getD l (p + n - 1) 0) (ek : k ≡ mix a b) where
-  abbrev ws : List ℕ
-  ws = part l p n
+pub mix-none : (k : ℕ) (l : List ℕ) (p : ℕ) → mixAll k (part l p 0) ≡ k
+unfolding mixAll
+mix-none k l p = refl
 
-  size : length ws ≡ n
-  size = length-part l p n within
+-- ---- keys, word by word
 
-  abbrev ends : ℕ
-  ends = mix (getD ws 0 0) (getD ws (length ws - 1) 0)
+key-append : (xs ys : List ℕ) → 0 < length xs → keyOf (xs ++ ys) ≡ mixAll (keyOf xs) ys
+unfolding keyOf
+key-append [] ys h = omega arith
+key-append (x ∷ xs) ys h = mix-append x xs ys
 
-  ends-are : k ≡ ends
-  ends-are =
-      let here : p ≡ p + 0 = omega arith in
-      let first : a ≡ getD ws 0 0 = ea ∙ ap (λ (i : ℕ). getD l i 0) here ∙ sym (getD-part l p n 0 some) in
-      let place : p + n - 1 ≡ p + (n - 1) = omega arith in
-      let last : b ≡ getD ws (length ws - 1) 0 =
-      eb ∙ ap (λ (i : ℕ). getD l i 0) place ∙ sym (getD-part l p n (n - 1) (omega arith)) ∙ ap (λ (i : ℕ). getD ws (i - 1) 0) (sym size) in
-      ek ∙ (λ i. mix (first i) (last i))
+key-word : (w : ℕ) → keyOf (w ∷ []) ≡ w
+unfolding keyOf mixAll
+key-word w = refl
 
-  pub key-short : n < 3 → k ≡ keyOf ws
-  unfolding keyOf
-  key-short h = ends-are ∙ ap (λ (t : Bool). cond t ends (cond (ltb 3 (length ws)) (mixAll 0 ws) (mix ends (getD ws 1 0)))) (sym (lt-ltb (length ws) 3 (omega (arith, size))))
+module _ (l : List ℕ) (p : ℕ) where
+  pub key-one : (w : ℕ) → p < length l → w ≡ getD l p 0 → w ≡ keyOf (part l p 1)
+  key-one w h e = sym (ap keyOf (part-one l p w h (sym e)) ∙ key-word w)
 
-  pub key-long : (r : ℕ) → 3 < n → r ≡ mixAll 0 ws → r ≡ keyOf ws
-  unfolding keyOf
-  key-long r h e =
-      e ∙ ap (λ (t : Bool). cond t (mixAll 0 ws) (mix ends (getD ws 1 0))) (sym (lt-ltb 3 (length ws) (omega (arith, size))))
-      ∙ ap (λ (t : Bool). cond t ends (cond (ltb 3 (length ws)) (mixAll 0 ws) (mix ends (getD ws 1 0)))) (sym (le-ltb (length ws) 3 (omega (arith, size))))
+  -- the key k of the first i words, with m more
+  pub key-on : (i m k : ℕ) → 0 < i → p + i ≤ length l → k ≡ keyOf (part l p i) → mixAll k (part l (p + i) m) ≡ keyOf (part l p (i + m))
+  key-on i m k some within e =
+      let size = length-part l p i within in
+      ap (λ (x : ℕ). mixAll x (part l (p + i) m)) e ∙ sym (ap keyOf (part-join l p i m) ∙ key-append (part l p i) (part l (p + i) m) (omega (arith, size)))
 
-  pub key-three : (r w : ℕ) → 3 ≤ n → n ≤ 3 → w ≡ getD l (p + 1) 0 → r ≡ mix k w → r ≡ keyOf ws
-  unfolding keyOf
-  key-three r w h u e f =
-      let between : w ≡ getD ws 1 0 = e ∙ sym (getD-part l p n 1 (omega arith)) in
-      f ∙ (λ i. mix (ends-are i) (between i))
-      ∙ ap (λ (t : Bool). cond t (mixAll 0 ws) (mix ends (getD ws 1 0))) (sym (le-ltb 3 (length ws) (omega (arith, size))))
-      ∙ ap (λ (t : Bool). cond t ends (cond (ltb 3 (length ws)) (mixAll 0 ws) (mix ends (getD ws 1 0)))) (sym (le-ltb (length ws) 3 (omega (arith, size))))
+  pub key-more : (i k w : ℕ) → 0 < i → p + i < length l → k ≡ keyOf (part l p i) → w ≡ getD l (p + i) 0 → mix k w ≡ keyOf (part l p (i + 1))
+  key-more i k w some within e f =
+      sym (mix-one k w) ∙ ap (mixAll k) (sym (part-one l (p + i) w within (sym f))) ∙ key-on i 1 k some (omega arith) e
+
+  pub key-two : (v w : ℕ) → p + 1 < length l → v ≡ getD l p 0 → w ≡ getD l (p + 1) 0 → mix v w ≡ keyOf (part l p 2)
+  key-two v w h e f = key-more 1 v w (omega arith) h (key-one v (omega arith) e) f
 
 -- ---- filling
 

@@ -13,12 +13,12 @@ fn mixed(k: u32, w: u32) -> u32
     ((k as u64 * 0x9e37_79b1 + w as u64) % 0x1_0000_0000) as u32
 }
 
-// The n words at p mixed into one, in their order.
-fn mix_all(s: &[u8], p: usize, n: usize) -> u32
+// A key with the n words at p mixed into it, in their order.
+fn mix_all(s: &[u8], p: usize, n: usize, start: u32) -> u32
     requires { ⌜ p + n ≤ length (words (now s)) ⌝ }
-    ensures { λ r. ⌜ r ≡ mixAll 0 (part (words (now (s .entry))) p n) ⌝ }
+    ensures { λ r. ⌜ r ≡ mixAll start (part (words (now (s .entry))) p n) ⌝ }
 {
-    let mut k = 0;
+    let mut k = start;
     let mut i = 0;
     while i < n {
         k = mixed(k, octets::get(s, p + i));
@@ -27,19 +27,24 @@ fn mix_all(s: &[u8], p: usize, n: usize) -> u32
     k
 }
 
-// The key of the n words at p, an atom's head and inputs. Most atoms have at most two inputs: those take no loop.
+// The key of the n words at p, an atom's head and inputs: the first word, with the others mixed into it. Most atoms have at most two inputs: those
+// take no loop. The words are read from the front, since n comes from the word at p: where the second and the third stand is known before n is.
 pub fn key(s: &[u8], p: usize, n: usize) -> u32
     requires { ⌜ (0 < n) × (p + n ≤ length (words (now s))) ⌝ }
     ensures { λ r. ⌜ r ≡ keyOf (part (words (now (s .entry))) p n) ⌝ }
 {
-    let k = mixed(octets::get(s, p), octets::get(s, p + n - 1));
+    if n < 2 {
+        return octets::get(s, p);
+    }
+    let two = mixed(octets::get(s, p), octets::get(s, p + 1));
     if n < 3 {
-        return k;
+        return two;
     }
-    if 3 < n {
-        return mix_all(s, p, n);
+    let three = mixed(two, octets::get(s, p + 2));
+    if n < 4 {
+        return three;
     }
-    mixed(k, octets::get(s, p + 1))
+    mix_all(s, p + 3, n - 3, three)
 }
 
 // The bucket of a word, of so many. A product's upper half spreads words over any number of buckets without a division.

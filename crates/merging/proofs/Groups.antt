@@ -21,7 +21,7 @@ use Rattle.meaning.proofs.MergePass.{alike-same}
 use Rattle.meaning.proofs.WordLaws.{two-tab}
 use Rattle.meaning.specs.Meaning.{All}
 use Rattle.meaning.specs.ReadBack.{EncodableTab, tabFrom}
-use Rattle.bodies.specs.Buckets.{bucketIn, bucketOf, keyOf, mixAll}
+use Rattle.bodies.specs.Buckets.{bucketIn}
 use Rattle.merging.specs.Chains.{LinksAt, MarksAt, markOf, nextIn}
 use Rattle.merging.specs.RemoveDupVars.{GroupAsks, Grouped, LinksKept, MarkedBy, Member, MemberAsks, behind, cellsAt, cellsOf, groupFor, marked, rightsOf}
 use Rattle.bodies.specs.Standing.{BareTab, TabAt, TabsAt, sizeAt, tabAt}

@@ -17,13 +17,13 @@ use Rattle.octets.proofs.get.Reads as get-reads
 use Rattle.bodies.proofs.buckets.mixed.Reads as mixed-reads
 
 abbrev Inv-loop : tie.InvT-loop
-Inv-loop s p n k₀ i₀ k i = (i ≤ n) × (k ≡ mixAll 0 (part (words s) p i))
+Inv-loop s p n start k₀ i₀ k i = (i ≤ n) × (k ≡ mixAll start (part (words s) p i))
 
 abbrev μ-loop : tie.MeasureT-loop
-μ-loop s p n k₀ i₀ k i = n - i
+μ-loop s p n start k₀ i₀ k i = n - i
 
 loop-holds : tie.Need-loop-holds Inv-loop μ-loop
-loop-holds c = (search needs, sym (mix-none (words (c .before .args .s .now)) (c .before .args .p)))
+loop-holds c = (search needs, sym (mix-none (c .before .args .start) (words (c .before .args .s .now)) (c .before .args .p)))
 
 add-get : tie.Need-add-get Inv-loop μ-loop
 add-get c =
@@ -57,12 +57,12 @@ loop-again c =
     let i = c .before .before .before .loop .i in
     let top = length-words (a .s .now) in
     let here : a .p + i < length l = omega arith in
-    (omega arith, c .mixed .ensures ∙ (λ j. mix (c .before .before .before .loop .inv .1 j) (c .before .get .ensures .is j)) ∙ sym (mix-more l (a .p) i here))
+    (omega arith, c .mixed .ensures ∙ (λ j. mix (c .before .before .before .loop .inv .1 j) (c .before .get .ensures .is j)) ∙ sym (mix-more (a .start) l (a .p) i here))
 
 returns : tie.Need-returns Inv-loop μ-loop
 returns c =
     let done : c .before .loop .i ≡ c .before .before .before .args .n = omega arith in
-    c .before .loop .inv .1 ∙ ap (λ (x : ℕ). mixAll 0 (part (words (c .before .before .before .args .s .now)) (c .before .before .before .args .p) x)) done
+    c .before .loop .inv .1 ∙ ap (λ (x : ℕ). mixAll (c .before .before .before .args .start) (part (words (c .before .before .before .args .s .now)) (c .before .before .before .args .p) x)) done
 
 pub mix-all-spec : {M : Type 1} → statement M
 mix-all-spec =
