@@ -1,54 +1,31 @@
--- Laws of the scan for a name, and of scopes that a walk leaves as they are. Assumes nothing.
+-- Laws of the search for a name, and of scopes that a walk leaves as they are. Assumes nothing.
 use mathlib.Core.Path.{_≡_, refl, sym, ap, _∙_}
 use mathlib.Core.List.{List, [], _∷_, _++_}
-use mathlib.Core.Bool.{Bool, true, false, cond, _||_}
+use mathlib.Core.Bool.{Bool, true, false, _||_}
 use Prim.Native.Nat.{ℕ, _+_, _≤_, _<_}
 use native.Mathlib.Omega.{arith}
 use lib.Dec.{eqb}
 use lib.ListN.{length, getD}
 use borrow.Author.Tests.{lt-leb, le-leb}
-use Rattle.octets.specs.Regions.{part}
+use Rattle.octets.specs.Regions.{part, isIn}
 use Rattle.octets.proofs.Splice.{part-more, part-same}
 use Rattle.rules.specs.Words.{limit12, nameBase, freshBase}
 use Rattle.rules.specs.Signature.{Sig, elem, isVar}
 use Rattle.rules.specs.ToCoreActions.{readable}
+use Rattle.meaning.proofs.DistinctWords.{elem-append}
+use Rattle.meaning.proofs.Lists.{in-elem}
 use Rattle.walks.specs.Steps.{Kept, Room}
 use Rattle.core_actions.specs.Scopes.{inScope, grown, ScopeFits, Scoped, ScopeRoom}
 use Rattle.core_actions.specs.declared.scope.Scope.{Scope}
 
-or-assoc : (a b c : Bool) → a || (b || c) ≡ (a || b) || c
-or-assoc true b c = refl
-or-assoc false b c = refl
-
-pub elem-append : (w : ℕ) (xs ys : List ℕ) → elem w (xs ++ ys) ≡ elem w xs || elem w ys
-elem-append w [] ys = refl
-elem-append w (x ∷ xs) ys = ap (λ (b : Bool). eqb w x || b) (elem-append w xs ys) ∙ or-assoc (eqb w x) (elem w xs) (elem w ys)
-
--- a turn of the scan
-turn : (h w x : ℕ) (b : Bool) → eqb h 1 ≡ b → eqb (cond (eqb w x) 1 h) 1 ≡ b || (eqb w x || false)
-turn h w x b e = go (eqb w x) b e
-  where
-    go : (t b : Bool) → eqb h 1 ≡ b → eqb (cond t 1 h) 1 ≡ b || (t || false)
-    go true true e = refl
-    go true false e = refl
-    go false true e = e
-    go false false e = e
-
-pub scan-more : (s : List ℕ) (from i w h x : ℕ) → from + i < length s → x ≡ getD s (from + i) 0 → eqb h 1 ≡ elem w (part s from i)
-    → eqb (cond (eqb w x) 1 h) 1 ≡ elem w (part s from (i + 1))
-scan-more s from i w h x room ex e =
-    turn h w x (elem w (part s from i)) e
-    ∙ ap (λ (y : ℕ). elem w (part s from i) || (eqb w y || false)) ex
-    ∙ sym (elem-append w (part s from i) (getD s (from + i) 0 ∷ []))
-    ∙ ap (elem w) (sym (part-more s from i room))
-
-pub in-body : (s : List ℕ) (c : Scope) (w : ℕ) → elem w (part s 0 (c .body)) ≡ true → inScope s c w ≡ true
+-- what the two searches say
+pub in-body : (s : List ℕ) (c : Scope) (w : ℕ) → isIn w (part s 0 (c .body)) ≡ true → inScope s c w ≡ true
 unfolding inScope
-in-body s c w e = rw e
+in-body s c w e = rw (sym (in-elem w (part s 0 (c .body))) ∙ e)
 
-pub in-names : (s : List ℕ) (c : Scope) (w : ℕ) → elem w (part s 0 (c .body)) ≡ false → inScope s c w ≡ elem w (part s (c .first) (c .names))
+pub in-names : (s : List ℕ) (c : Scope) (w : ℕ) → isIn w (part s 0 (c .body)) ≡ false → inScope s c w ≡ isIn w (part s (c .first) (c .names))
 unfolding inScope
-in-names s c w e = rw e
+in-names s c w e = rw (sym (in-elem w (part s 0 (c .body))) ∙ e) (sym (in-elem w (part s (c .first) (c .names))))
 
 -- a step that writes elsewhere leaves the scope as it is
 pub scoped-kept : {sig : Sig} {bound : List ℕ} {c : Scope} {to te sp se lg le log : ℕ} {s cs s′ cs′ : List ℕ} → Kept to te sp se lg le s cs s′ cs′ log
@@ -63,13 +40,6 @@ scoped-kept {c = c} {s = s} {s′ = s′} k a b d x =
       variables = λ w p q. x .variables w p q ∙ sym (λ i. elem w (e1 i) || elem w (e2 i));
       global = λ w p. x .global w p ∙ ap (elem w) (sym e2);
     }
-
-pub scan-small : (w x h : ℕ) → h ≤ 1 → cond (eqb w x) 1 h ≤ 1
-scan-small w x h k = go (eqb w x)
-  where
-    go : (t : Bool) → cond t 1 h ≤ 1
-    go true = omega arith
-    go false = k
 
 pub is-var : (sig : Sig) (g w : ℕ) → g ≡ sig .globals → w < freshBase → nameBase + g ≤ w → isVar sig w ≡ true
 is-var sig g w e h k =

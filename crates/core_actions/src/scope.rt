@@ -1,12 +1,8 @@
 // Which names are bound: those among the words of the body's atoms, and those let so far.
 ghost use mathlib.Core.Path.{_≡_};
-ghost use mathlib.Core.Bool.{cond};
 ghost use mathlib.Core.List.{List};
-ghost use Prim.Native.Nat.{ℕ, _+_, _<_, _≤_};
-ghost use lib.Dec.{eqb};
-ghost use lib.ListN.{length};
+ghost use Prim.Native.Nat.{ℕ, _<_};
 ghost use Rattle.octets.specs.Words.{words};
-ghost use Rattle.octets.specs.Regions.{part};
 ghost use Rattle.rules.specs.Words.{freshBase};
 ghost use Rattle.rules.specs.Signature.{Sig, elem};
 ghost use Rattle.rules.specs.ToCoreActions.{readable};
@@ -20,37 +16,15 @@ pub struct Scope {
     pub names: usize,
 }
 
-// 1 where x is w, else what was.
-fn hit(x: u32, w: u32, was: u32) -> u32
-    ensures { λ r. ⌜ r ≡ cond (eqb w x) 1 was ⌝ }
-{
-    if w == x { 1 } else { was }
-}
-
-// Whether w is among the n words from `from` on. The loop has no branch but its end, so that it runs on vectors.
-pub fn among(s: &[u8], from: usize, n: usize, w: u32) -> bool
-    requires { ⌜ from + n ≤ length (words (now s)) ⌝ }
-    ensures { λ r. ⌜ r ≡ elem w (part (words (now (s .entry))) from n) ⌝ }
-{
-    let mut found: u32 = 0;
-    let mut i = 0;
-    while i < n {
-        let x = octets::get(s, from + i);
-        found = hit(x, w, found);
-        i += 1;
-    }
-    found == 1
-}
-
 // Whether the variable w is bound.
 pub fn has(s: &[u8], scope: Scope, w: u32) -> bool
     requires { ⌜ ScopeFits (words (now s)) scope ⌝ }
     ensures { λ r. ⌜ r ≡ inScope (words (now (s .entry))) scope w ⌝ }
 {
-    if among(s, 0, scope.body, w) {
+    if octets::regions::among(s, 0, scope.body, w) {
         return true;
     }
-    among(s, scope.first, scope.names, w)
+    octets::regions::among(s, scope.first, scope.names, w)
 }
 
 // Whether the leaf w may be read: a literal or a global, also after a let of it, or a bound name.
@@ -70,7 +44,7 @@ pub fn taken(s: &[u8], scope: Scope, w: u32) -> bool
     ensures { λ r. ⌜ ((sig : Sig) (bound : List ℕ) → Scoped sig bound (words (now (s .entry))) scope → w < freshBase → r ≡ elem w bound) ⌝ }
 {
     if w < walks::NAME + scope.globals {
-        return among(s, scope.first, scope.names, w);
+        return octets::regions::among(s, scope.first, scope.names, w);
     }
     has(s, scope, w)
 }

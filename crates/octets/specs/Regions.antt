@@ -2,7 +2,7 @@
 -- and a count, or a place and an end, since two parts of one slice can't be lent for writing at once. Assumes nothing.
 use mathlib.Core.Path.{_≡_}
 use mathlib.Core.List.{List, [], _∷_, _++_}
-use mathlib.Core.Bool.{Bool, true, false, cond, _&&_}
+use mathlib.Core.Bool.{Bool, true, false, cond, _&&_, _||_}
 use Prim.Native.Nat.{ℕ, _+_, _≤_}
 use lib.Dec.{eqb}
 use lib.ListN.{length, take, drop}
@@ -34,6 +34,11 @@ pub data Clear (to from n : ℕ) : Type 0 where
 -- y for x, and any other word as it is
 unfoldable pub swap : ℕ → ℕ → ℕ → ℕ
 swap x y w = cond (eqb w x) y w
+
+-- whether a word is one of these
+unfoldable pub isIn : ℕ → List ℕ → Bool
+isIn w [] = false
+isIn w (x ∷ xs) = eqb w x || isIn w xs
 
 -- whether two lists are the same words
 unfoldable pub eqWords : List ℕ → List ℕ → Bool

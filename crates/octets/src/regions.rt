@@ -1,10 +1,12 @@
-// Loops over regions of words: copy, replace, compare. Each goes from the first word of its region to the last.
+// Loops over regions of words: copy, replace, search, compare. Each goes from the first word of its region to the last.
 ghost use mathlib.Core.Path.{_≡_};
+ghost use mathlib.Core.Bool.{cond};
 ghost use mathlib.Core.List.{map};
 ghost use Prim.Native.Nat.{_+_, _≤_};
+ghost use lib.Dec.{eqb};
 ghost use lib.ListN.{length};
 ghost use Rattle.octets.specs.Words.{words};
-ghost use Rattle.octets.specs.Regions.{splice, part, Clear, swap, eqWords};
+ghost use Rattle.octets.specs.Regions.{splice, part, Clear, swap, isIn, eqWords};
 use crate::get;
 use crate::put;
 
@@ -54,6 +56,28 @@ pub fn replace(buf: &mut [u8], from: usize, n: usize, x: u32, y: u32)
         put(buf, at, swapped(x, y, w));
         i += 1;
     }
+}
+
+// 1 where x is w, else what was.
+fn met(x: u32, w: u32, was: u32) -> u32
+    ensures { λ r. ⌜ r ≡ cond (eqb w x) 1 was ⌝ }
+{
+    if w == x { 1 } else { was }
+}
+
+// Whether w is among the n words from `from` on. Every word is looked at, found or not, so that the loop has no branch and runs on vectors.
+pub fn among(buf: &[u8], from: usize, n: usize, w: u32) -> bool
+    requires { ⌜ from + n ≤ length (words (now buf)) ⌝ }
+    ensures { λ r. ⌜ r ≡ isIn w (part (words (now (buf .entry))) from n) ⌝ }
+{
+    let mut found: u32 = 0;
+    let mut i = 0;
+    while i < n {
+        let x = get(buf, from + i);
+        found = met(x, w, found);
+        i += 1;
+    }
+    found == 1
 }
 
 // Whether the n words of `a` from p on are the n words of `b` from q on. It ends at the first two that differ.

@@ -1,18 +1,18 @@
 -- The equalities of a pass in groups, canonicalized in front of the atoms that it kept: one equality, a group of them, all groups, and what
 -- they leave put in order. Assumes nothing.
-use mathlib.Core.Bool.{Bool, _||_, cond, false, true}
+use mathlib.Core.Bool.{Bool, cond, false, true}
 use mathlib.Core.List.{List, [], _++_, _∷_, append-assoc, append-nil, map}
 use mathlib.Core.Option.{Option, none, some}
 use mathlib.Core.Path.{_∙_, _≡_, ap, ap₂, refl, subst, sym}
 use Prim.Native.Nat.{_*_, _+_, _-_, _<_, _≤_, suc, ℕ}
 use native.Mathlib.Omega.{arith}
 use lib.Dec.{eqb}
-use lib.ListN.{drop, getD, length, length-append, length-map, take, take-append-drop}
-use lib.Seq.{drop-at, take-add, take-at}
-use borrow.Author.Tests.{eq-eqb, ne-eqb}
+use lib.ListN.{drop, getD, length, length-append, length-map, take}
+use lib.Seq.{drop-at, take-at}
+use borrow.Author.Tests.{eq-eqb, eqb-false, ne-eqb}
 use Rattle.octets.proofs.Places.{at-after, at-before, at-first, at-join, at-left, at-nil, at-right, at-splice, at-word, only-same, only-splice, only-then, only-wide}
-use Rattle.octets.proofs.Splice.{length-part, part-more, splice-is}
-use Rattle.octets.specs.Regions.{At, Only, part, splice, swap}
+use Rattle.octets.proofs.Splice.{length-part, splice-itself}
+use Rattle.octets.specs.Regions.{At, Only, isIn, part, splice, swap}
 use Rattle.rules.specs.Canonicalize.{Body, Replacement, canonicalize, firstReplacement, replaceAtom, replaceTab, replaceTerm, resolve, resolveEq}
 use Rattle.rules.specs.Flat.{Atom, Tab, atomWords, eqn, tab, tabWords, wordsOf}
 use Rattle.rules.specs.Signature.{Sig, isVar, sameTerm}
@@ -34,60 +34,21 @@ use Rattle.canonicalize.proofs.Fronts.{canonicalize-asked, canonicalize-still}
 use Rattle.canonicalize.proofs.Replacing.{bindings-append}
 use Rattle.merging.specs.RemoveDupVars.{Group, GroupsAt, Some, allEqns, eqnsOf, groupFor, groupWords}
 use Rattle.settling.specs.declared.joining.Joined.{Joined}
-use Rattle.settling.specs.Joining.{AgainAsks, JoinGroupAsks, JoinOneAsks, JoinedAll, JoinedGroup, JoinedOf, JoinedOne, Vars, has, hit, joinAfter, joinAsk, joinWords, leftAfter, replacedAtoms, replacedWords}
+use Rattle.settling.specs.Joining.{AgainAsks, JoinGroupAsks, JoinOneAsks, JoinedAll, JoinedGroup, JoinedOf, JoinedOne, Vars, joinAfter, joinAsk, joinWords, leftAfter, replacedAtoms, replacedWords}
 use Rattle.rules.specs.Canonicalize as canon
 
--- ---- whether a word is among others
-
-has-snoc : (x : ℕ) (ws : List ℕ) (w : ℕ) → has x (ws ++ w ∷ []) ≡ has x ws || eqb w x
-unfolding has
-has-snoc x [] w = go (eqb w x)
-  where
-    go : (c : Bool) → (c || false) ≡ (false || c)
-    go true = refl
-    go false = refl
-has-snoc x (v ∷ ws) w = ap (λ (c : Bool). eqb v x || c) (has-snoc x ws w) ∙ go (eqb v x) (has x ws) (eqb w x)
-  where
-    go : (a b c : Bool) → (a || (b || c)) ≡ ((a || b) || c)
-    go true b c = refl
-    go false b c = refl
-
-pub has-nothing : (x : ℕ) (l : List ℕ) (p : ℕ) → eqb 0 1 ≡ has x (part l p 0)
-unfolding has
-has-nothing x l p = refl
-
--- a turn of the loop
-pub has-more : (x : ℕ) (l : List ℕ) (p i found w : ℕ) → p + i < length l → w ≡ getD l (p + i) 0 → eqb found 1 ≡ has x (part l p i)
-    → eqb (hit x w found) 1 ≡ has x (part l p (i + 1))
-has-more x l p i found w room ew e =
-    turn (eqb w x) (has x (part l p i)) e
-    ∙ ap (λ (v : ℕ). has x (part l p i) || eqb v x) ew
-    ∙ sym (has-snoc x (part l p i) (getD l (p + i) 0))
-    ∙ ap (has x) (sym (part-more l p i room))
-  where
-    turn : (c b : Bool) → eqb found 1 ≡ b → eqb (cond c 1 found) 1 ≡ (b || c)
-    turn true true e = refl
-    turn true false e = refl
-    turn false true e = e
-    turn false false e = e
+-- ---- a word that is not there
 
 -- where x is not among them, replacing it changes nothing
-swap-none : (x y : ℕ) (ws : List ℕ) → has x ws ≡ false → map (swap x y) ws ≡ ws
-unfolding has swap
+swap-none : (x y : ℕ) (ws : List ℕ) → isIn x ws ≡ false → map (swap x y) ws ≡ ws
+unfolding isIn swap
 swap-none x y [] h = refl
 swap-none x y (w ∷ ws) h =
-    let k = or-false (eqb w x) (has x ws) h in
-    ap₂ (λ (c : Bool) (vs : List ℕ). cond c y w ∷ vs) (k .0) (swap-none x y ws (k .1))
+    let k = or-false (eqb x w) (isIn x ws) h in
+    ap₂ (λ (c : Bool) (vs : List ℕ). cond c y w ∷ vs) (ne-eqb w x (λ e. eqb-false x w (k .0) (sym e))) (swap-none x y ws (k .1))
 
-splice-same : (l : List ℕ) (p n : ℕ) → p + n ≤ length l → splice l p (part l p n) ≡ l
-splice-same l p n h =
-    splice-is l p (part l p n)
-    ∙ ap (λ (k : ℕ). take p l ++ part l p n ++ drop (p + k) l) (length-part l p n h)
-    ∙ ap (λ (ws : List ℕ). ws ++ drop (p + n) l) (sym (take-add p n l))
-    ∙ take-append-drop (p + n) l
-
-pub not-met : (l : List ℕ) (p n x y : ℕ) → p + n ≤ length l → has x (part l p n) ≡ false → l ≡ splice l p (map (swap x y) (part l p n))
-not-met l p n x y h e = sym (ap (splice l p) (swap-none x y (part l p n) e) ∙ splice-same l p n h)
+pub not-met : (l : List ℕ) (p n x y : ℕ) → p + n ≤ length l → isIn x (part l p n) ≡ false → l ≡ splice l p (map (swap x y) (part l p n))
+not-met l p n x y h e = sym (ap (splice l p) (swap-none x y (part l p n) e) ∙ splice-itself l p n h)
 
 -- ---- one equality
 

@@ -1,10 +1,9 @@
 -- What the functions of `joining` ask and give, in the definitions' words. Assumes nothing: these are definitions.
-use mathlib.Core.Bool.{Bool, false, true, cond, _||_}
+use mathlib.Core.Bool.{true}
 use mathlib.Core.List.{List, [], _++_, _∷_, map}
 use mathlib.Core.Option.{Option, none, some}
 use mathlib.Core.Path.{_≡_}
 use Prim.Native.Nat.{_*_, _+_, _-_, _≤_, ℕ}
-use lib.Dec.{eqb}
 use lib.ListN.{getD, length}
 use Rattle.octets.specs.Regions.{At, Only, part, splice}
 use Rattle.rules.specs.Canonicalize.{Replacement, canonicalize, replaceAtom, replaceTerm, replacementOf}
@@ -16,15 +15,6 @@ use Rattle.canonicalize.specs.declared.Canonical.{Canonical}
 use Rattle.canonicalize.specs.Canonicalize.{bindingWords, placeAfter, resolveTerms}
 use Rattle.merging.specs.RemoveDupVars.{Group, GroupsAt, allEqns}
 use Rattle.settling.specs.declared.joining.Joined.{Joined}
-
--- ---- whether a word is among others
-
-abbrev pub hit : ℕ → ℕ → ℕ → ℕ
-hit x w was = cond (eqb w x) 1 was
-
-unfoldable pub has : ℕ → List ℕ → Bool
-has x [] = false
-has x (w ∷ ws) = eqb w x || has x ws
 
 -- ---- one equality
 

@@ -11,40 +11,19 @@ ghost use Rattle.bodies.specs.Terms.{sig, GoodSign};
 ghost use Rattle.bodies.specs.Standing.{tabsIn};
 ghost use Rattle.canonicalize.specs.Canonicalize.{CanonicalAt};
 ghost use Rattle.merging.specs.RemoveDupVars.{Group, allEqns, GroupsAt};
-ghost use Rattle.settling.specs.Joining.{hit, has, JoinOneAsks, JoinedOne, JoinGroupAsks, JoinedGroup, JoinedAll, AgainAsks};
+ghost use Rattle.settling.specs.Joining.{JoinOneAsks, JoinedOne, JoinGroupAsks, JoinedGroup, JoinedAll, AgainAsks};
 use bodies::terms::Sign;
 use canonicalize::Canonical;
 use canonicalize::LET;
 use canonicalize::replacement_of;
 use canonicalize::resolve_terms;
 
-// 1 where w is x, else what was.
-fn met(x: u32, w: u32, was: u32) -> u32
-    ensures { λ r. ⌜ r ≡ hit x w was ⌝ }
-{
-    if w == x { 1 } else { was }
-}
-
-// Whether x is among the n words at p. The loop has no branch but its end, so that it runs on vectors.
-fn among(s: &[u8], p: usize, n: usize, x: u32) -> bool
-    requires { ⌜ p + n ≤ length (words (now s)) ⌝ }
-    ensures { λ r. ⌜ r ≡ has x (part (words (now (s .entry))) p n) ⌝ }
-{
-    let mut found: u32 = 0;
-    let mut i = 0;
-    while i < n {
-        found = met(x, octets::get(s, p + i), found);
-        i += 1;
-    }
-    found == 1
-}
-
 // Replaces x by y in the n words at p. Most often x is not there, and a loop that only reads is the faster one.
 fn replace_met(s: &mut [u8], p: usize, n: usize, x: u32, y: u32)
     requires { ⌜ p + n ≤ length (words (now s)) ⌝ }
     ensures { λ _. ⌜ words (now (s .exit)) ≡ splice (words (now (s .entry))) p (map (swap x y) (part (words (now (s .entry))) p n)) ⌝ }
 {
-    if among(s, p, n, x) {
+    if octets::regions::among(s, p, n, x) {
         octets::regions::replace(s, p, n, x, y);
     }
 }

@@ -6,7 +6,7 @@ use Rattle.core_actions.proofs.scope.has.Statement.{statement}
 use Rattle.core_actions.proofs.scope.has.Tie as tie
 use Rattle.core_actions.proofs.scope.has.Reads as reads
 use Rattle.core_actions.proofs.scope.has.Lts as lts
-use Rattle.core_actions.proofs.scope.among.Reads as among-reads
+use Rattle.octets.proofs.regions.among.Reads as among-reads
 
 among-requires : tie.Need-among-requires
 among-requires c κs = search needs

@@ -1,10 +1,13 @@
 use mathlib.Core.Path.{sym, _∙_}
+use Rattle.octets.specs.Regions.{part}
+use Rattle.octets.specs.Words.{words}
+use Rattle.meaning.proofs.Lists.{in-elem}
 use borrow.Author.Needs.{needs}
 use Rattle.core_actions.proofs.scope.taken.Statement.{statement}
 use Rattle.core_actions.proofs.scope.taken.Tie as tie
 use Rattle.core_actions.proofs.scope.taken.Reads as reads
 use Rattle.core_actions.proofs.scope.taken.Lts as lts
-use Rattle.core_actions.proofs.scope.among.Reads as among-reads
+use Rattle.octets.proofs.regions.among.Reads as among-reads
 use Rattle.core_actions.proofs.scope.has.Reads as has-reads
 
 add-if1 : tie.Need-add-if1
@@ -16,7 +19,7 @@ among-requires c κs = search needs
 returns : tie.Need-returns
 returns c =
     let a = c .before .before .before .before .args in
-    λ sig bound x old. c .among .ensures ∙ sym (x .global (a .w) (c .before .if1 .taken))
+    λ sig bound x old. c .among .ensures ∙ in-elem (a .w) (part (words (a .s .now)) (a .scope .first) (a .scope .names)) ∙ sym (x .global (a .w) (c .before .if1 .taken))
 
 has-requires : tie.Need-has-requires
 has-requires c κs = search needs

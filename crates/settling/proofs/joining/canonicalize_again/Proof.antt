@@ -15,21 +15,21 @@ use Rattle.settling.proofs.joining.canonicalize_again.Lts as lts
 use Rattle.octets.proofs.regions.carry.Reads as carry-reads
 use Rattle.settling.proofs.joining.join_all.Reads as join-all-reads
 
--- src/joining.rt:200:9
+-- src/joining.rt:179:9
 join-all-requires : tie.Need-join-all-requires
 join-all-requires c κs = search needs
 
--- src/joining.rt:203:9
+-- src/joining.rt:182:9
 same-length : tie.Need-same-length
 same-length c = search needs
 
--- src/joining.rt:203:9
+-- src/joining.rt:182:9
 returns : tie.Need-returns
 returns c =
     let a = c .before .before .before .before .before .before .args in
     again-bare (sig (a .q)) (words (a .s .now)) (a .at) (a .e) (a .body) (a .k) (a .to) (a .d) (c .before .before .before .before .before .before .pre .1) (words (c .before .before .before .join-all .last .0)) (c .before .before .before .join-all .result) (c .before .before .before .join-all .ensures) (c .if1 .taken)
 
--- src/joining.rt:208:31
+-- src/joining.rt:187:31
 add-carry : tie.Need-add-carry
 add-carry c =
     let a = c .before .before .before .before .before .before .before .args in
@@ -40,7 +40,7 @@ add-carry c =
     let most = length-words (a .s .now) in
     omega arith
 
--- src/joining.rt:208:5
+-- src/joining.rt:187:5
 carry-requires : tie.Need-carry-requires
 carry-requires c κs =
     let a = c .before .before .before .before .before .before .before .args in
@@ -49,7 +49,7 @@ carry-requires c κs =
     let top = again-top (sig (a .q)) (words (a .s .now)) (a .at) (a .e) (a .body) (a .k) (a .to) (a .d) (c .before .before .before .before .before .before .before .pre .1) (words (c .before .before .before .before .join-all .last .0)) (c .before .before .before .before .join-all .result) (c .before .before .before .before .join-all .ensures) in
     ((omega arith, omega arith), below (omega arith))
 
--- src/joining.rt:209:41
+-- src/joining.rt:188:41
 add-carry-2 : tie.Need-add-carry-2
 add-carry-2 c =
     let a = c .before .before .before .before .before .before .before .before .before .before .before .args in
@@ -60,7 +60,7 @@ add-carry-2 c =
     let most = length-words (a .s .now) in
     omega arith
 
--- src/joining.rt:209:5
+-- src/joining.rt:188:5
 carry-requires-2 : tie.Need-carry-requires-2
 carry-requires-2 c κs =
     let a = c .before .before .before .before .before .before .before .before .before .before .before .args in
@@ -70,7 +70,7 @@ carry-requires-2 c κs =
     let same : length (words (c .before .before .before .carry .last .0)) ≡ length (words (c .before .before .before .before .before .before .before .before .join-all .last .0)) = length-words-kept (c .before .before .before .carry .last .0) (c .before .before .before .before .before .before .before .before .join-all .last .0) (c .before .before .before .carry .kept .0) in
     ((omega arith, omega arith), beyond (omega arith))
 
--- src/joining.rt:211:16
+-- src/joining.rt:190:16
 add-t17 : tie.Need-add-t17
 add-t17 c =
     let a = c .before .before .before .before .before .before .before .before .before .before .before .before .before .before .args in
@@ -81,11 +81,11 @@ add-t17 c =
     let most = length-words (a .s .now) in
     omega arith
 
--- src/joining.rt:185:1
+-- src/joining.rt:164:1
 same-length-2 : tie.Need-same-length-2
 same-length-2 c = search needs
 
--- src/joining.rt:185:1
+-- src/joining.rt:164:1
 returns-2 : tie.Need-returns-2
 returns-2 c =
     let a = c .before .before .before .before .before .before .before .before .before .before .before .before .before .before .args in

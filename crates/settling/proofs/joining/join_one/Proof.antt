@@ -21,15 +21,15 @@ use Rattle.canonicalize.proofs.replacement_of.Reads as replacement-of-reads
 use Rattle.canonicalize.proofs.resolve_terms.Reads as resolve-terms-reads
 use Rattle.settling.proofs.joining.replace_met.Reads as replace-met-reads
 
--- src/joining.rt:76:9
+-- src/joining.rt:55:9
 get-requires : tie.Need-get-requires
 get-requires c κs = search needs
 
--- src/joining.rt:77:9
+-- src/joining.rt:56:9
 replacement-of-requires : tie.Need-replacement-of-requires
 replacement-of-requires c κs = search needs
 
--- src/joining.rt:79:13
+-- src/joining.rt:58:13
 resolve-terms-requires : tie.Need-resolve-terms-requires
 resolve-terms-requires c κs =
     let a = c .before .before .before .before .before .before .before .args in
@@ -37,11 +37,11 @@ resolve-terms-requires c κs =
     let e = is-join-ask (sig (a .q)) (a .left) (c .before .before .before .before .get .result) ∙ asked-none _ (c .before .before .before .replacement-of .result) (c .before .before .before .replacement-of .ensures) (not-true _ (c .before .if1 .taken)) in
     (c .before .before .before .before .before .before .before .pre .0, join-room (sig (a .q)) l (a .left) (c .before .before .before .before .get .result) (a .p) (a .n) (a .body) (a .k) (a .to) (a .d) (c .before .before .before .before .get .ensures .is) (c .before .before .before .before .before .before .before .pre .1) e)
 
--- src/joining.rt:80:9
+-- src/joining.rt:59:9
 same-length : tie.Need-same-length
 same-length c = search needs
 
--- src/joining.rt:80:9
+-- src/joining.rt:59:9
 returns : tie.Need-returns
 returns c =
     let a = c .before .before .before .before .before .before .before .before .before .before .args in
@@ -49,37 +49,37 @@ returns c =
     let e = is-join-ask (sig (a .q)) (a .left) (c .before .before .before .before .before .before .before .get .result) ∙ asked-none _ (c .before .before .before .before .before .before .replacement-of .result) (c .before .before .before .before .before .before .replacement-of .ensures) (not-true _ (c .before .before .before .before .if1 .taken)) in
     joined-still (sig (a .q)) l (a .left) (c .before .before .before .before .before .before .before .get .result) (a .p) (a .n) (a .body) (a .k) (a .to) (a .d) (c .before .before .before .before .before .before .before .get .ensures .is) _ (c .before .before .resolve-terms .result) e (c .before .before .resolve-terms .ensures .0) (c .before .before .resolve-terms .ensures .1)
 
--- src/joining.rt:86:20
+-- src/joining.rt:65:20
 add-replace-met : tie.Need-add-replace-met
 add-replace-met c = search needs
 
--- src/joining.rt:86:5
+-- src/joining.rt:65:5
 replace-met-requires : tie.Need-replace-met-requires
 replace-met-requires c κs = search needs
 
--- src/joining.rt:87:5
+-- src/joining.rt:66:5
 replace-requires : tie.Need-replace-requires
 replace-requires c κs =
     omega (arith, c .before .before .before .before .before .before .before .before .before .before .before .pre .1 .binds, c .before .before .before .before .before .before .before .before .before .before .before .pre .1 .top, length-words-kept (c .before .before .before .replace-met .last .0) (c .before .before .before .before .before .before .before .before .before .before .before .args .s .now) (c .before .before .before .replace-met .kept .0))
 
--- src/joining.rt:88:32
+-- src/joining.rt:67:32
 sub-put-three : tie.Need-sub-put-three
 sub-put-three c = search needs
 
--- src/joining.rt:88:5
+-- src/joining.rt:67:5
 put-three-requires : tie.Need-put-three-requires
 put-three-requires c κs =
     omega (arith, c .before .before .before .before .before .before .before .before .before .before .before .before .before .before .before .pre .1 .binds, c .before .before .before .before .before .before .before .before .before .before .before .before .before .before .before .pre .1 .top, length-words-kept (c .before .before .before .replace .last .0) (c .before .before .before .before .before .before .before .before .before .before .before .before .before .before .before .args .s .now) (c .before .before .before .replace .kept .0 ∙ c .before .before .before .before .before .before .before .replace-met .kept .0))
 
--- src/joining.rt:93:16
+-- src/joining.rt:72:16
 sub-t27 : tie.Need-sub-t27
 sub-t27 c = search needs
 
--- src/joining.rt:61:1
+-- src/joining.rt:40:1
 same-length-2 : tie.Need-same-length-2
 same-length-2 c = search needs
 
--- src/joining.rt:61:1
+-- src/joining.rt:40:1
 returns-2 : tie.Need-returns-2
 returns-2 c =
     let a = c .before .before .before .before .before .before .before .before .before .before .before .before .before .before .before .before .before .before .before .before .args in

@@ -8,29 +8,29 @@ use Rattle.settling.proofs.joining.replace_met.Tie as tie
 use Rattle.settling.proofs.joining.replace_met.Reads as reads
 use Rattle.settling.proofs.joining.replace_met.Lts as lts
 use Rattle.octets.proofs.regions.replace.Reads as replace-reads
-use Rattle.settling.proofs.joining.among.Reads as among-reads
+use Rattle.octets.proofs.regions.among.Reads as among-reads
 
--- src/joining.rt:47:8
+-- src/joining.rt:26:8
 among-requires : tie.Need-among-requires
 among-requires c κs = search needs
 
--- src/joining.rt:48:9
+-- src/joining.rt:27:9
 replace-requires : tie.Need-replace-requires
 replace-requires c κs = search needs
 
--- src/joining.rt:43:1
+-- src/joining.rt:22:1
 same-length : tie.Need-same-length
 same-length c = search needs
 
--- src/joining.rt:43:1
+-- src/joining.rt:22:1
 returns : tie.Need-returns
 returns c = search needs
 
--- src/joining.rt:43:1
+-- src/joining.rt:22:1
 same-length-2 : tie.Need-same-length-2
 same-length-2 c = search needs
 
--- src/joining.rt:43:1
+-- src/joining.rt:22:1
 returns-2 : tie.Need-returns-2
 returns-2 c =
     let a = c .before .before .before .before .args in

@@ -1,9 +1,7 @@
--- 1 where the words are equal.
+-- `octets::regions::met` meets its contract: 1 where the words are equal. Assumes nothing.
 use borrow.Author.Tests.{eq-eqb, ne-eqb}
-use Rattle.settling.proofs.joining.met.Statement.{statement}
-use Rattle.settling.proofs.joining.met.Tie as tie
-use Rattle.settling.proofs.joining.met.Reads as reads
-use Rattle.settling.proofs.joining.met.Lts as lts
+use Rattle.octets.proofs.regions.met.Statement.{statement}
+use Rattle.octets.proofs.regions.met.Tie as tie
 
 returns : tie.Need-returns
 returns c = rw (eq-eqb _ _ (c .if1 .taken))

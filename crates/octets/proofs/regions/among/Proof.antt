@@ -1,0 +1,65 @@
+-- `octets::regions::among` meets its contract: the words that were passed hold w just where `found` is 1. Assumes nothing.
+use mathlib.Core.Path.{_≡_, ap, _∙_}
+use Prim.Native.Nat.{ℕ, _-_, _≤_}
+use native.Mathlib.Omega.{arith}
+use lib.Dec.{eqb}
+use Rattle.octets.specs.Regions.{part, isIn}
+use Rattle.octets.specs.Words.{words}
+use Rattle.octets.proofs.Words.{length-words}
+use Rattle.octets.proofs.Search.{search-start, search-more}
+use borrow.Author.Needs.{needs}
+use Rattle.octets.proofs.regions.among.Statement.{statement}
+use Rattle.octets.proofs.regions.among.Tie as tie
+
+abbrev Inv-loop : tie.InvT-loop
+Inv-loop buf from n w found₀ i₀ found i = (i ≤ n) × (eqb found 1 ≡ isIn w (part (words buf) from i))
+
+abbrev μ-loop : tie.MeasureT-loop
+μ-loop buf from n w found₀ i₀ found i = n - i
+
+loop-holds : tie.Need-loop-holds Inv-loop μ-loop
+loop-holds c = (search needs, search-start (c .before .args .w) (words (c .before .args .buf .now)) (c .before .args .from))
+
+add-get : tie.Need-add-get Inv-loop μ-loop
+add-get c = omega (arith, length-words (c .before .before .before .args .buf .now))
+
+get-requires : tie.Need-get-requires Inv-loop μ-loop
+get-requires c κs = omega arith
+
+met-requires : tie.Need-met-requires Inv-loop μ-loop
+met-requires c κs = search needs
+
+add-i : tie.Need-add-i Inv-loop μ-loop
+add-i c = search needs
+
+loop-less : tie.Need-loop-less Inv-loop μ-loop
+loop-less c = search needs
+
+loop-again : tie.Need-loop-again Inv-loop μ-loop
+loop-again c =
+    let a = c .before .before .before .before .before .args in
+    let l = c .before .before .before .loop in (
+      omega arith,
+      ap (λ (h : ℕ). eqb h 1) (c .met .ensures) ∙ search-more (a .w) (words (a .buf .now)) (a .from) (l .i) (l .found) (c .before .get .result) (omega arith) (c .before .get .ensures .is) (l .inv .1),
+    )
+
+returns : tie.Need-returns Inv-loop μ-loop
+returns c =
+    let a = c .before .before .before .args in
+    let done : c .before .loop .i ≡ a .n = omega arith in
+    c .before .loop .inv .1 ∙ ap (λ (k : ℕ). isIn (a .w) (part (words (a .buf .now)) (a .from) k)) done
+
+pub among-spec : {M : Type 1} → statement M
+among-spec =
+    tie.close
+    (tie.spec
+    Inv-loop
+    μ-loop
+    loop-holds
+    add-get
+    get-requires
+    met-requires
+    add-i
+    loop-less
+    loop-again
+    returns)
