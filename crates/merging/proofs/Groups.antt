@@ -15,9 +15,8 @@ use Rattle.octets.specs.Regions.{At, Only, splice}
 use Rattle.rules.specs.Flat.{Tab, tabWords, wordsOf}
 use Rattle.rules.specs.RemoveDupVars.{alike, seen}
 use Rattle.rules.specs.Signature.{sameTerm}
-use Rattle.rules.specs.Words.{headWord, limit16}
+use Rattle.rules.specs.Words.{limit16}
 use Rattle.meaning.proofs.Lists.{all-right, length-words, length-words-append, words-append}
-use Rattle.meaning.proofs.MergePass.{alike-same}
 use Rattle.meaning.proofs.WordLaws.{two-tab}
 use Rattle.meaning.specs.Meaning.{All}
 use Rattle.meaning.specs.ReadBack.{EncodableTab, tabFrom}

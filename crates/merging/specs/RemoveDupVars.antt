@@ -2,11 +2,11 @@
 use mathlib.Core.Bool.{Bool, false, true, _&&_, cond, not}
 use mathlib.Core.List.{List, [], _++_, _∷_, map}
 use mathlib.Core.Path.{_≡_}
-use Prim.Native.Nat.{_*_, _+_, _-_, _<_, _≤_, ℕ}
+use Prim.Native.Nat.{_+_, _-_, _<_, _≤_, ℕ}
 use lib.ListN.{getD, length}
 use Rattle.octets.specs.Regions.{At, Only, part, splice}
 use Rattle.rules.specs.Flat.{Atom, Tab, eqn, tabWords, wordsOf}
-use Rattle.rules.specs.RemoveDupVars.{alike, keep, merged, seen}
+use Rattle.rules.specs.RemoveDupVars.{alike, keep, seen}
 use Rattle.rules.specs.Signature.{sameTerm}
 use Rattle.rules.specs.Words.{unit}
 use Rattle.meaning.specs.Meaning.{All}
