@@ -7,6 +7,7 @@ pub mod Arguments
 pub mod Calls
 pub mod Plain
 pub mod Acting
+pub mod NameSets
 pub mod UnionAsSet
 pub mod ReadActions
 pub mod ByCode

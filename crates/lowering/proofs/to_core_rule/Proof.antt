@@ -1,498 +1,193 @@
-use Prim.Native.Nat.{ℕ, _*_, _-_}
-use mathlib.Core.Path.{_≡_, refl, sym, ap, _∙_, subst}
+-- Lowering a rule. What is known at a place of the code is said once, as a record of `Joined`, and the needs behind that place cite it. Assumes nothing.
+use Prim.Native.Nat.{ℕ, _-_}
+use mathlib.Core.Path.{_≡_, ap, _∙_}
+use mathlib.Core.List.{List}
 use native.Mathlib.Omega.{arith}
 use lib.ListN.{length, getD}
 use Rattle.octets.specs.Words.{words}
 use Rattle.octets.proofs.Words.{length-words, length-words-kept}
 use Rattle.rules.specs.Words.{signatureBase}
-use Rattle.rules.specs.ToCoreActions.{toCoreRule}
-use Rattle.walks.proofs.Asks.{counted-kept}
-use Rattle.lowering.specs.Lowered.{Lowers}
-use Rattle.lowering.specs.declared.Lowering.{Lowering}
-use Rattle.lowering.proofs.SignatureWords.{signature-words}
-use Rattle.lowering.proofs.RuleWords.{RuleWords, rule-words}
-use Rattle.lowering.proofs.Joined.{counted, body-room, body-log, body-back, actions-at, names-at, head-room, head-scope-room, head-log, head-back, head-ends, both-done, same-read}
+use Rattle.lowering.proofs.Joined.{Begun, begun, body-room, Flattened, flattened, body-back}
+use Rattle.lowering.proofs.Joined.{Ready, actions-at, head-counted, names-at, head-room, head-scope-room, Headed, headed, head-back, head-ends, both-done}
 use borrow.Author.Needs.{needs}
 use Rattle.lowering.proofs.to_core_rule.Statement.{statement}
 use Rattle.lowering.proofs.to_core_rule.Tie as tie
-use Rattle.lowering.proofs.to_core_rule.Reads as reads
-use Rattle.lowering.proofs.to_core_rule.Lts as lts
-use Rattle.core_actions.proofs.to_core_actions.Reads as to-core-actions-reads
-use Rattle.octets.proofs.count.Reads as count-reads
-use Rattle.octets.proofs.get.Reads as get-reads
-use Rattle.query.proofs.to_query.Reads as to-query-reads
-use Rattle.walks.proofs.restore.Reads as restore-reads
+
+-- ---- what is known, place by place
+
+-- the words that it is given
+module _ (c : tie.Start) where
+  abbrev gs : List ℕ
+  gs = words (c .args .signature .now)
+
+  abbrev ws : List ℕ
+  ws = words (c .args .rule .now)
+
+  abbrev cs : List ℕ
+  cs = words (c .args .counters .now)
+
+  abbrev s : List ℕ
+  s = words (c .args .scratch .now)
+
+  abbrev Begun-at : ℕ → ℕ → Type 0
+  Begun-at n w = Begun gs ws cs s n w
+
+abbrev start : tie.After-count → tie.Start
+start c = c .before .before .before .before .before
+
+-- n words are counted
+at-count : (c : tie.After-count) → Begun-at (start c) (c .count .result) (getD (ws (start c)) 0 0)
+at-count c = let e = start c in begun (e .pre) (omega (arith, length-words (e .args .scratch .now), e .good)) (c .count .ensures)
+
+-- w is the header
+at-get : (c : tie.After-get) → Begun-at (start (c .before)) (c .before .count .result) (c .get .result)
+at-get c = rw (c .get .ensures .is) (at-count (c .before))
 
 count-requires : tie.Need-count-requires
 count-requires c κs = search needs
 
 mul-log : tie.Need-mul-log
-mul-log c =
-    let a = c .before .before .before .before .before .args in
-    let ws = words (a .rule .now) in
-    let gs = words (a .signature .now) in
-    let cs = words (a .counters .now) in
-    let s = words (a .scratch .now) in
-    let g = c .before .before .before .before .before .pre in
-    let rd = rule-words (g .sig) ws (g .rule) (g .written) in
-    let n = c .count .result in
-    let en : n ≡ length ws = c .count .ensures in
-    omega (arith, g .scratch, en, length-words (a .scratch .now), c .before .before .before .before .before .good)
+mul-log c = omega (arith, at-count c)
 
 get-requires : tie.Need-get-requires
-get-requires c κs =
-    let a = c .before .before .before .before .before .args in
-    let ws = words (a .rule .now) in
-    let gs = words (a .signature .now) in
-    let cs = words (a .counters .now) in
-    let s = words (a .scratch .now) in
-    let g = c .before .before .before .before .before .pre in
-    let rd = rule-words (g .sig) ws (g .rule) (g .written) in
-    rd .some
+get-requires c κs = at-count c .read .some
 
 sub-counts : tie.Need-sub-counts
-sub-counts c =
-    let a = c .before .before .before .before .before .before .args in
-    let ws = words (a .rule .now) in
-    let gs = words (a .signature .now) in
-    let cs = words (a .counters .now) in
-    let s = words (a .scratch .now) in
-    let g = c .before .before .before .before .before .before .pre in
-    let rd = rule-words (g .sig) ws (g .rule) (g .written) in
-    let n = c .before .count .result in
-    let en : n ≡ length ws = c .before .count .ensures in
-    let w = c .get .result in
-    let is : w ≡ getD ws 0 0 = c .get .ensures .is in
-    let rw′ = subst (λ (u : ℕ). RuleWords (g .sig) ws (g .rule) u) (sym is) rd in
-    let sw = signature-words (g .sig) gs (g .signed) in
-    omega (arith, rw′ .header)
+sub-counts c = at-get c .read .header
 
 cast-to-query : tie.Need-cast-to-query
 cast-to-query c = search needs
 
 mul-to-query : tie.Need-mul-to-query
-mul-to-query c =
-    let a = c .before .before .before .before .before .before .before .before .args in
-    let ws = words (a .rule .now) in
-    let gs = words (a .signature .now) in
-    let cs = words (a .counters .now) in
-    let s = words (a .scratch .now) in
-    let g = c .before .before .before .before .before .before .before .before .pre in
-    let rd = rule-words (g .sig) ws (g .rule) (g .written) in
-    let n = c .before .before .before .count .result in
-    let en : n ≡ length ws = c .before .before .before .count .ensures in
-    omega (arith, g .scratch, en, length-words (a .scratch .now), c .before .before .before .before .before .before .before .before .good)
+mul-to-query c = omega (arith, at-get (c .before .before))
 
 to-query-requires : tie.Need-to-query-requires
-to-query-requires c κs =
-    let a = c .before .before .before .before .before .before .before .before .args in
-    let ws = words (a .rule .now) in
-    let gs = words (a .signature .now) in
-    let cs = words (a .counters .now) in
-    let s = words (a .scratch .now) in
-    let g = c .before .before .before .before .before .before .before .before .pre in
-    let rd = rule-words (g .sig) ws (g .rule) (g .written) in
-    let n = c .before .before .before .count .result in
-    let en : n ≡ length ws = c .before .before .before .count .ensures in
-    let w = c .before .before .get .result in
-    let is : w ≡ getD ws 0 0 = c .before .before .get .ensures .is in
-    let rw′ = subst (λ (u : ℕ). RuleWords (g .sig) ws (g .rule) u) (sym is) rd in
-    let sw = signature-words (g .sig) gs (g .signed) in
-    (record { sig = g .sig; known = (rw′ .facts, counted (g .sig) gs ws (g .rule) cs s n w en rw′ sw (g .counters) (g .scratch)) }, body-room (g .sig) gs ws (g .rule) cs s n w en rw′ sw (g .counters) (g .scratch))
+to-query-requires c κs = let k = at-get (c .before .before) in (record { sig = k .good .sig; known = (k .read .facts, k .counted) }, body-room k)
+
+-- the body is flattened
+at-query : (c : tie.After-to-query) → let q = c .to-query in Flattened (at-get (c .before .before .before)) (words (q .last .1 .1 .1 .1 .0)) (words (q .last .1 .1 .1 .0)) (q .result)
+at-query c =
+    let k = at-get (c .before .before .before) in
+    let q = c .to-query in
+    flattened (length-words-kept _ _ (q .kept .1 .1 .1 .1 .0)) (length-words-kept _ _ (q .kept .1 .1 .1 .0)) (q .ensures (k .good .sig) (k .read .facts) (k .counted))
+
+-- ---- the body is refused
+
+abbrev then-query : tie.Then1 → tie.After-to-query
+then-query c = c .before .before .before .before .before .before
 
 sub-restore : tie.Need-sub-restore
-sub-restore c =
-    let a = c .before .before .before .before .before .before .before .before .before .before .before .before .before .before .before .before .before .before .args in
-    let ws = words (a .rule .now) in
-    let gs = words (a .signature .now) in
-    let cs = words (a .counters .now) in
-    let s = words (a .scratch .now) in
-    let g = c .before .before .before .before .before .before .before .before .before .before .before .before .before .before .before .before .before .before .pre in
-    let rd = rule-words (g .sig) ws (g .rule) (g .written) in
-    let n = c .before .before .before .before .before .before .before .before .before .before .before .before .before .count .result in
-    let en : n ≡ length ws = c .before .before .before .before .before .before .before .before .before .before .before .before .before .count .ensures in
-    let w = c .before .before .before .before .before .before .before .before .before .before .before .before .get .result in
-    let is : w ≡ getD ws 0 0 = c .before .before .before .before .before .before .before .before .before .before .before .before .get .ensures .is in
-    let rw′ = subst (λ (u : ℕ). RuleWords (g .sig) ws (g .rule) u) (sym is) rd in
-    let sw = signature-words (g .sig) gs (g .signed) in
-    let cnt = counted (g .sig) gs ws (g .rule) cs s n w en rw′ sw (g .counters) (g .scratch) in
-    let k = c .before .before .before .before .before .before .before .before .before .to-query in
-    let s1 = words (k .last .1 .1 .1 .1 .0) in
-    let cs1 = words (k .last .1 .1 .1 .0) in
-    let b = k .result in
-    let hs : length s1 ≡ length s = length-words-kept (k .last .1 .1 .1 .1 .0) (a .scratch .now) (k .kept .1 .1 .1 .1 .0) in
-    let hc : length cs1 ≡ length cs = length-words-kept (k .last .1 .1 .1 .0) (a .counters .now) (k .kept .1 .1 .1 .0) in
-    let walk = k .ensures (g .sig) (rw′ .facts) cnt in
-    body-log (g .sig) gs ws (g .rule) cs s n w en rw′ sw (g .counters) (g .scratch) s1 cs1 b walk .0
+sub-restore c = at-query (then-query (c .before .before .before)) .logFrom
 
 restore-requires : tie.Need-restore-requires
-restore-requires c κs =
-    let a = c .before .before .before .before .before .before .before .before .before .before .before .before .before .before .before .before .before .before .args in
-    let ws = words (a .rule .now) in
-    let gs = words (a .signature .now) in
-    let cs = words (a .counters .now) in
-    let s = words (a .scratch .now) in
-    let g = c .before .before .before .before .before .before .before .before .before .before .before .before .before .before .before .before .before .before .pre in
-    let rd = rule-words (g .sig) ws (g .rule) (g .written) in
-    let n = c .before .before .before .before .before .before .before .before .before .before .before .before .before .count .result in
-    let en : n ≡ length ws = c .before .before .before .before .before .before .before .before .before .before .before .before .before .count .ensures in
-    let w = c .before .before .before .before .before .before .before .before .before .before .before .before .get .result in
-    let is : w ≡ getD ws 0 0 = c .before .before .before .before .before .before .before .before .before .before .before .before .get .ensures .is in
-    let rw′ = subst (λ (u : ℕ). RuleWords (g .sig) ws (g .rule) u) (sym is) rd in
-    let sw = signature-words (g .sig) gs (g .signed) in
-    let cnt = counted (g .sig) gs ws (g .rule) cs s n w en rw′ sw (g .counters) (g .scratch) in
-    let k = c .before .before .before .before .before .before .before .before .before .to-query in
-    let s1 = words (k .last .1 .1 .1 .1 .0) in
-    let cs1 = words (k .last .1 .1 .1 .0) in
-    let b = k .result in
-    let hs : length s1 ≡ length s = length-words-kept (k .last .1 .1 .1 .1 .0) (a .scratch .now) (k .kept .1 .1 .1 .1 .0) in
-    let hc : length cs1 ≡ length cs = length-words-kept (k .last .1 .1 .1 .0) (a .counters .now) (k .kept .1 .1 .1 .0) in
-    let walk = k .ensures (g .sig) (rw′ .facts) cnt in
-    omega (arith, body-log (g .sig) gs ws (g .rule) cs s n w en rw′ sw (g .counters) (g .scratch) s1 cs1 b walk .0, body-log (g .sig) gs ws (g .rule) cs s n w en rw′ sw (g .counters) (g .scratch) s1 cs1 b walk .1, g .scratch, en, hs)
+restore-requires c κs = omega (arith, at-query (then-query (c .before .before .before)))
 
 same-length : tie.Need-same-length
-same-length c = c .before .before .restore .kept .0 ∙ c .before .before .before .before .before .before .before .before .before .before .before .before .to-query .kept .1 .1 .1 .0
+same-length c = c .before .before .restore .kept .0 ∙ then-query (c .before .before .before .before .before .before) .to-query .kept .1 .1 .1 .0
 
 same-length-2 : tie.Need-same-length-2
 same-length-2 c = search needs
 
 returns : tie.Need-returns
 returns c =
-    let a = c .before .before .before .before .before .before .before .before .before .before .before .before .before .before .before .before .before .before .before .before .before .args in
-    let ws = words (a .rule .now) in
-    let gs = words (a .signature .now) in
-    let cs = words (a .counters .now) in
-    let s = words (a .scratch .now) in
-    let g = c .before .before .before .before .before .before .before .before .before .before .before .before .before .before .before .before .before .before .before .before .before .pre in
-    let rd = rule-words (g .sig) ws (g .rule) (g .written) in
-    let n = c .before .before .before .before .before .before .before .before .before .before .before .before .before .before .before .before .count .result in
-    let en : n ≡ length ws = c .before .before .before .before .before .before .before .before .before .before .before .before .before .before .before .before .count .ensures in
-    let w = c .before .before .before .before .before .before .before .before .before .before .before .before .before .before .before .get .result in
-    let is : w ≡ getD ws 0 0 = c .before .before .before .before .before .before .before .before .before .before .before .before .before .before .before .get .ensures .is in
-    let rw′ = subst (λ (u : ℕ). RuleWords (g .sig) ws (g .rule) u) (sym is) rd in
-    let sw = signature-words (g .sig) gs (g .signed) in
-    let cnt = counted (g .sig) gs ws (g .rule) cs s n w en rw′ sw (g .counters) (g .scratch) in
-    let k = c .before .before .before .before .before .before .before .before .before .before .before .before .to-query in
-    let s1 = words (k .last .1 .1 .1 .1 .0) in
-    let cs1 = words (k .last .1 .1 .1 .0) in
-    let b = k .result in
-    let hs : length s1 ≡ length s = length-words-kept (k .last .1 .1 .1 .1 .0) (a .scratch .now) (k .kept .1 .1 .1 .1 .0) in
-    let hc : length cs1 ≡ length cs = length-words-kept (k .last .1 .1 .1 .0) (a .counters .now) (k .kept .1 .1 .1 .0) in
-    let walk = k .ensures (g .sig) (rw′ .facts) cnt in
-    let res : Lowering = record { refused = b .refused; place = b .next; body = 0; head = 0; actions = 0; log = 0 } in
-    λ sig rl es er. same-read (λ x y. Lowers (toCoreRule x y cs) (length ws) cs s1 (words (c .before .before .restore .last .0)) res) g sig rl es er
-    (subst (λ (i : ℕ). Lowers (toCoreRule (g .sig) (g .rule) cs) i cs s1 (words (c .before .before .restore .last .0)) res) en (body-back (g .sig) gs ws (g .rule) cs s n w en rw′ sw (g .counters) (g .scratch) s1 cs1 b walk (words (c .before .before .restore .last .0)) res (c .before .before .before .before .before .before .if1 .taken) (c .before .before .restore .ensures) refl refl))
+    let t = c .before .before .before .before .before .before in
+    body-back (at-query (then-query t)) (t .if1 .taken) (c .before .before .restore .ensures)
+
+-- ---- the body is fine
+
+abbrev else-query : tie.Else1 → tie.After-to-query
+else-query c = c .before .before .before .before .before .before
+
+abbrev else-get : tie.Else1 → tie.After-get
+else-get c = else-query c .before .before .before
+
+-- the globals are counted
+at-get2 : (c : tie.After-get2) → Ready (at-query (else-query (c .before))) (c .get2 .result - signatureBase)
+at-get2 c = record { fine = c .before .if1 .left; globals = ap (λ (u : ℕ). u - signatureBase) (c .get2 .ensures .is) }
 
 get-requires-2 : tie.Need-get-requires-2
-get-requires-2 c κs =
-    let a = c .before .before .before .before .before .before .before .before .before .before .before .before .before .before .before .args in
-    let ws = words (a .rule .now) in
-    let gs = words (a .signature .now) in
-    let cs = words (a .counters .now) in
-    let s = words (a .scratch .now) in
-    let g = c .before .before .before .before .before .before .before .before .before .before .before .before .before .before .before .pre in
-    let rd = rule-words (g .sig) ws (g .rule) (g .written) in
-    let n = c .before .before .before .before .before .before .before .before .before .before .count .result in
-    let en : n ≡ length ws = c .before .before .before .before .before .before .before .before .before .before .count .ensures in
-    let w = c .before .before .before .before .before .before .before .before .before .get .result in
-    let is : w ≡ getD ws 0 0 = c .before .before .before .before .before .before .before .before .before .get .ensures .is in
-    let rw′ = subst (λ (u : ℕ). RuleWords (g .sig) ws (g .rule) u) (sym is) rd in
-    let sw = signature-words (g .sig) gs (g .signed) in
-    omega (arith, sw .signed .inside)
+get-requires-2 c κs = omega (arith, at-get (else-get c) .signature .signed .inside)
 
 sub-t25 : tie.Need-sub-t25
-sub-t25 c =
-    let a = c .before .before .before .before .before .before .before .before .before .before .before .before .before .before .before .before .args in
-    let ws = words (a .rule .now) in
-    let gs = words (a .signature .now) in
-    let cs = words (a .counters .now) in
-    let s = words (a .scratch .now) in
-    let g = c .before .before .before .before .before .before .before .before .before .before .before .before .before .before .before .before .pre in
-    let rd = rule-words (g .sig) ws (g .rule) (g .written) in
-    let n = c .before .before .before .before .before .before .before .before .before .before .before .count .result in
-    let en : n ≡ length ws = c .before .before .before .before .before .before .before .before .before .before .before .count .ensures in
-    let w = c .before .before .before .before .before .before .before .before .before .before .get .result in
-    let is : w ≡ getD ws 0 0 = c .before .before .before .before .before .before .before .before .before .before .get .ensures .is in
-    let rw′ = subst (λ (u : ℕ). RuleWords (g .sig) ws (g .rule) u) (sym is) rd in
-    let sw = signature-words (g .sig) gs (g .signed) in
-    omega (arith, sw .globals, c .get2 .ensures .is)
+sub-t25 c = omega (arith, at-get (else-get (c .before)) .signature .globals, c .get2 .ensures .is)
 
 mul-to-core-actions : tie.Need-mul-to-core-actions
-mul-to-core-actions c =
-    let a = c .before .before .before .before .before .before .before .before .before .before .before .before .before .before .before .before .args in
-    let ws = words (a .rule .now) in
-    let gs = words (a .signature .now) in
-    let cs = words (a .counters .now) in
-    let s = words (a .scratch .now) in
-    let g = c .before .before .before .before .before .before .before .before .before .before .before .before .before .before .before .before .pre in
-    let rd = rule-words (g .sig) ws (g .rule) (g .written) in
-    let n = c .before .before .before .before .before .before .before .before .before .before .before .count .result in
-    let en : n ≡ length ws = c .before .before .before .before .before .before .before .before .before .before .before .count .ensures in
-    omega (arith, g .scratch, en, length-words (a .scratch .now), c .before .before .before .before .before .before .before .before .before .before .before .before .before .before .before .before .good)
+mul-to-core-actions c = omega (arith, at-get (else-get (c .before)))
 
 cast-to-core-actions : tie.Need-cast-to-core-actions
 cast-to-core-actions c = search needs
 
 mul-to-core-actions-2 : tie.Need-mul-to-core-actions-2
-mul-to-core-actions-2 c =
-    let a = c .before .before .before .before .before .before .before .before .before .before .before .before .before .before .before .before .before .before .args in
-    let ws = words (a .rule .now) in
-    let gs = words (a .signature .now) in
-    let cs = words (a .counters .now) in
-    let s = words (a .scratch .now) in
-    let g = c .before .before .before .before .before .before .before .before .before .before .before .before .before .before .before .before .before .before .pre in
-    let rd = rule-words (g .sig) ws (g .rule) (g .written) in
-    let n = c .before .before .before .before .before .before .before .before .before .before .before .before .before .count .result in
-    let en : n ≡ length ws = c .before .before .before .before .before .before .before .before .before .before .before .before .before .count .ensures in
-    omega (arith, g .scratch, en, length-words (a .scratch .now), c .before .before .before .before .before .before .before .before .before .before .before .before .before .before .before .before .before .before .good)
+mul-to-core-actions-2 c = omega (arith, at-get (else-get (c .before .before .before)))
 
 to-core-actions-requires : tie.Need-to-core-actions-requires
 to-core-actions-requires c κs =
-    let a = c .before .before .before .before .before .before .before .before .before .before .before .before .before .before .before .before .before .before .args in
-    let ws = words (a .rule .now) in
-    let gs = words (a .signature .now) in
-    let cs = words (a .counters .now) in
-    let s = words (a .scratch .now) in
-    let g = c .before .before .before .before .before .before .before .before .before .before .before .before .before .before .before .before .before .before .pre in
-    let rd = rule-words (g .sig) ws (g .rule) (g .written) in
-    let n = c .before .before .before .before .before .before .before .before .before .before .before .before .before .count .result in
-    let en : n ≡ length ws = c .before .before .before .before .before .before .before .before .before .before .before .before .before .count .ensures in
-    let w = c .before .before .before .before .before .before .before .before .before .before .before .before .get .result in
-    let is : w ≡ getD ws 0 0 = c .before .before .before .before .before .before .before .before .before .before .before .before .get .ensures .is in
-    let rw′ = subst (λ (u : ℕ). RuleWords (g .sig) ws (g .rule) u) (sym is) rd in
-    let sw = signature-words (g .sig) gs (g .signed) in
-    let cnt = counted (g .sig) gs ws (g .rule) cs s n w en rw′ sw (g .counters) (g .scratch) in
-    let k = c .before .before .before .before .before .before .before .before .before .to-query in
-    let s1 = words (k .last .1 .1 .1 .1 .0) in
-    let cs1 = words (k .last .1 .1 .1 .0) in
-    let b = k .result in
-    let hs : length s1 ≡ length s = length-words-kept (k .last .1 .1 .1 .1 .0) (a .scratch .now) (k .kept .1 .1 .1 .1 .0) in
-    let hc : length cs1 ≡ length cs = length-words-kept (k .last .1 .1 .1 .0) (a .counters .now) (k .kept .1 .1 .1 .0) in
-    let walk = k .ensures (g .sig) (rw′ .facts) cnt in
-    let gl = c .before .before .get2 .result - signatureBase in
-    let eg : gl ≡ getD gs 1 0 - signatureBase = ap (λ (u : ℕ). u - signatureBase) (c .before .before .get2 .ensures .is) in
-    (record { sig = g .sig; known = (actions-at (g .sig) gs ws (g .rule) cs s n w en rw′ sw (g .counters) (g .scratch) s1 cs1 b walk (c .before .before .before .if1 .left) gl eg, counted-kept cnt hc, names-at (g .sig) gs ws (g .rule) cs s n w en rw′ sw (g .counters) (g .scratch) s1 cs1 b walk (c .before .before .before .if1 .left) gl eg, sw .signed) }, (head-room (g .sig) gs ws (g .rule) cs s n w en rw′ sw (g .counters) (g .scratch) s1 cs1 b walk (c .before .before .before .if1 .left) gl eg (length s1) hs, head-scope-room (g .sig) gs ws (g .rule) cs s n w en rw′ sw (g .counters) (g .scratch) s1 cs1 b walk (c .before .before .before .if1 .left) gl eg))
+    let k = at-get (else-get (c .before .before .before)) in
+    let y = at-get2 (c .before .before) in
+    (record { sig = k .good .sig; known = (actions-at y, head-counted y, names-at y, k .signature .signed) }, (head-room y, head-scope-room y))
+
+-- the head is lowered
+at-actions : (c : tie.After-to-core-actions)
+    → let a = c .to-core-actions in Headed (at-get2 (c .before .before .before)) (words (a .last .1 .1 .1 .1 .1 .1 .0)) (words (a .last .1 .1 .1 .1 .1 .0)) (a .result)
+at-actions c =
+    let k = at-get (else-get (c .before .before .before .before)) in
+    let y = at-get2 (c .before .before .before) in
+    let a = c .to-core-actions in
+    headed y _ _ _ (length-words-kept _ _ (a .kept .1 .1 .1 .1 .1 .1 .0)) (λ x bound sc. a .ensures (k .good .sig) x bound (head-counted y) sc (k .signature .signed))
+
+-- both slices are as long as at the start
+counters-kept : (c : tie.After-to-core-actions)
+    → length (c .to-core-actions .last .1 .1 .1 .1 .1 .0) ≡ length (start (else-get (c .before .before .before .before) .before) .args .counters .now)
+counters-kept c = c .to-core-actions .kept .1 .1 .1 .1 .1 .0 ∙ else-query (c .before .before .before .before) .to-query .kept .1 .1 .1 .0
+
+scratch-kept : (c : tie.After-to-core-actions)
+    → length (c .to-core-actions .last .1 .1 .1 .1 .1 .1 .0) ≡ length (start (else-get (c .before .before .before .before) .before) .args .scratch .now)
+scratch-kept c = c .to-core-actions .kept .1 .1 .1 .1 .1 .1 .0 ∙ else-query (c .before .before .before .before) .to-query .kept .1 .1 .1 .1 .0
+
+-- ---- the head is refused
+
+abbrev then-actions : tie.Then2 → tie.After-to-core-actions
+then-actions c = c .before .before .before .before .before .before
 
 sub-restore-2 : tie.Need-sub-restore-2
-sub-restore-2 c =
-    let a = c .before .before .before .before .before .before .before .before .before .before .before .before .before .before .before .before .before .before .before .before .before .before .before .before .before .before .before .before .args in
-    let ws = words (a .rule .now) in
-    let gs = words (a .signature .now) in
-    let cs = words (a .counters .now) in
-    let s = words (a .scratch .now) in
-    let g = c .before .before .before .before .before .before .before .before .before .before .before .before .before .before .before .before .before .before .before .before .before .before .before .before .before .before .before .before .pre in
-    let rd = rule-words (g .sig) ws (g .rule) (g .written) in
-    let n = c .before .before .before .before .before .before .before .before .before .before .before .before .before .before .before .before .before .before .before .before .before .before .before .count .result in
-    let en : n ≡ length ws = c .before .before .before .before .before .before .before .before .before .before .before .before .before .before .before .before .before .before .before .before .before .before .before .count .ensures in
-    let w = c .before .before .before .before .before .before .before .before .before .before .before .before .before .before .before .before .before .before .before .before .before .before .get .result in
-    let is : w ≡ getD ws 0 0 = c .before .before .before .before .before .before .before .before .before .before .before .before .before .before .before .before .before .before .before .before .before .before .get .ensures .is in
-    let rw′ = subst (λ (u : ℕ). RuleWords (g .sig) ws (g .rule) u) (sym is) rd in
-    let sw = signature-words (g .sig) gs (g .signed) in
-    let cnt = counted (g .sig) gs ws (g .rule) cs s n w en rw′ sw (g .counters) (g .scratch) in
-    let k = c .before .before .before .before .before .before .before .before .before .before .before .before .before .before .before .before .before .before .before .to-query in
-    let s1 = words (k .last .1 .1 .1 .1 .0) in
-    let cs1 = words (k .last .1 .1 .1 .0) in
-    let b = k .result in
-    let hs : length s1 ≡ length s = length-words-kept (k .last .1 .1 .1 .1 .0) (a .scratch .now) (k .kept .1 .1 .1 .1 .0) in
-    let hc : length cs1 ≡ length cs = length-words-kept (k .last .1 .1 .1 .0) (a .counters .now) (k .kept .1 .1 .1 .0) in
-    let walk = k .ensures (g .sig) (rw′ .facts) cnt in
-    let gl = c .before .before .before .before .before .before .before .before .before .before .before .before .get2 .result - signatureBase in
-    let eg : gl ≡ getD gs 1 0 - signatureBase = ap (λ (u : ℕ). u - signatureBase) (c .before .before .before .before .before .before .before .before .before .before .before .before .get2 .ensures .is) in
-    let m = c .before .before .before .before .before .before .before .before .before .to-core-actions in
-    let s2 = words (m .last .1 .1 .1 .1 .1 .1 .0) in
-    let cs2 = words (m .last .1 .1 .1 .1 .1 .0) in
-    let h = m .result in
-    let hs2 : length s2 ≡ length s = length-words-kept (m .last .1 .1 .1 .1 .1 .1 .0) (k .last .1 .1 .1 .1 .0) (m .kept .1 .1 .1 .1 .1 .1 .0) ∙ hs in
-    head-log (g .sig) gs ws (g .rule) cs s n w en rw′ sw (g .counters) (g .scratch) s1 cs1 b walk (c .before .before .before .before .before .before .before .before .before .before .before .before .before .if1 .left) gl eg s2 cs2 h (λ x bound sc. m .ensures (g .sig) x bound (counted-kept cnt hc) sc (sw .signed)) .0
+sub-restore-2 c = at-actions (then-actions (c .before .before .before)) .logFrom
 
 restore-requires-2 : tie.Need-restore-requires-2
-restore-requires-2 c κs =
-    let a = c .before .before .before .before .before .before .before .before .before .before .before .before .before .before .before .before .before .before .before .before .before .before .before .before .before .before .before .before .args in
-    let ws = words (a .rule .now) in
-    let gs = words (a .signature .now) in
-    let cs = words (a .counters .now) in
-    let s = words (a .scratch .now) in
-    let g = c .before .before .before .before .before .before .before .before .before .before .before .before .before .before .before .before .before .before .before .before .before .before .before .before .before .before .before .before .pre in
-    let rd = rule-words (g .sig) ws (g .rule) (g .written) in
-    let n = c .before .before .before .before .before .before .before .before .before .before .before .before .before .before .before .before .before .before .before .before .before .before .before .count .result in
-    let en : n ≡ length ws = c .before .before .before .before .before .before .before .before .before .before .before .before .before .before .before .before .before .before .before .before .before .before .before .count .ensures in
-    let w = c .before .before .before .before .before .before .before .before .before .before .before .before .before .before .before .before .before .before .before .before .before .before .get .result in
-    let is : w ≡ getD ws 0 0 = c .before .before .before .before .before .before .before .before .before .before .before .before .before .before .before .before .before .before .before .before .before .before .get .ensures .is in
-    let rw′ = subst (λ (u : ℕ). RuleWords (g .sig) ws (g .rule) u) (sym is) rd in
-    let sw = signature-words (g .sig) gs (g .signed) in
-    let cnt = counted (g .sig) gs ws (g .rule) cs s n w en rw′ sw (g .counters) (g .scratch) in
-    let k = c .before .before .before .before .before .before .before .before .before .before .before .before .before .before .before .before .before .before .before .to-query in
-    let s1 = words (k .last .1 .1 .1 .1 .0) in
-    let cs1 = words (k .last .1 .1 .1 .0) in
-    let b = k .result in
-    let hs : length s1 ≡ length s = length-words-kept (k .last .1 .1 .1 .1 .0) (a .scratch .now) (k .kept .1 .1 .1 .1 .0) in
-    let hc : length cs1 ≡ length cs = length-words-kept (k .last .1 .1 .1 .0) (a .counters .now) (k .kept .1 .1 .1 .0) in
-    let walk = k .ensures (g .sig) (rw′ .facts) cnt in
-    let gl = c .before .before .before .before .before .before .before .before .before .before .before .before .get2 .result - signatureBase in
-    let eg : gl ≡ getD gs 1 0 - signatureBase = ap (λ (u : ℕ). u - signatureBase) (c .before .before .before .before .before .before .before .before .before .before .before .before .get2 .ensures .is) in
-    let m = c .before .before .before .before .before .before .before .before .before .to-core-actions in
-    let s2 = words (m .last .1 .1 .1 .1 .1 .1 .0) in
-    let cs2 = words (m .last .1 .1 .1 .1 .1 .0) in
-    let h = m .result in
-    let hs2 : length s2 ≡ length s = length-words-kept (m .last .1 .1 .1 .1 .1 .1 .0) (k .last .1 .1 .1 .1 .0) (m .kept .1 .1 .1 .1 .1 .1 .0) ∙ hs in
-    omega (arith, head-log (g .sig) gs ws (g .rule) cs s n w en rw′ sw (g .counters) (g .scratch) s1 cs1 b walk (c .before .before .before .before .before .before .before .before .before .before .before .before .before .if1 .left) gl eg s2 cs2 h (λ x bound sc. m .ensures (g .sig) x bound (counted-kept cnt hc) sc (sw .signed)) .0, head-log (g .sig) gs ws (g .rule) cs s n w en rw′ sw (g .counters) (g .scratch) s1 cs1 b walk (c .before .before .before .before .before .before .before .before .before .before .before .before .before .if1 .left) gl eg s2 cs2 h (λ x bound sc. m .ensures (g .sig) x bound (counted-kept cnt hc) sc (sw .signed)) .1, g .scratch, en, hs2)
+restore-requires-2 c κs = omega (arith, at-actions (then-actions (c .before .before .before)))
 
 same-length-3 : tie.Need-same-length-3
-same-length-3 c = c .before .before .restore2 .kept .0 ∙ c .before .before .before .before .before .before .before .before .before .before .before .before .to-core-actions .kept .1 .1 .1 .1 .1 .0 ∙ c .before .before .before .before .before .before .before .before .before .before .before .before .before .before .before .before .before .before .before .before .before .before .to-query .kept .1 .1 .1 .0
+same-length-3 c = c .before .before .restore2 .kept .0 ∙ counters-kept (then-actions (c .before .before .before .before .before .before))
 
 same-length-4 : tie.Need-same-length-4
-same-length-4 c = c .before .before .before .before .before .before .before .before .before .before .before .before .to-core-actions .kept .1 .1 .1 .1 .1 .1 .0 ∙ c .before .before .before .before .before .before .before .before .before .before .before .before .before .before .before .before .before .before .before .before .before .before .to-query .kept .1 .1 .1 .1 .0
+same-length-4 c = scratch-kept (then-actions (c .before .before .before .before .before .before))
 
 returns-2 : tie.Need-returns-2
 returns-2 c =
-    let a = c .before .before .before .before .before .before .before .before .before .before .before .before .before .before .before .before .before .before .before .before .before .before .before .before .before .before .before .before .before .before .before .args in
-    let ws = words (a .rule .now) in
-    let gs = words (a .signature .now) in
-    let cs = words (a .counters .now) in
-    let s = words (a .scratch .now) in
-    let g = c .before .before .before .before .before .before .before .before .before .before .before .before .before .before .before .before .before .before .before .before .before .before .before .before .before .before .before .before .before .before .before .pre in
-    let rd = rule-words (g .sig) ws (g .rule) (g .written) in
-    let n = c .before .before .before .before .before .before .before .before .before .before .before .before .before .before .before .before .before .before .before .before .before .before .before .before .before .before .count .result in
-    let en : n ≡ length ws = c .before .before .before .before .before .before .before .before .before .before .before .before .before .before .before .before .before .before .before .before .before .before .before .before .before .before .count .ensures in
-    let w = c .before .before .before .before .before .before .before .before .before .before .before .before .before .before .before .before .before .before .before .before .before .before .before .before .before .get .result in
-    let is : w ≡ getD ws 0 0 = c .before .before .before .before .before .before .before .before .before .before .before .before .before .before .before .before .before .before .before .before .before .before .before .before .before .get .ensures .is in
-    let rw′ = subst (λ (u : ℕ). RuleWords (g .sig) ws (g .rule) u) (sym is) rd in
-    let sw = signature-words (g .sig) gs (g .signed) in
-    let cnt = counted (g .sig) gs ws (g .rule) cs s n w en rw′ sw (g .counters) (g .scratch) in
-    let k = c .before .before .before .before .before .before .before .before .before .before .before .before .before .before .before .before .before .before .before .before .before .before .to-query in
-    let s1 = words (k .last .1 .1 .1 .1 .0) in
-    let cs1 = words (k .last .1 .1 .1 .0) in
-    let b = k .result in
-    let hs : length s1 ≡ length s = length-words-kept (k .last .1 .1 .1 .1 .0) (a .scratch .now) (k .kept .1 .1 .1 .1 .0) in
-    let hc : length cs1 ≡ length cs = length-words-kept (k .last .1 .1 .1 .0) (a .counters .now) (k .kept .1 .1 .1 .0) in
-    let walk = k .ensures (g .sig) (rw′ .facts) cnt in
-    let gl = c .before .before .before .before .before .before .before .before .before .before .before .before .before .before .before .get2 .result - signatureBase in
-    let eg : gl ≡ getD gs 1 0 - signatureBase = ap (λ (u : ℕ). u - signatureBase) (c .before .before .before .before .before .before .before .before .before .before .before .before .before .before .before .get2 .ensures .is) in
-    let m = c .before .before .before .before .before .before .before .before .before .before .before .before .to-core-actions in
-    let s2 = words (m .last .1 .1 .1 .1 .1 .1 .0) in
-    let cs2 = words (m .last .1 .1 .1 .1 .1 .0) in
-    let h = m .result in
-    let hs2 : length s2 ≡ length s = length-words-kept (m .last .1 .1 .1 .1 .1 .1 .0) (k .last .1 .1 .1 .1 .0) (m .kept .1 .1 .1 .1 .1 .1 .0) ∙ hs in
-    let res : Lowering = record { refused = h .walk .refused; place = h .walk .next; body = 0; head = 0; actions = 0; log = 0 } in
-    λ sig rl es er. same-read (λ x y. Lowers (toCoreRule x y cs) (length ws) cs s2 (words (c .before .before .restore2 .last .0)) res) g sig rl es er
-    (subst (λ (i : ℕ). Lowers (toCoreRule (g .sig) (g .rule) cs) i cs s2 (words (c .before .before .restore2 .last .0)) res) en (head-back (g .sig) gs ws (g .rule) cs s n w en rw′ sw (g .counters) (g .scratch) s1 cs1 b walk (c .before .before .before .before .before .before .before .before .before .before .before .before .before .before .before .before .if1 .left) gl eg s2 cs2 h (λ x bound sc. m .ensures (g .sig) x bound (counted-kept cnt hc) sc (sw .signed)) (words (c .before .before .restore2 .last .0)) res (c .before .before .before .before .before .before .if2 .taken) (c .before .before .restore2 .ensures) refl refl))
+    let t = c .before .before .before .before .before .before in
+    head-back (at-actions (then-actions t)) (t .if2 .taken) (c .before .before .restore2 .ensures)
+
+-- ---- both are fine
+
+abbrev else-actions : tie.Else2 → tie.After-to-core-actions
+else-actions c = c .before .before .before .before .before .before
 
 mul-t12 : tie.Need-mul-t12
-mul-t12 c =
-    let a = c .before .before .before .before .before .before .before .before .before .before .before .before .before .before .before .before .before .before .before .before .before .before .before .before .before .args in
-    let ws = words (a .rule .now) in
-    let gs = words (a .signature .now) in
-    let cs = words (a .counters .now) in
-    let s = words (a .scratch .now) in
-    let g = c .before .before .before .before .before .before .before .before .before .before .before .before .before .before .before .before .before .before .before .before .before .before .before .before .before .pre in
-    let rd = rule-words (g .sig) ws (g .rule) (g .written) in
-    let n = c .before .before .before .before .before .before .before .before .before .before .before .before .before .before .before .before .before .before .before .before .count .result in
-    let en : n ≡ length ws = c .before .before .before .before .before .before .before .before .before .before .before .before .before .before .before .before .before .before .before .before .count .ensures in
-    omega (arith, g .scratch, en, length-words (a .scratch .now), c .before .before .before .before .before .before .before .before .before .before .before .before .before .before .before .before .before .before .before .before .before .before .before .before .before .good)
+mul-t12 c = omega (arith, at-get (else-get (else-actions c .before .before .before .before)))
 
 sub-t17 : tie.Need-sub-t17
-sub-t17 c =
-    let a = c .before .before .before .before .before .before .before .before .before .before .before .before .before .before .before .before .before .before .before .before .before .before .before .before .before .before .args in
-    let ws = words (a .rule .now) in
-    let gs = words (a .signature .now) in
-    let cs = words (a .counters .now) in
-    let s = words (a .scratch .now) in
-    let g = c .before .before .before .before .before .before .before .before .before .before .before .before .before .before .before .before .before .before .before .before .before .before .before .before .before .before .pre in
-    let rd = rule-words (g .sig) ws (g .rule) (g .written) in
-    let n = c .before .before .before .before .before .before .before .before .before .before .before .before .before .before .before .before .before .before .before .before .before .count .result in
-    let en : n ≡ length ws = c .before .before .before .before .before .before .before .before .before .before .before .before .before .before .before .before .before .before .before .before .before .count .ensures in
-    let w = c .before .before .before .before .before .before .before .before .before .before .before .before .before .before .before .before .before .before .before .before .get .result in
-    let is : w ≡ getD ws 0 0 = c .before .before .before .before .before .before .before .before .before .before .before .before .before .before .before .before .before .before .before .before .get .ensures .is in
-    let rw′ = subst (λ (u : ℕ). RuleWords (g .sig) ws (g .rule) u) (sym is) rd in
-    let sw = signature-words (g .sig) gs (g .signed) in
-    let cnt = counted (g .sig) gs ws (g .rule) cs s n w en rw′ sw (g .counters) (g .scratch) in
-    let k = c .before .before .before .before .before .before .before .before .before .before .before .before .before .before .before .before .before .to-query in
-    let s1 = words (k .last .1 .1 .1 .1 .0) in
-    let cs1 = words (k .last .1 .1 .1 .0) in
-    let b = k .result in
-    let hs : length s1 ≡ length s = length-words-kept (k .last .1 .1 .1 .1 .0) (a .scratch .now) (k .kept .1 .1 .1 .1 .0) in
-    let hc : length cs1 ≡ length cs = length-words-kept (k .last .1 .1 .1 .0) (a .counters .now) (k .kept .1 .1 .1 .0) in
-    let walk = k .ensures (g .sig) (rw′ .facts) cnt in
-    let gl = c .before .before .before .before .before .before .before .before .before .before .get2 .result - signatureBase in
-    let eg : gl ≡ getD gs 1 0 - signatureBase = ap (λ (u : ℕ). u - signatureBase) (c .before .before .before .before .before .before .before .before .before .before .get2 .ensures .is) in
-    let m = c .before .before .before .before .before .before .before .to-core-actions in
-    let s2 = words (m .last .1 .1 .1 .1 .1 .1 .0) in
-    let cs2 = words (m .last .1 .1 .1 .1 .1 .0) in
-    let h = m .result in
-    let hs2 : length s2 ≡ length s = length-words-kept (m .last .1 .1 .1 .1 .1 .1 .0) (k .last .1 .1 .1 .1 .0) (m .kept .1 .1 .1 .1 .1 .1 .0) ∙ hs in
-    head-ends (g .sig) gs ws (g .rule) cs s n w en rw′ sw (g .counters) (g .scratch) s1 cs1 b walk (c .before .before .before .before .before .before .before .before .before .before .before .if1 .left) gl eg s2 cs2 h (λ x bound sc. m .ensures (g .sig) x bound (counted-kept cnt hc) sc (sw .signed)) (c .before .if2 .left)
+sub-t17 c = head-ends (at-actions (else-actions (c .before))) (c .before .if2 .left)
 
 sub-t36 : tie.Need-sub-t36
-sub-t36 c =
-    let a = c .before .before .before .before .before .before .before .before .before .before .before .before .before .before .before .before .before .before .before .before .before .before .before .before .before .before .before .args in
-    let ws = words (a .rule .now) in
-    let gs = words (a .signature .now) in
-    let cs = words (a .counters .now) in
-    let s = words (a .scratch .now) in
-    let g = c .before .before .before .before .before .before .before .before .before .before .before .before .before .before .before .before .before .before .before .before .before .before .before .before .before .before .before .pre in
-    let rd = rule-words (g .sig) ws (g .rule) (g .written) in
-    let n = c .before .before .before .before .before .before .before .before .before .before .before .before .before .before .before .before .before .before .before .before .before .before .count .result in
-    let en : n ≡ length ws = c .before .before .before .before .before .before .before .before .before .before .before .before .before .before .before .before .before .before .before .before .before .before .count .ensures in
-    let w = c .before .before .before .before .before .before .before .before .before .before .before .before .before .before .before .before .before .before .before .before .before .get .result in
-    let is : w ≡ getD ws 0 0 = c .before .before .before .before .before .before .before .before .before .before .before .before .before .before .before .before .before .before .before .before .before .get .ensures .is in
-    let rw′ = subst (λ (u : ℕ). RuleWords (g .sig) ws (g .rule) u) (sym is) rd in
-    let sw = signature-words (g .sig) gs (g .signed) in
-    let cnt = counted (g .sig) gs ws (g .rule) cs s n w en rw′ sw (g .counters) (g .scratch) in
-    let k = c .before .before .before .before .before .before .before .before .before .before .before .before .before .before .before .before .before .before .to-query in
-    let s1 = words (k .last .1 .1 .1 .1 .0) in
-    let cs1 = words (k .last .1 .1 .1 .0) in
-    let b = k .result in
-    let hs : length s1 ≡ length s = length-words-kept (k .last .1 .1 .1 .1 .0) (a .scratch .now) (k .kept .1 .1 .1 .1 .0) in
-    let hc : length cs1 ≡ length cs = length-words-kept (k .last .1 .1 .1 .0) (a .counters .now) (k .kept .1 .1 .1 .0) in
-    let walk = k .ensures (g .sig) (rw′ .facts) cnt in
-    let gl = c .before .before .before .before .before .before .before .before .before .before .before .get2 .result - signatureBase in
-    let eg : gl ≡ getD gs 1 0 - signatureBase = ap (λ (u : ℕ). u - signatureBase) (c .before .before .before .before .before .before .before .before .before .before .before .get2 .ensures .is) in
-    let m = c .before .before .before .before .before .before .before .before .to-core-actions in
-    let s2 = words (m .last .1 .1 .1 .1 .1 .1 .0) in
-    let cs2 = words (m .last .1 .1 .1 .1 .1 .0) in
-    let h = m .result in
-    let hs2 : length s2 ≡ length s = length-words-kept (m .last .1 .1 .1 .1 .1 .1 .0) (k .last .1 .1 .1 .1 .0) (m .kept .1 .1 .1 .1 .1 .1 .0) ∙ hs in
-    head-log (g .sig) gs ws (g .rule) cs s n w en rw′ sw (g .counters) (g .scratch) s1 cs1 b walk (c .before .before .before .before .before .before .before .before .before .before .before .before .if1 .left) gl eg s2 cs2 h (λ x bound sc. m .ensures (g .sig) x bound (counted-kept cnt hc) sc (sw .signed)) .0
+sub-t36 c = at-actions (else-actions (c .before .before)) .logFrom
 
 same-length-5 : tie.Need-same-length-5
-same-length-5 c = c .before .before .before .before .before .before .before .before .to-core-actions .kept .1 .1 .1 .1 .1 .0 ∙ c .before .before .before .before .before .before .before .before .before .before .before .before .before .before .before .before .before .before .to-query .kept .1 .1 .1 .0
+same-length-5 c = counters-kept (else-actions (c .before .before))
 
 same-length-6 : tie.Need-same-length-6
-same-length-6 c = c .before .before .before .before .before .before .before .before .to-core-actions .kept .1 .1 .1 .1 .1 .1 .0 ∙ c .before .before .before .before .before .before .before .before .before .before .before .before .before .before .before .before .before .before .to-query .kept .1 .1 .1 .1 .0
+same-length-6 c = scratch-kept (else-actions (c .before .before))
 
 returns-3 : tie.Need-returns-3
-returns-3 c =
-    let a = c .before .before .before .before .before .before .before .before .before .before .before .before .before .before .before .before .before .before .before .before .before .before .before .before .before .before .before .args in
-    let ws = words (a .rule .now) in
-    let gs = words (a .signature .now) in
-    let cs = words (a .counters .now) in
-    let s = words (a .scratch .now) in
-    let g = c .before .before .before .before .before .before .before .before .before .before .before .before .before .before .before .before .before .before .before .before .before .before .before .before .before .before .before .pre in
-    let rd = rule-words (g .sig) ws (g .rule) (g .written) in
-    let n = c .before .before .before .before .before .before .before .before .before .before .before .before .before .before .before .before .before .before .before .before .before .before .count .result in
-    let en : n ≡ length ws = c .before .before .before .before .before .before .before .before .before .before .before .before .before .before .before .before .before .before .before .before .before .before .count .ensures in
-    let w = c .before .before .before .before .before .before .before .before .before .before .before .before .before .before .before .before .before .before .before .before .before .get .result in
-    let is : w ≡ getD ws 0 0 = c .before .before .before .before .before .before .before .before .before .before .before .before .before .before .before .before .before .before .before .before .before .get .ensures .is in
-    let rw′ = subst (λ (u : ℕ). RuleWords (g .sig) ws (g .rule) u) (sym is) rd in
-    let sw = signature-words (g .sig) gs (g .signed) in
-    let cnt = counted (g .sig) gs ws (g .rule) cs s n w en rw′ sw (g .counters) (g .scratch) in
-    let k = c .before .before .before .before .before .before .before .before .before .before .before .before .before .before .before .before .before .before .to-query in
-    let s1 = words (k .last .1 .1 .1 .1 .0) in
-    let cs1 = words (k .last .1 .1 .1 .0) in
-    let b = k .result in
-    let hs : length s1 ≡ length s = length-words-kept (k .last .1 .1 .1 .1 .0) (a .scratch .now) (k .kept .1 .1 .1 .1 .0) in
-    let hc : length cs1 ≡ length cs = length-words-kept (k .last .1 .1 .1 .0) (a .counters .now) (k .kept .1 .1 .1 .0) in
-    let walk = k .ensures (g .sig) (rw′ .facts) cnt in
-    let gl = c .before .before .before .before .before .before .before .before .before .before .before .get2 .result - signatureBase in
-    let eg : gl ≡ getD gs 1 0 - signatureBase = ap (λ (u : ℕ). u - signatureBase) (c .before .before .before .before .before .before .before .before .before .before .before .get2 .ensures .is) in
-    let m = c .before .before .before .before .before .before .before .before .to-core-actions in
-    let s2 = words (m .last .1 .1 .1 .1 .1 .1 .0) in
-    let cs2 = words (m .last .1 .1 .1 .1 .1 .0) in
-    let h = m .result in
-    let hs2 : length s2 ≡ length s = length-words-kept (m .last .1 .1 .1 .1 .1 .1 .0) (k .last .1 .1 .1 .1 .0) (m .kept .1 .1 .1 .1 .1 .1 .0) ∙ hs in
-    let res : Lowering = record { refused = 0; place = 0; body = b .to; head = h .walk .to - 24 * n; actions = h .count; log = h .walk .log - 30 * n } in
-    λ sig rl es er. same-read (λ x y. Lowers (toCoreRule x y cs) (length ws) cs s2 cs2 res) g sig rl es er
-    (subst (λ (i : ℕ). Lowers (toCoreRule (g .sig) (g .rule) cs) i cs s2 cs2 res) en (both-done (g .sig) gs ws (g .rule) cs s n w en rw′ sw (g .counters) (g .scratch) s1 cs1 b walk (c .before .before .before .before .before .before .before .before .before .before .before .before .if1 .left) gl eg s2 cs2 h (λ x bound sc. m .ensures (g .sig) x bound (counted-kept cnt hc) sc (sw .signed)) res (c .before .before .if2 .left) refl refl refl refl refl))
+returns-3 c = both-done (at-actions (else-actions (c .before .before))) (c .before .before .if2 .left)
 
 pub to-core-rule-spec : {M : Type 1} → statement M
 to-core-rule-spec =

@@ -1,239 +1,105 @@
-use Rattle.core_actions.specs.Scopes.{ScopeFits}
-use Prim.Native.Nat.{ℕ, _+_, _-_, _<_}
-use mathlib.Core.Path.{_≡_, refl, sym, _∙_}
+-- A union of a name and a call that becomes a set. What is known at a place of the code is said once, as a record of `NameSets`, and the needs behind
+-- that place cite it. Assumes nothing.
+use Prim.Native.Nat.{ℕ, _+_}
+use mathlib.Core.Path.{_≡_, refl, _∙_}
 use native.Mathlib.Omega.{arith}
 use lib.ListN.{length, getD}
 use Rattle.octets.specs.Words.{words}
 use Rattle.octets.proofs.Words.{length-words, length-words-kept}
-use Rattle.core_actions.proofs.Scopes.{scope-fits}
-use mathlib.Core.Path.{subst}
-use Rattle.rules.specs.Signature.{heads}
-use Rattle.core_actions.proofs.Acting.{args-of, name-facts, name-stop, name-room, name-scope, name-unbound, name-full, name-done}
-use Rattle.rules.specs.Words.{maxDepth, headOf, countOf}
-use Rattle.core_actions.proofs.Plain.{plain-room, plain-most, plain-asks, plain-walk}
+use Rattle.core_actions.proofs.NameSets.{Call, Begun, begun, front-room, Fronted, fronted, args-ask, Argued, argued, args-refused}
+use Rattle.core_actions.proofs.NameSets.{Fine, is-fine, Used, name-refused, used-up, set-done}
 use borrow.Author.Needs.{needs}
 use Rattle.core_actions.proofs.actions.set_name.Statement.{statement}
 use Rattle.core_actions.proofs.actions.set_name.Tie as tie
-use Rattle.core_actions.proofs.actions.set_name.Reads as reads
-use Rattle.core_actions.proofs.actions.set_name.Lts as lts
-use Rattle.core_actions.proofs.exprs.lower_all.Reads as lower-all-reads
-use Rattle.core_actions.proofs.exprs.lower_plain.Reads as lower-plain-reads
-use Rattle.core_actions.proofs.scope.may_read.Reads as may-read-reads
-use Rattle.octets.proofs.get.Reads as get-reads
-use Rattle.octets.proofs.put.Reads as put-reads
-use Rattle.octets.proofs.rows.put_terms.Reads as put-terms-reads
-use Rattle.walks.proofs.take.Reads as take-reads
+
+-- ---- the two words
+
+-- the call, by the name's word v and its own word w
+abbrev call : tie.Start → ℕ → ℕ → Call
+call c v w =
+    let a = c .args in
+    record {
+      ws = words (a .rule .now);
+      s = words (a .scratch .now);
+      cs = words (a .counters .now);
+      at = a .at;
+      to = a .to;
+      sp = a .sp;
+      lg = a .log;
+      scope = a .scope;
+      v = v;
+      w = w;
+    }
+
+at-start : (c : tie.Start) (v w : ℕ) → v ≡ getD (words (c .args .rule .now)) (c .args .at + 1) 0 → w ≡ getD (words (c .args .rule .now)) (c .args .at + 2) 0 → Begun (call c v w)
+at-start c v w =
+    let q = c .pre .0 in
+    begun (record { sig = q .sig; bound = q .known .2 .bound; call = q .known .0; counted = q .known .1; scoped = q .known .2 .scoped }) (c .pre .1 .0) (c .pre .1 .1)
+    (omega (arith, length-words (c .args .rule .now), c .good)) (omega (arith, length-words (c .args .scratch .now), c .good))
 
 add-get : tie.Need-add-get
-add-get c =
-    let a = c .before .before .before .args in
-    let ws = words (a .rule .now) in
-    let cs = words (a .counters .now) in
-    let s = words (a .scratch .now) in
-    let q = c .before .before .before .pre .0 in
-    let room = c .before .before .before .pre .1 .0 in
-    let sr = c .before .before .before .pre .1 .1 in
-    let x = q .known .0 in
-    let i = x .exprs .inside in
-    omega (arith, length-words (a .rule .now), c .before .before .before .good)
+add-get c = omega (arith, at-start (c .before .before .before) _ _ refl refl)
 
 get-requires : tie.Need-get-requires
-get-requires c κs =
-    let a = c .before .before .before .args in
-    let ws = words (a .rule .now) in
-    let cs = words (a .counters .now) in
-    let s = words (a .scratch .now) in
-    let q = c .before .before .before .pre .0 in
-    let room = c .before .before .before .pre .1 .0 in
-    let sr = c .before .before .before .pre .1 .1 in
-    let x = q .known .0 in
-    let i = x .exprs .inside in
-    omega arith
+get-requires c κs = omega (arith, at-start (c .before .before .before) _ _ refl refl)
 
 add-get-2 : tie.Need-add-get-2
-add-get-2 c =
-    let a = c .before .before .before .before .args in
-    let ws = words (a .rule .now) in
-    let cs = words (a .counters .now) in
-    let s = words (a .scratch .now) in
-    let q = c .before .before .before .before .pre .0 in
-    let room = c .before .before .before .before .pre .1 .0 in
-    let sr = c .before .before .before .before .pre .1 .1 in
-    let x = q .known .0 in
-    let i = x .exprs .inside in
-    omega (arith, length-words (a .rule .now), c .before .before .before .before .good)
+add-get-2 c = omega (arith, at-start (c .before .before .before .before) _ _ refl refl)
 
 get-requires-2 : tie.Need-get-requires-2
-get-requires-2 c κs =
-    let a = c .before .before .before .before .args in
-    let ws = words (a .rule .now) in
-    let cs = words (a .counters .now) in
-    let s = words (a .scratch .now) in
-    let q = c .before .before .before .before .pre .0 in
-    let room = c .before .before .before .before .pre .1 .0 in
-    let sr = c .before .before .before .before .pre .1 .1 in
-    let x = q .known .0 in
-    let i = x .exprs .inside in
-    omega arith
+get-requires-2 c κs = omega (arith, at-start (c .before .before .before .before) _ _ refl refl)
+
+at-get2 : (c : tie.After-get2) → Begun (call (c .before .before .before .before .before) (c .before .get .result) (c .get2 .result))
+at-get2 c = at-start (c .before .before .before .before .before) _ _ (c .before .get .ensures .is) (c .get2 .ensures .is)
 
 sub-h : tie.Need-sub-h
-sub-h c =
-    let a = c .before .before .before .before .before .args in
-    let ws = words (a .rule .now) in
-    let cs = words (a .counters .now) in
-    let s = words (a .scratch .now) in
-    let q = c .before .before .before .before .before .pre .0 in
-    let room = c .before .before .before .before .before .pre .1 .0 in
-    let sr = c .before .before .before .before .before .pre .1 .1 in
-    let v = c .before .get .result in
-    let isv : v ≡ getD ws (a .at + 1) 0 = c .before .get .ensures .is in
-    let w = c .get2 .result in
-    let isw : w ≡ getD ws (a .at + 2) 0 = c .get2 .ensures .is in
-    let f = name-facts (q .sig) (q .known .2 .bound) ws (a .at) (a .to) (a .sp) (a .log) (a .scope) s cs (q .known .0) v w isv isw room (length s) refl in
-    omega (arith, f .high)
+sub-h c = at-get2 c .high
 
 sub-n : tie.Need-sub-n
-sub-n c =
-    let a = c .before .before .before .before .before .args in
-    let ws = words (a .rule .now) in
-    let cs = words (a .counters .now) in
-    let s = words (a .scratch .now) in
-    let q = c .before .before .before .before .before .pre .0 in
-    let room = c .before .before .before .before .before .pre .1 .0 in
-    let sr = c .before .before .before .before .before .pre .1 .1 in
-    let v = c .before .get .result in
-    let isv : v ≡ getD ws (a .at + 1) 0 = c .before .get .ensures .is in
-    let w = c .get2 .result in
-    let isw : w ≡ getD ws (a .at + 2) 0 = c .get2 .ensures .is in
-    let f = name-facts (q .sig) (q .known .2 .bound) ws (a .at) (a .to) (a .sp) (a .log) (a .scope) s cs (q .known .0) v w isv isw room (length s) refl in
-    omega (arith, f .high)
+sub-n c = at-get2 c .high
 
 cast-n : tie.Need-cast-n
 cast-n c = search needs
 
 add-lower-plain : tie.Need-add-lower-plain
-add-lower-plain c =
-    let a = c .before .before .before .before .before .args in
-    let ws = words (a .rule .now) in
-    let cs = words (a .counters .now) in
-    let s = words (a .scratch .now) in
-    let q = c .before .before .before .before .before .pre .0 in
-    let room = c .before .before .before .before .before .pre .1 .0 in
-    let sr = c .before .before .before .before .before .pre .1 .1 in
-    let x = q .known .0 in
-    let i = x .exprs .inside in
-    omega (arith, length-words (a .rule .now), c .before .before .before .before .before .good)
+add-lower-plain c = omega (arith, at-get2 c)
 
 lower-plain-requires : tie.Need-lower-plain-requires
-lower-plain-requires c κs =
-    let a = c .before .before .before .before .before .before .args in
-    let ws = words (a .rule .now) in
-    let cs = words (a .counters .now) in
-    let s = words (a .scratch .now) in
-    let q = c .before .before .before .before .before .before .pre .0 in
-    let room = c .before .before .before .before .before .before .pre .1 .0 in
-    let sr = c .before .before .before .before .before .before .pre .1 .1 in
-    let v = c .before .before .get .result in
-    let isv : v ≡ getD ws (a .at + 1) 0 = c .before .before .get .ensures .is in
-    let w = c .before .get2 .result in
-    let isw : w ≡ getD ws (a .at + 2) 0 = c .before .get2 .ensures .is in
-    let es = args-of (q .sig) (q .known .2 .bound) ws (a .at) (a .to) (a .sp) (a .log) (a .scope) s cs (q .known .0) v w isv isw room in
-    plain-room (q .sig) (q .known .2 .bound) ws (maxDepth - 1) (countOf w) (a .at) 3 (a .to) (a .sp) (a .log) (a .scope) s cs es (q .known .1) (q .known .2 .scoped) room sr (length s) refl
+lower-plain-requires c κs = front-room (at-get2 (c .before))
+
+-- ---- the arguments
+
+at-plain : (c : tie.After-lower-plain) → Fronted (at-get2 (c .before .before)) (c .lower-plain .result) (words (c .lower-plain .last .1 .1 .1 .1 .0))
+at-plain c =
+    let p = c .lower-plain in
+    fronted (at-get2 (c .before .before)) (length-words-kept _ _ (p .kept .1 .1 .1 .1 .0)) (p .ensures .0) (p .ensures .1)
 
 add-lower-all : tie.Need-add-lower-all
-add-lower-all c =
-    let a = c .before .before .before .before .before .before .before .before .before .args in
-    let ws = words (a .rule .now) in
-    let cs = words (a .counters .now) in
-    let s = words (a .scratch .now) in
-    let q = c .before .before .before .before .before .before .before .before .before .pre .0 in
-    let room = c .before .before .before .before .before .before .before .before .before .pre .1 .0 in
-    let sr = c .before .before .before .before .before .before .before .before .before .pre .1 .1 in
-    let v = c .before .before .before .before .before .get .result in
-    let isv : v ≡ getD ws (a .at + 1) 0 = c .before .before .before .before .before .get .ensures .is in
-    let w = c .before .before .before .before .get2 .result in
-    let isw : w ≡ getD ws (a .at + 2) 0 = c .before .before .before .before .get2 .ensures .is in
-    let es = args-of (q .sig) (q .known .2 .bound) ws (a .at) (a .to) (a .sp) (a .log) (a .scope) s cs (q .known .0) v w isv isw room in
-    let i = plain-room (q .sig) (q .known .2 .bound) ws (maxDepth - 1) (countOf w) (a .at) 3 (a .to) (a .sp) (a .log) (a .scope) s cs es (q .known .1) (q .known .2 .scoped) room sr (length s) refl in
-    omega (arith, i .0, length-words (a .rule .now), c .before .before .before .before .before .before .before .before .before .good)
+add-lower-all c = omega (arith, at-get2 (c .before .before .before .before), at-plain (c .before .before))
 
 add-lower-all-2 : tie.Need-add-lower-all-2
-add-lower-all-2 c =
-    let a = c .before .before .before .before .before .before .before .before .before .args in
-    let ws = words (a .rule .now) in
-    let cs = words (a .counters .now) in
-    let s = words (a .scratch .now) in
-    let q = c .before .before .before .before .before .before .before .before .before .pre .0 in
-    let room = c .before .before .before .before .before .before .before .before .before .pre .1 .0 in
-    let sr = c .before .before .before .before .before .before .before .before .before .pre .1 .1 in
-    let v = c .before .before .before .before .before .get .result in
-    let isv : v ≡ getD ws (a .at + 1) 0 = c .before .before .before .before .before .get .ensures .is in
-    let w = c .before .before .before .before .get2 .result in
-    let isw : w ≡ getD ws (a .at + 2) 0 = c .before .before .before .before .get2 .ensures .is in
-    let es = args-of (q .sig) (q .known .2 .bound) ws (a .at) (a .to) (a .sp) (a .log) (a .scope) s cs (q .known .0) v w isv isw room in
-    let i = plain-room (q .sig) (q .known .2 .bound) ws (maxDepth - 1) (countOf w) (a .at) 3 (a .to) (a .sp) (a .log) (a .scope) s cs es (q .known .1) (q .known .2 .scoped) room sr (length s) refl in
-    let front = c .before .before .lower-plain in
-    let m = plain-most (q .sig) (q .known .2 .bound) ws (maxDepth - 1) (countOf w) (a .at) 3 (a .to) (a .sp) (a .log) (a .scope) s cs es (q .known .1) (q .known .2 .scoped) room (front .result) (front .ensures .0) in
-    omega (arith, i .0, length-words (a .rule .now), c .before .before .before .before .before .before .before .before .before .good)
+add-lower-all-2 c = omega (arith, at-get2 (c .before .before .before .before), at-plain (c .before .before))
 
 sub-lower-all : tie.Need-sub-lower-all
-sub-lower-all c =
-    let a = c .before .before .before .before .before .before .before .before .before .args in
-    let ws = words (a .rule .now) in
-    let cs = words (a .counters .now) in
-    let s = words (a .scratch .now) in
-    let q = c .before .before .before .before .before .before .before .before .before .pre .0 in
-    let room = c .before .before .before .before .before .before .before .before .before .pre .1 .0 in
-    let sr = c .before .before .before .before .before .before .before .before .before .pre .1 .1 in
-    let v = c .before .before .before .before .before .get .result in
-    let isv : v ≡ getD ws (a .at + 1) 0 = c .before .before .before .before .before .get .ensures .is in
-    let w = c .before .before .before .before .get2 .result in
-    let isw : w ≡ getD ws (a .at + 2) 0 = c .before .before .before .before .get2 .ensures .is in
-    let es = args-of (q .sig) (q .known .2 .bound) ws (a .at) (a .to) (a .sp) (a .log) (a .scope) s cs (q .known .0) v w isv isw room in
-    let front = c .before .before .lower-plain in
-    let m = plain-most (q .sig) (q .known .2 .bound) ws (maxDepth - 1) (countOf w) (a .at) 3 (a .to) (a .sp) (a .log) (a .scope) s cs es (q .known .1) (q .known .2 .scoped) room (front .result) (front .ensures .0) in
-    m
+sub-lower-all c = at-plain (c .before .before) .most
 
 sub-lower-all-2 : tie.Need-sub-lower-all-2
 sub-lower-all-2 c = search needs
 
 add-lower-all-3 : tie.Need-add-lower-all-3
-add-lower-all-3 c =
-    let a = c .before .before .before .before .before .before .before .before .before .before .before .args in
-    let ws = words (a .rule .now) in
-    let cs = words (a .counters .now) in
-    let s = words (a .scratch .now) in
-    let q = c .before .before .before .before .before .before .before .before .before .before .before .pre .0 in
-    let room = c .before .before .before .before .before .before .before .before .before .before .before .pre .1 .0 in
-    let sr = c .before .before .before .before .before .before .before .before .before .before .before .pre .1 .1 in
-    let v = c .before .before .before .before .before .before .before .get .result in
-    let isv : v ≡ getD ws (a .at + 1) 0 = c .before .before .before .before .before .before .before .get .ensures .is in
-    let w = c .before .before .before .before .before .before .get2 .result in
-    let isw : w ≡ getD ws (a .at + 2) 0 = c .before .before .before .before .before .before .get2 .ensures .is in
-    let es = args-of (q .sig) (q .known .2 .bound) ws (a .at) (a .to) (a .sp) (a .log) (a .scope) s cs (q .known .0) v w isv isw room in
-    let i = plain-room (q .sig) (q .known .2 .bound) ws (maxDepth - 1) (countOf w) (a .at) 3 (a .to) (a .sp) (a .log) (a .scope) s cs es (q .known .1) (q .known .2 .scoped) room sr (length s) refl in
-    let front = c .before .before .before .before .lower-plain in
-    let m = plain-most (q .sig) (q .known .2 .bound) ws (maxDepth - 1) (countOf w) (a .at) 3 (a .to) (a .sp) (a .log) (a .scope) s cs es (q .known .1) (q .known .2 .scoped) room (front .result) (front .ensures .0) in
-    omega (arith, i .1, length-words (a .scratch .now), c .before .before .before .before .before .before .before .before .before .before .before .good)
+add-lower-all-3 c = omega (arith, at-get2 (c .before .before .before .before .before .before), at-plain (c .before .before .before .before))
 
 lower-all-requires : tie.Need-lower-all-requires
-lower-all-requires c κs =
-    let a = c .before .before .before .before .before .before .before .before .before .before .before .args in
-    let ws = words (a .rule .now) in
-    let cs = words (a .counters .now) in
-    let s = words (a .scratch .now) in
-    let q = c .before .before .before .before .before .before .before .before .before .before .before .pre .0 in
-    let room = c .before .before .before .before .before .before .before .before .before .before .before .pre .1 .0 in
-    let sr = c .before .before .before .before .before .before .before .before .before .before .before .pre .1 .1 in
-    let v = c .before .before .before .before .before .before .before .get .result in
-    let isv : v ≡ getD ws (a .at + 1) 0 = c .before .before .before .before .before .before .before .get .ensures .is in
-    let w = c .before .before .before .before .before .before .get2 .result in
-    let isw : w ≡ getD ws (a .at + 2) 0 = c .before .before .before .before .before .before .get2 .ensures .is in
-    let es = args-of (q .sig) (q .known .2 .bound) ws (a .at) (a .to) (a .sp) (a .log) (a .scope) s cs (q .known .0) v w isv isw room in
-    let front = c .before .before .before .before .lower-plain in
-    let s0 = words (front .last .1 .1 .1 .1 .0) in
-    let hs : length s0 ≡ length s = length-words-kept (front .last .1 .1 .1 .1 .0) (a .scratch .now) (front .kept .1 .1 .1 .1 .0) in
-    plain-asks (q .sig) (q .known .2 .bound) ws (maxDepth - 1) (countOf w) (a .at) 3 (a .to) (a .sp) (a .log) (a .scope) s cs es (q .known .1) (q .known .2 .scoped) room (front .result) (front .ensures .0) sr s0 (front .ensures .1) (length s0) hs
+lower-all-requires c κs = args-ask (at-plain (c .before .before .before .before))
+
+abbrev args-plain : tie.After-lower-all → tie.After-lower-plain
+args-plain c = c .before .before .before .before .before
+
+at-args : (c : tie.After-lower-all)
+    → let a = c .lower-all in Argued (at-get2 (args-plain c .before .before)) (words (a .last .1 .1 .1 .1 .1 .1 .0)) (words (a .last .1 .1 .1 .1 .1 .0)) (a .result)
+at-args c =
+    let a = c .lower-all in
+    argued (at-plain (args-plain c)) (length-words-kept _ _ (a .kept .1 .1 .1 .1 .1 .1 .0)) (length-words-kept _ _ (a .kept .1 .1 .1 .1 .1 .0)) (a .ensures)
 
 same-length : tie.Need-same-length
 same-length c = search needs
@@ -242,337 +108,129 @@ same-length-2 : tie.Need-same-length-2
 same-length-2 c = search needs
 
 returns : tie.Need-returns
-returns c =
-    let a = c .before .before .before .before .before .before .before .before .before .before .before .before .before .before .before .before .before .before .args in
-    let ws = words (a .rule .now) in
-    let cs = words (a .counters .now) in
-    let s = words (a .scratch .now) in
-    let q = c .before .before .before .before .before .before .before .before .before .before .before .before .before .before .before .before .before .before .pre .0 in
-    let room = c .before .before .before .before .before .before .before .before .before .before .before .before .before .before .before .before .before .before .pre .1 .0 in
-    let sr = c .before .before .before .before .before .before .before .before .before .before .before .before .before .before .before .before .before .before .pre .1 .1 in
-    let v = c .before .before .before .before .before .before .before .before .before .before .before .before .before .before .get .result in
-    let isv : v ≡ getD ws (a .at + 1) 0 = c .before .before .before .before .before .before .before .before .before .before .before .before .before .before .get .ensures .is in
-    let w = c .before .before .before .before .before .before .before .before .before .before .before .before .before .get2 .result in
-    let isw : w ≡ getD ws (a .at + 2) 0 = c .before .before .before .before .before .before .before .before .before .before .before .before .before .get2 .ensures .is in
-    let front = c .before .before .before .before .before .before .before .before .before .before .before .lower-plain in
-    let s0 = words (front .last .1 .1 .1 .1 .0) in
-    let k = c .before .before .before .before .before .before .lower-all in
-    let s1 = words (k .last .1 .1 .1 .1 .1 .1 .0) in
-    let cs1 = words (k .last .1 .1 .1 .1 .1 .0) in
-    let hc : length cs1 ≡ length cs = length-words-kept (k .last .1 .1 .1 .1 .1 .0) (a .counters .now) (k .kept .1 .1 .1 .1 .1 .0) in
-    let hs : length s1 ≡ length s = length-words-kept (k .last .1 .1 .1 .1 .1 .1 .0) (a .scratch .now) (k .kept .1 .1 .1 .1 .1 .1 .0 ∙ front .kept .1 .1 .1 .1 .0) in
-    λ sig x bound n sc. name-stop sig bound ws (a .at) (a .to) (a .sp) (a .log) (a .scope) s cs x v w isv isw room s1 cs1 (k .result) (plain-walk sig bound ws (maxDepth - 1) (countOf w) (a .at) 3 (a .to) (a .sp) (a .log) (a .scope) s cs (args-of sig bound ws (a .at) (a .to) (a .sp) (a .log) (a .scope) s cs x v w isv isw room) n sc room (front .result) (front .ensures .0) sr s0 (front .ensures .1) s1 cs1 (k .result) (λ y t. k .ensures sig y bound n t)) _ refl (c .if1 .taken)
+returns c = args-refused (at-args (c .before .before .before .before .before .before)) (c .if1 .taken)
+
+-- ---- the arguments are fine
+
+abbrev else-args : tie.Else1 → tie.After-lower-all
+else-args c = c .before .before .before .before .before .before
+
+at-else : (c : tie.Else1) → Fine (at-args (else-args c))
+at-else c = is-fine (at-args (else-args c)) (c .if1 .left)
 
 may-read-requires : tie.Need-may-read-requires
-may-read-requires c κs =
-    let a = c .before .before .before .before .before .before .before .before .before .before .before .before .before .before .before .before .before .before .before .args in
-    let ws = words (a .rule .now) in
-    let cs = words (a .counters .now) in
-    let s = words (a .scratch .now) in
-    let q = c .before .before .before .before .before .before .before .before .before .before .before .before .before .before .before .before .before .before .before .pre .0 in
-    let room = c .before .before .before .before .before .before .before .before .before .before .before .before .before .before .before .before .before .before .before .pre .1 .0 in
-    let sr = c .before .before .before .before .before .before .before .before .before .before .before .before .before .before .before .before .before .before .before .pre .1 .1 in
-    let x = q .known .0 in
-    let i = x .exprs .inside in
-    let front = c .before .before .before .before .before .before .before .before .before .before .before .before .lower-plain in
-    let s0 = words (front .last .1 .1 .1 .1 .0) in
-    let k = c .before .before .before .before .before .before .before .lower-all in
-    let s1 = words (k .last .1 .1 .1 .1 .1 .1 .0) in
-    let cs1 = words (k .last .1 .1 .1 .1 .1 .0) in
-    let hc : length cs1 ≡ length cs = length-words-kept (k .last .1 .1 .1 .1 .1 .0) (a .counters .now) (k .kept .1 .1 .1 .1 .1 .0) in
-    let hs : length s1 ≡ length s = length-words-kept (k .last .1 .1 .1 .1 .1 .1 .0) (a .scratch .now) (k .kept .1 .1 .1 .1 .1 .1 .0 ∙ front .kept .1 .1 .1 .1 .0) in
-    let f : ScopeFits s (a .scope) = scope-fits sr room (omega arith) in
-    record { few = f .few; body = omega (arith, f .body, hs); names = omega (arith, f .names, hs) }
+may-read-requires c κs = at-else (c .before) .scope
 
 add-put : tie.Need-add-put
-add-put c =
-    let a = c .before .before .before .before .before .before .before .before .before .before .before .before .before .before .before .before .before .before .before .before .before .before .args in
-    let ws = words (a .rule .now) in
-    let cs = words (a .counters .now) in
-    let s = words (a .scratch .now) in
-    let q = c .before .before .before .before .before .before .before .before .before .before .before .before .before .before .before .before .before .before .before .before .before .before .pre .0 in
-    let room = c .before .before .before .before .before .before .before .before .before .before .before .before .before .before .before .before .before .before .before .before .before .before .pre .1 .0 in
-    let sr = c .before .before .before .before .before .before .before .before .before .before .before .before .before .before .before .before .before .before .before .before .before .before .pre .1 .1 in
-    let v = c .before .before .before .before .before .before .before .before .before .before .before .before .before .before .before .before .before .before .get .result in
-    let isv : v ≡ getD ws (a .at + 1) 0 = c .before .before .before .before .before .before .before .before .before .before .before .before .before .before .before .before .before .before .get .ensures .is in
-    let w = c .before .before .before .before .before .before .before .before .before .before .before .before .before .before .before .before .before .get2 .result in
-    let isw : w ≡ getD ws (a .at + 2) 0 = c .before .before .before .before .before .before .before .before .before .before .before .before .before .before .before .before .before .get2 .ensures .is in
-    let front = c .before .before .before .before .before .before .before .before .before .before .before .before .before .before .before .lower-plain in
-    let s0 = words (front .last .1 .1 .1 .1 .0) in
-    let k = c .before .before .before .before .before .before .before .before .before .before .lower-all in
-    let s1 = words (k .last .1 .1 .1 .1 .1 .1 .0) in
-    let cs1 = words (k .last .1 .1 .1 .1 .1 .0) in
-    let hc : length cs1 ≡ length cs = length-words-kept (k .last .1 .1 .1 .1 .1 .0) (a .counters .now) (k .kept .1 .1 .1 .1 .1 .0) in
-    let hs : length s1 ≡ length s = length-words-kept (k .last .1 .1 .1 .1 .1 .1 .0) (a .scratch .now) (k .kept .1 .1 .1 .1 .1 .1 .0 ∙ front .kept .1 .1 .1 .1 .0) in
-    let r = name-room (q .sig) (q .known .2 .bound) ws (a .at) (a .to) (a .sp) (a .log) (a .scope) s cs (q .known .0) v w isv isw room s1 cs1 (k .result) (plain-walk (q .sig) (q .known .2 .bound) ws (maxDepth - 1) (countOf w) (a .at) 3 (a .to) (a .sp) (a .log) (a .scope) s cs (args-of (q .sig) (q .known .2 .bound) ws (a .at) (a .to) (a .sp) (a .log) (a .scope) s cs (q .known .0) v w isv isw room) (q .known .1) (q .known .2 .scoped) room (front .result) (front .ensures .0) sr s0 (front .ensures .1) s1 cs1 (k .result) (λ y t. k .ensures (q .sig) y (q .known .2 .bound) (q .known .1) t)) (c .before .before .before .before .if1 .left) (length s1) hs in
-    omega (arith, r .top, hs, length-words (a .scratch .now), c .before .before .before .before .before .before .before .before .before .before .before .before .before .before .before .before .before .before .before .before .before .before .good)
+add-put c = omega (arith, at-else (c .before .before .before .before))
 
 put-requires : tie.Need-put-requires
-put-requires c κs =
-    let a = c .before .before .before .before .before .before .before .before .before .before .before .before .before .before .before .before .before .before .before .before .before .before .args in
-    let ws = words (a .rule .now) in
-    let cs = words (a .counters .now) in
-    let s = words (a .scratch .now) in
-    let q = c .before .before .before .before .before .before .before .before .before .before .before .before .before .before .before .before .before .before .before .before .before .before .pre .0 in
-    let room = c .before .before .before .before .before .before .before .before .before .before .before .before .before .before .before .before .before .before .before .before .before .before .pre .1 .0 in
-    let sr = c .before .before .before .before .before .before .before .before .before .before .before .before .before .before .before .before .before .before .before .before .before .before .pre .1 .1 in
-    let v = c .before .before .before .before .before .before .before .before .before .before .before .before .before .before .before .before .before .before .get .result in
-    let isv : v ≡ getD ws (a .at + 1) 0 = c .before .before .before .before .before .before .before .before .before .before .before .before .before .before .before .before .before .before .get .ensures .is in
-    let w = c .before .before .before .before .before .before .before .before .before .before .before .before .before .before .before .before .before .get2 .result in
-    let isw : w ≡ getD ws (a .at + 2) 0 = c .before .before .before .before .before .before .before .before .before .before .before .before .before .before .before .before .before .get2 .ensures .is in
-    let front = c .before .before .before .before .before .before .before .before .before .before .before .before .before .before .before .lower-plain in
-    let s0 = words (front .last .1 .1 .1 .1 .0) in
-    let k = c .before .before .before .before .before .before .before .before .before .before .lower-all in
-    let s1 = words (k .last .1 .1 .1 .1 .1 .1 .0) in
-    let cs1 = words (k .last .1 .1 .1 .1 .1 .0) in
-    let hc : length cs1 ≡ length cs = length-words-kept (k .last .1 .1 .1 .1 .1 .0) (a .counters .now) (k .kept .1 .1 .1 .1 .1 .0) in
-    let hs : length s1 ≡ length s = length-words-kept (k .last .1 .1 .1 .1 .1 .1 .0) (a .scratch .now) (k .kept .1 .1 .1 .1 .1 .1 .0 ∙ front .kept .1 .1 .1 .1 .0) in
-    let r = name-room (q .sig) (q .known .2 .bound) ws (a .at) (a .to) (a .sp) (a .log) (a .scope) s cs (q .known .0) v w isv isw room s1 cs1 (k .result) (plain-walk (q .sig) (q .known .2 .bound) ws (maxDepth - 1) (countOf w) (a .at) 3 (a .to) (a .sp) (a .log) (a .scope) s cs (args-of (q .sig) (q .known .2 .bound) ws (a .at) (a .to) (a .sp) (a .log) (a .scope) s cs (q .known .0) v w isv isw room) (q .known .1) (q .known .2 .scoped) room (front .result) (front .ensures .0) sr s0 (front .ensures .1) s1 cs1 (k .result) (λ y t. k .ensures (q .sig) y (q .known .2 .bound) (q .known .1) t)) (c .before .before .before .before .if1 .left) (length s1) hs in
-    r .top
+put-requires c κs = at-else (c .before .before .before .before) .top
+
+-- back from where the name is put to where it may be read, and to where the arguments are fine
+abbrev put-then : tie.After-put → tie.Then2
+put-then c = c .before .before
+
+abbrev then-else : tie.Then2 → tie.Else1
+then-else c = c .before .before .before
+
+at-put : (c : tie.After-put) → length (words (c .put .last .0)) ≡ length (words (else-args (then-else (put-then c)) .lower-all .last .1 .1 .1 .1 .1 .1 .0))
+at-put c = length-words-kept _ _ (c .put .kept .0)
 
 take-requires : tie.Need-take-requires
 take-requires c κs =
-    let a = c .before .before .before .before .before .before .before .before .before .before .before .before .before .before .before .before .before .before .before .before .before .before .before .before .before .before .before .args in
-    let ws = words (a .rule .now) in
-    let cs = words (a .counters .now) in
-    let s = words (a .scratch .now) in
-    let q = c .before .before .before .before .before .before .before .before .before .before .before .before .before .before .before .before .before .before .before .before .before .before .before .before .before .before .before .pre .0 in
-    let room = c .before .before .before .before .before .before .before .before .before .before .before .before .before .before .before .before .before .before .before .before .before .before .before .before .before .before .before .pre .1 .0 in
-    let sr = c .before .before .before .before .before .before .before .before .before .before .before .before .before .before .before .before .before .before .before .before .before .before .before .before .before .before .before .pre .1 .1 in
-    let v = c .before .before .before .before .before .before .before .before .before .before .before .before .before .before .before .before .before .before .before .before .before .before .before .get .result in
-    let isv : v ≡ getD ws (a .at + 1) 0 = c .before .before .before .before .before .before .before .before .before .before .before .before .before .before .before .before .before .before .before .before .before .before .before .get .ensures .is in
-    let w = c .before .before .before .before .before .before .before .before .before .before .before .before .before .before .before .before .before .before .before .before .before .before .get2 .result in
-    let isw : w ≡ getD ws (a .at + 2) 0 = c .before .before .before .before .before .before .before .before .before .before .before .before .before .before .before .before .before .before .before .before .before .before .get2 .ensures .is in
-    let front = c .before .before .before .before .before .before .before .before .before .before .before .before .before .before .before .before .before .before .before .before .lower-plain in
-    let s0 = words (front .last .1 .1 .1 .1 .0) in
-    let k = c .before .before .before .before .before .before .before .before .before .before .before .before .before .before .before .lower-all in
-    let s1 = words (k .last .1 .1 .1 .1 .1 .1 .0) in
-    let cs1 = words (k .last .1 .1 .1 .1 .1 .0) in
-    let hc : length cs1 ≡ length cs = length-words-kept (k .last .1 .1 .1 .1 .1 .0) (a .counters .now) (k .kept .1 .1 .1 .1 .1 .0) in
-    let hs : length s1 ≡ length s = length-words-kept (k .last .1 .1 .1 .1 .1 .1 .0) (a .scratch .now) (k .kept .1 .1 .1 .1 .1 .1 .0 ∙ front .kept .1 .1 .1 .1 .0) in
-    let r = name-room (q .sig) (q .known .2 .bound) ws (a .at) (a .to) (a .sp) (a .log) (a .scope) s cs (q .known .0) v w isv isw room s1 cs1 (k .result) (plain-walk (q .sig) (q .known .2 .bound) ws (maxDepth - 1) (countOf w) (a .at) 3 (a .to) (a .sp) (a .log) (a .scope) s cs (args-of (q .sig) (q .known .2 .bound) ws (a .at) (a .to) (a .sp) (a .log) (a .scope) s cs (q .known .0) v w isv isw room) (q .known .1) (q .known .2 .scoped) room (front .result) (front .ensures .0) sr s0 (front .ensures .1) s1 cs1 (k .result) (λ y t. k .ensures (q .sig) y (q .known .2 .bound) (q .known .1) t)) (c .before .before .before .before .before .before .before .before .before .if1 .left) (length s1) hs in
-    let few = q .known .1 .few in
-    let fits = q .known .1 .fits in
-    let h : headOf w < heads (q .sig) = subst (λ (u : ℕ). headOf u < heads (q .sig)) (sym isw) (q .known .0 .head) in
-    (omega arith, omega arith, omega (arith, r .log, length-words-kept (c .before .before .before .before .put .last .0) (k .last .1 .1 .1 .1 .1 .1 .0) (c .before .before .before .before .put .kept .0)))
+    let p = c .before .before .before .before in
+    let f = at-else (then-else (put-then p)) in
+    (f .head, f .counter, omega (arith, f .log, at-put p))
+
+-- ---- a fresh variable is taken
+
+abbrev take-put : tie.After-take → tie.After-put
+take-put c = c .before .before .before .before .before
+
+abbrev take-else : tie.After-take → tie.Else1
+take-else c = then-else (put-then (take-put c))
+
+at-take : (c : tie.After-take) → Used (at-args (else-args (take-else c))) (words (c .take .last .1 .0)) (words (c .take .last .0)) (c .take .result)
+at-take c =
+    let p = take-put c .put in
+    let t = c .take in
+    record {
+      s2 = words (p .last .0);
+      push = p .ensures;
+      taken = t .ensures;
+      size = length-words-kept _ _ (t .kept .1 .0 ∙ p .kept .0);
+      counters = length-words-kept _ _ (t .kept .0);
+    }
+
+-- both slices are as long as at the start
+abbrev start : tie.After-take → tie.Start
+start c = let g = args-plain (else-args (take-else c)) .before .before in g .before .before .before .before .before
+
+counters-kept : (c : tie.After-take) → length (c .take .last .0) ≡ length (start c .args .counters .now)
+counters-kept c = c .take .kept .0 ∙ else-args (take-else c) .lower-all .kept .1 .1 .1 .1 .1 .0
+
+scratch-kept : (c : tie.After-take) → length (c .take .last .1 .0) ≡ length (start c .args .scratch .now)
+scratch-kept c =
+    let a = else-args (take-else c) in
+    c .take .kept .1 .0 ∙ take-put c .put .kept .0 ∙ a .lower-all .kept .1 .1 .1 .1 .1 .1 .0 ∙ args-plain a .lower-plain .kept .1 .1 .1 .1 .0
+
+-- ---- none is left
 
 add-t42 : tie.Need-add-t42
-add-t42 c =
-    let a = c .before .before .before .before .before .before .before .before .before .before .before .before .before .before .before .before .before .before .before .before .before .before .before .before .before .before .before .before .before .before .before .before .before .args in
-    let ws = words (a .rule .now) in
-    let cs = words (a .counters .now) in
-    let s = words (a .scratch .now) in
-    let q = c .before .before .before .before .before .before .before .before .before .before .before .before .before .before .before .before .before .before .before .before .before .before .before .before .before .before .before .before .before .before .before .before .before .pre .0 in
-    let room = c .before .before .before .before .before .before .before .before .before .before .before .before .before .before .before .before .before .before .before .before .before .before .before .before .before .before .before .before .before .before .before .before .before .pre .1 .0 in
-    let sr = c .before .before .before .before .before .before .before .before .before .before .before .before .before .before .before .before .before .before .before .before .before .before .before .before .before .before .before .before .before .before .before .before .before .pre .1 .1 in
-    let x = q .known .0 in
-    let i = x .exprs .inside in
-    omega (arith, length-words (a .rule .now), c .before .before .before .before .before .before .before .before .before .before .before .before .before .before .before .before .before .before .before .before .before .before .before .before .before .before .before .before .before .before .before .before .before .good)
+add-t42 c = omega (arith, at-else (take-else (c .before .before .before .before .before)))
 
 same-length-3 : tie.Need-same-length-3
-same-length-3 c = c .before .before .before .before .before .take .kept .0 ∙ c .before .before .before .before .before .before .before .before .before .before .before .before .before .before .before .before .before .before .before .before .before .lower-all .kept .1 .1 .1 .1 .1 .0
+same-length-3 c = counters-kept (c .before .before .before .before .before)
 
 same-length-4 : tie.Need-same-length-4
-same-length-4 c = c .before .before .before .before .before .take .kept .1 .0 ∙ c .before .before .before .before .before .before .before .before .before .before .put .kept .0 ∙ c .before .before .before .before .before .before .before .before .before .before .before .before .before .before .before .before .before .before .before .before .before .lower-all .kept .1 .1 .1 .1 .1 .1 .0 ∙ c .before .before .before .before .before .before .before .before .before .before .before .before .before .before .before .before .before .before .before .before .before .before .before .before .before .before .lower-plain .kept .1 .1 .1 .1 .0
+same-length-4 c = scratch-kept (c .before .before .before .before .before)
 
 returns-2 : tie.Need-returns-2
 returns-2 c =
-    let a = c .before .before .before .before .before .before .before .before .before .before .before .before .before .before .before .before .before .before .before .before .before .before .before .before .before .before .before .before .before .before .before .before .before .args in
-    let ws = words (a .rule .now) in
-    let cs = words (a .counters .now) in
-    let s = words (a .scratch .now) in
-    let q = c .before .before .before .before .before .before .before .before .before .before .before .before .before .before .before .before .before .before .before .before .before .before .before .before .before .before .before .before .before .before .before .before .before .pre .0 in
-    let room = c .before .before .before .before .before .before .before .before .before .before .before .before .before .before .before .before .before .before .before .before .before .before .before .before .before .before .before .before .before .before .before .before .before .pre .1 .0 in
-    let sr = c .before .before .before .before .before .before .before .before .before .before .before .before .before .before .before .before .before .before .before .before .before .before .before .before .before .before .before .before .before .before .before .before .before .pre .1 .1 in
-    let v = c .before .before .before .before .before .before .before .before .before .before .before .before .before .before .before .before .before .before .before .before .before .before .before .before .before .before .before .before .before .get .result in
-    let isv : v ≡ getD ws (a .at + 1) 0 = c .before .before .before .before .before .before .before .before .before .before .before .before .before .before .before .before .before .before .before .before .before .before .before .before .before .before .before .before .before .get .ensures .is in
-    let w = c .before .before .before .before .before .before .before .before .before .before .before .before .before .before .before .before .before .before .before .before .before .before .before .before .before .before .before .before .get2 .result in
-    let isw : w ≡ getD ws (a .at + 2) 0 = c .before .before .before .before .before .before .before .before .before .before .before .before .before .before .before .before .before .before .before .before .before .before .before .before .before .before .before .before .get2 .ensures .is in
-    let front = c .before .before .before .before .before .before .before .before .before .before .before .before .before .before .before .before .before .before .before .before .before .before .before .before .before .before .lower-plain in
-    let s0 = words (front .last .1 .1 .1 .1 .0) in
-    let k = c .before .before .before .before .before .before .before .before .before .before .before .before .before .before .before .before .before .before .before .before .before .lower-all in
-    let s1 = words (k .last .1 .1 .1 .1 .1 .1 .0) in
-    let cs1 = words (k .last .1 .1 .1 .1 .1 .0) in
-    let hc : length cs1 ≡ length cs = length-words-kept (k .last .1 .1 .1 .1 .1 .0) (a .counters .now) (k .kept .1 .1 .1 .1 .1 .0) in
-    let hs : length s1 ≡ length s = length-words-kept (k .last .1 .1 .1 .1 .1 .1 .0) (a .scratch .now) (k .kept .1 .1 .1 .1 .1 .1 .0 ∙ front .kept .1 .1 .1 .1 .0) in
-    let p = c .before .before .before .before .before .before .before .before .before .before .put in
-    let t = c .before .before .before .before .before .take in
-    let s2 = words (p .last .0) in
-    let s3 = words (t .last .1 .0) in
-    let cs2 = words (t .last .0) in
-    let hc2 : length cs2 ≡ length cs1 = length-words-kept (t .last .0) _ (t .kept .0) in
-    let hs3 : length s3 ≡ length s = length-words-kept (t .last .1 .0) _ (t .kept .1 .0) ∙ length-words-kept (p .last .0) _ (p .kept .0) ∙ hs in
-    λ sig x bound n sc. name-full sig bound ws (a .at) (a .to) (a .sp) (a .log) (a .scope) s cs x v w isv isw room s1 cs1 (k .result) (plain-walk sig bound ws (maxDepth - 1) (countOf w) (a .at) 3 (a .to) (a .sp) (a .log) (a .scope) s cs (args-of sig bound ws (a .at) (a .to) (a .sp) (a .log) (a .scope) s cs x v w isv isw room) n sc room (front .result) (front .ensures .0) sr s0 (front .ensures .1) s1 cs1 (k .result) (λ y t. k .ensures sig y bound n t)) (c .before .before .before .before .before .before .before .before .before .before .before .before .before .before .before .if1 .left) (c .before .before .before .before .before .before .before .before .before .before .before .before .before .may-read .result) (c .before .before .before .before .before .before .before .before .before .before .before .before .before .may-read .ensures sig bound (name-scope sig bound ws (a .at) (a .to) (a .sp) (a .log) (a .scope) s cs x v w isv isw room s1 cs1 (k .result) (plain-walk sig bound ws (maxDepth - 1) (countOf w) (a .at) 3 (a .to) (a .sp) (a .log) (a .scope) s cs (args-of sig bound ws (a .at) (a .to) (a .sp) (a .log) (a .scope) s cs x v w isv isw room) n sc room (front .result) (front .ensures .0) sr s0 (front .ensures .1) s1 cs1 (k .result) (λ y t. k .ensures sig y bound n t)) (c .before .before .before .before .before .before .before .before .before .before .before .before .before .before .before .if1 .left) sr sc)) (c .before .before .before .before .before .before .before .before .before .before .before .before .if2 .taken) s2 (p .ensures) (t .result) s3 cs2 (t .ensures) _ (c .if3 .taken) refl
+    let t = c .before .before .before .before .before in
+    let d = put-then (take-put t) in
+    used-up (at-else (then-else d)) (d .before .may-read .ensures) (d .if2 .taken) (at-take t) (c .if3 .taken)
+
+-- ---- the set is written
+
+abbrev else-take : tie.Else3 → tie.After-take
+else-take c = c .before .before .before .before .before
 
 add-put-terms : tie.Need-add-put-terms
-add-put-terms c =
-    let a = c .before .before .before .before .before .before .before .before .before .before .before .before .before .before .before .before .before .before .before .before .before .before .before .before .before .before .before .before .before .before .before .before .before .before .args in
-    let ws = words (a .rule .now) in
-    let cs = words (a .counters .now) in
-    let s = words (a .scratch .now) in
-    let q = c .before .before .before .before .before .before .before .before .before .before .before .before .before .before .before .before .before .before .before .before .before .before .before .before .before .before .before .before .before .before .before .before .before .before .pre .0 in
-    let room = c .before .before .before .before .before .before .before .before .before .before .before .before .before .before .before .before .before .before .before .before .before .before .before .before .before .before .before .before .before .before .before .before .before .before .pre .1 .0 in
-    let sr = c .before .before .before .before .before .before .before .before .before .before .before .before .before .before .before .before .before .before .before .before .before .before .before .before .before .before .before .before .before .before .before .before .before .before .pre .1 .1 in
-    let v = c .before .before .before .before .before .before .before .before .before .before .before .before .before .before .before .before .before .before .before .before .before .before .before .before .before .before .before .before .before .before .get .result in
-    let isv : v ≡ getD ws (a .at + 1) 0 = c .before .before .before .before .before .before .before .before .before .before .before .before .before .before .before .before .before .before .before .before .before .before .before .before .before .before .before .before .before .before .get .ensures .is in
-    let w = c .before .before .before .before .before .before .before .before .before .before .before .before .before .before .before .before .before .before .before .before .before .before .before .before .before .before .before .before .before .get2 .result in
-    let isw : w ≡ getD ws (a .at + 2) 0 = c .before .before .before .before .before .before .before .before .before .before .before .before .before .before .before .before .before .before .before .before .before .before .before .before .before .before .before .before .before .get2 .ensures .is in
-    let front = c .before .before .before .before .before .before .before .before .before .before .before .before .before .before .before .before .before .before .before .before .before .before .before .before .before .before .before .lower-plain in
-    let s0 = words (front .last .1 .1 .1 .1 .0) in
-    let k = c .before .before .before .before .before .before .before .before .before .before .before .before .before .before .before .before .before .before .before .before .before .before .lower-all in
-    let s1 = words (k .last .1 .1 .1 .1 .1 .1 .0) in
-    let cs1 = words (k .last .1 .1 .1 .1 .1 .0) in
-    let hc : length cs1 ≡ length cs = length-words-kept (k .last .1 .1 .1 .1 .1 .0) (a .counters .now) (k .kept .1 .1 .1 .1 .1 .0) in
-    let hs : length s1 ≡ length s = length-words-kept (k .last .1 .1 .1 .1 .1 .1 .0) (a .scratch .now) (k .kept .1 .1 .1 .1 .1 .1 .0 ∙ front .kept .1 .1 .1 .1 .0) in
-    let r = name-room (q .sig) (q .known .2 .bound) ws (a .at) (a .to) (a .sp) (a .log) (a .scope) s cs (q .known .0) v w isv isw room s1 cs1 (k .result) (plain-walk (q .sig) (q .known .2 .bound) ws (maxDepth - 1) (countOf w) (a .at) 3 (a .to) (a .sp) (a .log) (a .scope) s cs (args-of (q .sig) (q .known .2 .bound) ws (a .at) (a .to) (a .sp) (a .log) (a .scope) s cs (q .known .0) v w isv isw room) (q .known .1) (q .known .2 .scoped) room (front .result) (front .ensures .0) sr s0 (front .ensures .1) s1 cs1 (k .result) (λ y t. k .ensures (q .sig) y (q .known .2 .bound) (q .known .1) t)) (c .before .before .before .before .before .before .before .before .before .before .before .before .before .before .before .before .if1 .left) (length s1) hs in
-    omega (arith, r .top, hs, length-words (a .scratch .now), c .before .before .before .before .before .before .before .before .before .before .before .before .before .before .before .before .before .before .before .before .before .before .before .before .before .before .before .before .before .before .before .before .before .before .good)
+add-put-terms c = omega (arith, at-else (take-else (else-take (c .before))))
 
 put-terms-requires : tie.Need-put-terms-requires
 put-terms-requires c κs =
-    let a = c .before .before .before .before .before .before .before .before .before .before .before .before .before .before .before .before .before .before .before .before .before .before .before .before .before .before .before .before .before .before .before .before .before .before .args in
-    let ws = words (a .rule .now) in
-    let cs = words (a .counters .now) in
-    let s = words (a .scratch .now) in
-    let q = c .before .before .before .before .before .before .before .before .before .before .before .before .before .before .before .before .before .before .before .before .before .before .before .before .before .before .before .before .before .before .before .before .before .before .pre .0 in
-    let room = c .before .before .before .before .before .before .before .before .before .before .before .before .before .before .before .before .before .before .before .before .before .before .before .before .before .before .before .before .before .before .before .before .before .before .pre .1 .0 in
-    let sr = c .before .before .before .before .before .before .before .before .before .before .before .before .before .before .before .before .before .before .before .before .before .before .before .before .before .before .before .before .before .before .before .before .before .before .pre .1 .1 in
-    let v = c .before .before .before .before .before .before .before .before .before .before .before .before .before .before .before .before .before .before .before .before .before .before .before .before .before .before .before .before .before .before .get .result in
-    let isv : v ≡ getD ws (a .at + 1) 0 = c .before .before .before .before .before .before .before .before .before .before .before .before .before .before .before .before .before .before .before .before .before .before .before .before .before .before .before .before .before .before .get .ensures .is in
-    let w = c .before .before .before .before .before .before .before .before .before .before .before .before .before .before .before .before .before .before .before .before .before .before .before .before .before .before .before .before .before .get2 .result in
-    let isw : w ≡ getD ws (a .at + 2) 0 = c .before .before .before .before .before .before .before .before .before .before .before .before .before .before .before .before .before .before .before .before .before .before .before .before .before .before .before .before .before .get2 .ensures .is in
-    let front = c .before .before .before .before .before .before .before .before .before .before .before .before .before .before .before .before .before .before .before .before .before .before .before .before .before .before .before .lower-plain in
-    let s0 = words (front .last .1 .1 .1 .1 .0) in
-    let k = c .before .before .before .before .before .before .before .before .before .before .before .before .before .before .before .before .before .before .before .before .before .before .lower-all in
-    let s1 = words (k .last .1 .1 .1 .1 .1 .1 .0) in
-    let cs1 = words (k .last .1 .1 .1 .1 .1 .0) in
-    let hc : length cs1 ≡ length cs = length-words-kept (k .last .1 .1 .1 .1 .1 .0) (a .counters .now) (k .kept .1 .1 .1 .1 .1 .0) in
-    let hs : length s1 ≡ length s = length-words-kept (k .last .1 .1 .1 .1 .1 .1 .0) (a .scratch .now) (k .kept .1 .1 .1 .1 .1 .1 .0 ∙ front .kept .1 .1 .1 .1 .0) in
-    let p = c .before .before .before .before .before .before .before .before .before .before .before .put in
-    let t = c .before .before .before .before .before .before .take in
-    let s2 = words (p .last .0) in
-    let s3 = words (t .last .1 .0) in
-    let cs2 = words (t .last .0) in
-    let hc2 : length cs2 ≡ length cs1 = length-words-kept (t .last .0) _ (t .kept .0) in
-    let hs3 : length s3 ≡ length s = length-words-kept (t .last .1 .0) _ (t .kept .1 .0) ∙ length-words-kept (p .last .0) _ (p .kept .0) ∙ hs in
-    let r = name-room (q .sig) (q .known .2 .bound) ws (a .at) (a .to) (a .sp) (a .log) (a .scope) s cs (q .known .0) v w isv isw room s1 cs1 (k .result) (plain-walk (q .sig) (q .known .2 .bound) ws (maxDepth - 1) (countOf w) (a .at) 3 (a .to) (a .sp) (a .log) (a .scope) s cs (args-of (q .sig) (q .known .2 .bound) ws (a .at) (a .to) (a .sp) (a .log) (a .scope) s cs (q .known .0) v w isv isw room) (q .known .1) (q .known .2 .scoped) room (front .result) (front .ensures .0) sr s0 (front .ensures .1) s1 cs1 (k .result) (λ y t. k .ensures (q .sig) y (q .known .2 .bound) (q .known .1) t)) (c .before .before .before .before .before .before .before .before .before .before .before .before .before .before .before .before .if1 .left) (length s3) hs3 in
-    (r .words, r .terms)
+    let f = at-else (take-else (else-take (c .before))) in
+    (f .words, omega (arith, f .top, at-take (else-take (c .before)) .size))
 
 add-t36 : tie.Need-add-t36
-add-t36 c =
-    let a = c .before .before .before .before .before .before .before .before .before .before .before .before .before .before .before .before .before .before .before .before .before .before .before .before .before .before .before .before .before .before .before .before .before .before .before .before .before .before .args in
-    let ws = words (a .rule .now) in
-    let cs = words (a .counters .now) in
-    let s = words (a .scratch .now) in
-    let q = c .before .before .before .before .before .before .before .before .before .before .before .before .before .before .before .before .before .before .before .before .before .before .before .before .before .before .before .before .before .before .before .before .before .before .before .before .before .before .pre .0 in
-    let room = c .before .before .before .before .before .before .before .before .before .before .before .before .before .before .before .before .before .before .before .before .before .before .before .before .before .before .before .before .before .before .before .before .before .before .before .before .before .before .pre .1 .0 in
-    let sr = c .before .before .before .before .before .before .before .before .before .before .before .before .before .before .before .before .before .before .before .before .before .before .before .before .before .before .before .before .before .before .before .before .before .before .before .before .before .before .pre .1 .1 in
-    let v = c .before .before .before .before .before .before .before .before .before .before .before .before .before .before .before .before .before .before .before .before .before .before .before .before .before .before .before .before .before .before .before .before .before .before .get .result in
-    let isv : v ≡ getD ws (a .at + 1) 0 = c .before .before .before .before .before .before .before .before .before .before .before .before .before .before .before .before .before .before .before .before .before .before .before .before .before .before .before .before .before .before .before .before .before .before .get .ensures .is in
-    let w = c .before .before .before .before .before .before .before .before .before .before .before .before .before .before .before .before .before .before .before .before .before .before .before .before .before .before .before .before .before .before .before .before .before .get2 .result in
-    let isw : w ≡ getD ws (a .at + 2) 0 = c .before .before .before .before .before .before .before .before .before .before .before .before .before .before .before .before .before .before .before .before .before .before .before .before .before .before .before .before .before .before .before .before .before .get2 .ensures .is in
-    let front = c .before .before .before .before .before .before .before .before .before .before .before .before .before .before .before .before .before .before .before .before .before .before .before .before .before .before .before .before .before .before .before .lower-plain in
-    let s0 = words (front .last .1 .1 .1 .1 .0) in
-    let k = c .before .before .before .before .before .before .before .before .before .before .before .before .before .before .before .before .before .before .before .before .before .before .before .before .before .before .lower-all in
-    let s1 = words (k .last .1 .1 .1 .1 .1 .1 .0) in
-    let cs1 = words (k .last .1 .1 .1 .1 .1 .0) in
-    let hc : length cs1 ≡ length cs = length-words-kept (k .last .1 .1 .1 .1 .1 .0) (a .counters .now) (k .kept .1 .1 .1 .1 .1 .0) in
-    let hs : length s1 ≡ length s = length-words-kept (k .last .1 .1 .1 .1 .1 .1 .0) (a .scratch .now) (k .kept .1 .1 .1 .1 .1 .1 .0 ∙ front .kept .1 .1 .1 .1 .0) in
-    let r = name-room (q .sig) (q .known .2 .bound) ws (a .at) (a .to) (a .sp) (a .log) (a .scope) s cs (q .known .0) v w isv isw room s1 cs1 (k .result) (plain-walk (q .sig) (q .known .2 .bound) ws (maxDepth - 1) (countOf w) (a .at) 3 (a .to) (a .sp) (a .log) (a .scope) s cs (args-of (q .sig) (q .known .2 .bound) ws (a .at) (a .to) (a .sp) (a .log) (a .scope) s cs (q .known .0) v w isv isw room) (q .known .1) (q .known .2 .scoped) room (front .result) (front .ensures .0) sr s0 (front .ensures .1) s1 cs1 (k .result) (λ y t. k .ensures (q .sig) y (q .known .2 .bound) (q .known .1) t)) (c .before .before .before .before .before .before .before .before .before .before .before .before .before .before .before .before .before .before .before .before .if1 .left) (length s1) hs in
-    omega (arith, r .log, hs, length-words (a .scratch .now), c .before .before .before .before .before .before .before .before .before .before .before .before .before .before .before .before .before .before .before .before .before .before .before .before .before .before .before .before .before .before .before .before .before .before .before .before .before .before .good)
+add-t36 c = omega (arith, at-else (take-else (else-take (c .before .before .before .before .before))))
 
 sub-t47 : tie.Need-sub-t47
-sub-t47 c =
-    let a = c .before .before .before .before .before .before .before .before .before .before .before .before .before .before .before .before .before .before .before .before .before .before .before .before .before .before .before .before .before .before .before .before .before .before .before .before .before .before .before .args in
-    let ws = words (a .rule .now) in
-    let cs = words (a .counters .now) in
-    let s = words (a .scratch .now) in
-    let q = c .before .before .before .before .before .before .before .before .before .before .before .before .before .before .before .before .before .before .before .before .before .before .before .before .before .before .before .before .before .before .before .before .before .before .before .before .before .before .before .pre .0 in
-    let room = c .before .before .before .before .before .before .before .before .before .before .before .before .before .before .before .before .before .before .before .before .before .before .before .before .before .before .before .before .before .before .before .before .before .before .before .before .before .before .before .pre .1 .0 in
-    let sr = c .before .before .before .before .before .before .before .before .before .before .before .before .before .before .before .before .before .before .before .before .before .before .before .before .before .before .before .before .before .before .before .before .before .before .before .before .before .before .before .pre .1 .1 in
-    let v = c .before .before .before .before .before .before .before .before .before .before .before .before .before .before .before .before .before .before .before .before .before .before .before .before .before .before .before .before .before .before .before .before .before .before .before .get .result in
-    let isv : v ≡ getD ws (a .at + 1) 0 = c .before .before .before .before .before .before .before .before .before .before .before .before .before .before .before .before .before .before .before .before .before .before .before .before .before .before .before .before .before .before .before .before .before .before .before .get .ensures .is in
-    let w = c .before .before .before .before .before .before .before .before .before .before .before .before .before .before .before .before .before .before .before .before .before .before .before .before .before .before .before .before .before .before .before .before .before .before .get2 .result in
-    let isw : w ≡ getD ws (a .at + 2) 0 = c .before .before .before .before .before .before .before .before .before .before .before .before .before .before .before .before .before .before .before .before .before .before .before .before .before .before .before .before .before .before .before .before .before .before .get2 .ensures .is in
-    let front = c .before .before .before .before .before .before .before .before .before .before .before .before .before .before .before .before .before .before .before .before .before .before .before .before .before .before .before .before .before .before .before .before .lower-plain in
-    let s0 = words (front .last .1 .1 .1 .1 .0) in
-    let k = c .before .before .before .before .before .before .before .before .before .before .before .before .before .before .before .before .before .before .before .before .before .before .before .before .before .before .before .lower-all in
-    let s1 = words (k .last .1 .1 .1 .1 .1 .1 .0) in
-    let cs1 = words (k .last .1 .1 .1 .1 .1 .0) in
-    let hc : length cs1 ≡ length cs = length-words-kept (k .last .1 .1 .1 .1 .1 .0) (a .counters .now) (k .kept .1 .1 .1 .1 .1 .0) in
-    let hs : length s1 ≡ length s = length-words-kept (k .last .1 .1 .1 .1 .1 .1 .0) (a .scratch .now) (k .kept .1 .1 .1 .1 .1 .1 .0 ∙ front .kept .1 .1 .1 .1 .0) in
-    let r = name-room (q .sig) (q .known .2 .bound) ws (a .at) (a .to) (a .sp) (a .log) (a .scope) s cs (q .known .0) v w isv isw room s1 cs1 (k .result) (plain-walk (q .sig) (q .known .2 .bound) ws (maxDepth - 1) (countOf w) (a .at) 3 (a .to) (a .sp) (a .log) (a .scope) s cs (args-of (q .sig) (q .known .2 .bound) ws (a .at) (a .to) (a .sp) (a .log) (a .scope) s cs (q .known .0) v w isv isw room) (q .known .1) (q .known .2 .scoped) room (front .result) (front .ensures .0) sr s0 (front .ensures .1) s1 cs1 (k .result) (λ y t. k .ensures (q .sig) y (q .known .2 .bound) (q .known .1) t)) (c .before .before .before .before .before .before .before .before .before .before .before .before .before .before .before .before .before .before .before .before .before .if1 .left) (length s1) hs in
-    r .logged
+sub-t47 c = at-else (take-else (else-take (c .before .before .before .before .before .before))) .logged
 
 add-t48 : tie.Need-add-t48
-add-t48 c =
-    let a = c .before .before .before .before .before .before .before .before .before .before .before .before .before .before .before .before .before .before .before .before .before .before .before .before .before .before .before .before .before .before .before .before .before .before .before .before .before .before .before .args in
-    let ws = words (a .rule .now) in
-    let cs = words (a .counters .now) in
-    let s = words (a .scratch .now) in
-    let q = c .before .before .before .before .before .before .before .before .before .before .before .before .before .before .before .before .before .before .before .before .before .before .before .before .before .before .before .before .before .before .before .before .before .before .before .before .before .before .before .pre .0 in
-    let room = c .before .before .before .before .before .before .before .before .before .before .before .before .before .before .before .before .before .before .before .before .before .before .before .before .before .before .before .before .before .before .before .before .before .before .before .before .before .before .before .pre .1 .0 in
-    let sr = c .before .before .before .before .before .before .before .before .before .before .before .before .before .before .before .before .before .before .before .before .before .before .before .before .before .before .before .before .before .before .before .before .before .before .before .before .before .before .before .pre .1 .1 in
-    let v = c .before .before .before .before .before .before .before .before .before .before .before .before .before .before .before .before .before .before .before .before .before .before .before .before .before .before .before .before .before .before .before .before .before .before .before .get .result in
-    let isv : v ≡ getD ws (a .at + 1) 0 = c .before .before .before .before .before .before .before .before .before .before .before .before .before .before .before .before .before .before .before .before .before .before .before .before .before .before .before .before .before .before .before .before .before .before .before .get .ensures .is in
-    let w = c .before .before .before .before .before .before .before .before .before .before .before .before .before .before .before .before .before .before .before .before .before .before .before .before .before .before .before .before .before .before .before .before .before .before .get2 .result in
-    let isw : w ≡ getD ws (a .at + 2) 0 = c .before .before .before .before .before .before .before .before .before .before .before .before .before .before .before .before .before .before .before .before .before .before .before .before .before .before .before .before .before .before .before .before .before .before .get2 .ensures .is in
-    let front = c .before .before .before .before .before .before .before .before .before .before .before .before .before .before .before .before .before .before .before .before .before .before .before .before .before .before .before .before .before .before .before .before .lower-plain in
-    let s0 = words (front .last .1 .1 .1 .1 .0) in
-    let k = c .before .before .before .before .before .before .before .before .before .before .before .before .before .before .before .before .before .before .before .before .before .before .before .before .before .before .before .lower-all in
-    let s1 = words (k .last .1 .1 .1 .1 .1 .1 .0) in
-    let cs1 = words (k .last .1 .1 .1 .1 .1 .0) in
-    let hc : length cs1 ≡ length cs = length-words-kept (k .last .1 .1 .1 .1 .1 .0) (a .counters .now) (k .kept .1 .1 .1 .1 .1 .0) in
-    let hs : length s1 ≡ length s = length-words-kept (k .last .1 .1 .1 .1 .1 .1 .0) (a .scratch .now) (k .kept .1 .1 .1 .1 .1 .1 .0 ∙ front .kept .1 .1 .1 .1 .0) in
-    let r = name-room (q .sig) (q .known .2 .bound) ws (a .at) (a .to) (a .sp) (a .log) (a .scope) s cs (q .known .0) v w isv isw room s1 cs1 (k .result) (plain-walk (q .sig) (q .known .2 .bound) ws (maxDepth - 1) (countOf w) (a .at) 3 (a .to) (a .sp) (a .log) (a .scope) s cs (args-of (q .sig) (q .known .2 .bound) ws (a .at) (a .to) (a .sp) (a .log) (a .scope) s cs (q .known .0) v w isv isw room) (q .known .1) (q .known .2 .scoped) room (front .result) (front .ensures .0) sr s0 (front .ensures .1) s1 cs1 (k .result) (λ y t. k .ensures (q .sig) y (q .known .2 .bound) (q .known .1) t)) (c .before .before .before .before .before .before .before .before .before .before .before .before .before .before .before .before .before .before .before .before .before .if1 .left) (length s1) hs in
-    omega (arith, r .log, hs, length-words (a .scratch .now), c .before .before .before .before .before .before .before .before .before .before .before .before .before .before .before .before .before .before .before .before .before .before .before .before .before .before .before .before .before .before .before .before .before .before .before .before .before .before .before .good)
+add-t48 c = omega (arith, at-else (take-else (else-take (c .before .before .before .before .before .before))))
 
 same-length-5 : tie.Need-same-length-5
-same-length-5 c = c .before .before .before .before .before .before .before .before .before .before .before .take .kept .0 ∙ c .before .before .before .before .before .before .before .before .before .before .before .before .before .before .before .before .before .before .before .before .before .before .before .before .before .before .before .lower-all .kept .1 .1 .1 .1 .1 .0
+same-length-5 c = counters-kept (else-take (c .before .before .before .before .before .before))
 
 same-length-6 : tie.Need-same-length-6
-same-length-6 c = c .before .before .before .before .put-terms .kept .0 ∙ c .before .before .before .before .before .before .before .before .before .before .before .take .kept .1 .0 ∙ c .before .before .before .before .before .before .before .before .before .before .before .before .before .before .before .before .put .kept .0 ∙ c .before .before .before .before .before .before .before .before .before .before .before .before .before .before .before .before .before .before .before .before .before .before .before .before .before .before .before .lower-all .kept .1 .1 .1 .1 .1 .1 .0 ∙ c .before .before .before .before .before .before .before .before .before .before .before .before .before .before .before .before .before .before .before .before .before .before .before .before .before .before .before .before .before .before .before .before .lower-plain .kept .1 .1 .1 .1 .0
+same-length-6 c = c .before .before .before .before .put-terms .kept .0 ∙ scratch-kept (else-take (c .before .before .before .before .before .before))
 
 returns-3 : tie.Need-returns-3
 returns-3 c =
-    let a = c .before .before .before .before .before .before .before .before .before .before .before .before .before .before .before .before .before .before .before .before .before .before .before .before .before .before .before .before .before .before .before .before .before .before .before .before .before .before .before .args in
-    let ws = words (a .rule .now) in
-    let cs = words (a .counters .now) in
-    let s = words (a .scratch .now) in
-    let q = c .before .before .before .before .before .before .before .before .before .before .before .before .before .before .before .before .before .before .before .before .before .before .before .before .before .before .before .before .before .before .before .before .before .before .before .before .before .before .before .pre .0 in
-    let room = c .before .before .before .before .before .before .before .before .before .before .before .before .before .before .before .before .before .before .before .before .before .before .before .before .before .before .before .before .before .before .before .before .before .before .before .before .before .before .before .pre .1 .0 in
-    let sr = c .before .before .before .before .before .before .before .before .before .before .before .before .before .before .before .before .before .before .before .before .before .before .before .before .before .before .before .before .before .before .before .before .before .before .before .before .before .before .before .pre .1 .1 in
-    let v = c .before .before .before .before .before .before .before .before .before .before .before .before .before .before .before .before .before .before .before .before .before .before .before .before .before .before .before .before .before .before .before .before .before .before .before .get .result in
-    let isv : v ≡ getD ws (a .at + 1) 0 = c .before .before .before .before .before .before .before .before .before .before .before .before .before .before .before .before .before .before .before .before .before .before .before .before .before .before .before .before .before .before .before .before .before .before .before .get .ensures .is in
-    let w = c .before .before .before .before .before .before .before .before .before .before .before .before .before .before .before .before .before .before .before .before .before .before .before .before .before .before .before .before .before .before .before .before .before .before .get2 .result in
-    let isw : w ≡ getD ws (a .at + 2) 0 = c .before .before .before .before .before .before .before .before .before .before .before .before .before .before .before .before .before .before .before .before .before .before .before .before .before .before .before .before .before .before .before .before .before .before .get2 .ensures .is in
-    let front = c .before .before .before .before .before .before .before .before .before .before .before .before .before .before .before .before .before .before .before .before .before .before .before .before .before .before .before .before .before .before .before .before .lower-plain in
-    let s0 = words (front .last .1 .1 .1 .1 .0) in
-    let k = c .before .before .before .before .before .before .before .before .before .before .before .before .before .before .before .before .before .before .before .before .before .before .before .before .before .before .before .lower-all in
-    let s1 = words (k .last .1 .1 .1 .1 .1 .1 .0) in
-    let cs1 = words (k .last .1 .1 .1 .1 .1 .0) in
-    let hc : length cs1 ≡ length cs = length-words-kept (k .last .1 .1 .1 .1 .1 .0) (a .counters .now) (k .kept .1 .1 .1 .1 .1 .0) in
-    let hs : length s1 ≡ length s = length-words-kept (k .last .1 .1 .1 .1 .1 .1 .0) (a .scratch .now) (k .kept .1 .1 .1 .1 .1 .1 .0 ∙ front .kept .1 .1 .1 .1 .0) in
-    let p = c .before .before .before .before .before .before .before .before .before .before .before .before .before .before .before .before .put in
-    let t = c .before .before .before .before .before .before .before .before .before .before .before .take in
-    let s2 = words (p .last .0) in
-    let s3 = words (t .last .1 .0) in
-    let cs2 = words (t .last .0) in
-    let hc2 : length cs2 ≡ length cs1 = length-words-kept (t .last .0) _ (t .kept .0) in
-    let hs3 : length s3 ≡ length s = length-words-kept (t .last .1 .0) _ (t .kept .1 .0) ∙ length-words-kept (p .last .0) _ (p .kept .0) ∙ hs in
-    λ sig x bound n sc. name-done sig bound ws (a .at) (a .to) (a .sp) (a .log) (a .scope) s cs x v w isv isw room s1 cs1 (k .result) (plain-walk sig bound ws (maxDepth - 1) (countOf w) (a .at) 3 (a .to) (a .sp) (a .log) (a .scope) s cs (args-of sig bound ws (a .at) (a .to) (a .sp) (a .log) (a .scope) s cs x v w isv isw room) n sc room (front .result) (front .ensures .0) sr s0 (front .ensures .1) s1 cs1 (k .result) (λ y t. k .ensures sig y bound n t)) (c .before .before .before .before .before .before .before .before .before .before .before .before .before .before .before .before .before .before .before .before .before .if1 .left) (c .before .before .before .before .before .before .before .before .before .before .before .before .before .before .before .before .before .before .before .may-read .result) (c .before .before .before .before .before .before .before .before .before .before .before .before .before .before .before .before .before .before .before .may-read .ensures sig bound (name-scope sig bound ws (a .at) (a .to) (a .sp) (a .log) (a .scope) s cs x v w isv isw room s1 cs1 (k .result) (plain-walk sig bound ws (maxDepth - 1) (countOf w) (a .at) 3 (a .to) (a .sp) (a .log) (a .scope) s cs (args-of sig bound ws (a .at) (a .to) (a .sp) (a .log) (a .scope) s cs x v w isv isw room) n sc room (front .result) (front .ensures .0) sr s0 (front .ensures .1) s1 cs1 (k .result) (λ y t. k .ensures sig y bound n t)) (c .before .before .before .before .before .before .before .before .before .before .before .before .before .before .before .before .before .before .before .before .before .if1 .left) sr sc)) (c .before .before .before .before .before .before .before .before .before .before .before .before .before .before .before .before .before .before .if2 .taken) s2 (p .ensures) (t .result) s3 cs2 (t .ensures) sr sc _ _ _ (c .before .before .before .before .before .before .if3 .left) hc2 hs3 (c .before .before .before .before .put-terms .ensures .0) (c .before .before .before .before .put-terms .ensures .1) refl refl refl
+    let e = c .before .before .before .before .before .before in
+    let t = else-take e in
+    let d = put-then (take-put t) in
+    set-done (at-else (then-else d)) (d .before .may-read .ensures) (d .if2 .taken) (at-take t) (e .if3 .left) (c .before .before .before .before .put-terms .ensures)
+
+-- ---- the name may not be read
 
 add-t17 : tie.Need-add-t17
-add-t17 c =
-    let a = c .before .before .before .before .before .before .before .before .before .before .before .before .before .before .before .before .before .before .before .before .before .args in
-    let ws = words (a .rule .now) in
-    let cs = words (a .counters .now) in
-    let s = words (a .scratch .now) in
-    let q = c .before .before .before .before .before .before .before .before .before .before .before .before .before .before .before .before .before .before .before .before .before .pre .0 in
-    let room = c .before .before .before .before .before .before .before .before .before .before .before .before .before .before .before .before .before .before .before .before .before .pre .1 .0 in
-    let sr = c .before .before .before .before .before .before .before .before .before .before .before .before .before .before .before .before .before .before .before .before .before .pre .1 .1 in
-    let x = q .known .0 in
-    let i = x .exprs .inside in
-    omega (arith, length-words (a .rule .now), c .before .before .before .before .before .before .before .before .before .before .before .before .before .before .before .before .before .before .before .before .before .good)
+add-t17 c = omega (arith, at-else (c .before .before .before))
 
 same-length-7 : tie.Need-same-length-7
 same-length-7 c = search needs
@@ -581,26 +239,7 @@ same-length-8 : tie.Need-same-length-8
 same-length-8 c = search needs
 
 returns-4 : tie.Need-returns-4
-returns-4 c =
-    let a = c .before .before .before .before .before .before .before .before .before .before .before .before .before .before .before .before .before .before .before .before .before .args in
-    let ws = words (a .rule .now) in
-    let cs = words (a .counters .now) in
-    let s = words (a .scratch .now) in
-    let q = c .before .before .before .before .before .before .before .before .before .before .before .before .before .before .before .before .before .before .before .before .before .pre .0 in
-    let room = c .before .before .before .before .before .before .before .before .before .before .before .before .before .before .before .before .before .before .before .before .before .pre .1 .0 in
-    let sr = c .before .before .before .before .before .before .before .before .before .before .before .before .before .before .before .before .before .before .before .before .before .pre .1 .1 in
-    let v = c .before .before .before .before .before .before .before .before .before .before .before .before .before .before .before .before .before .get .result in
-    let isv : v ≡ getD ws (a .at + 1) 0 = c .before .before .before .before .before .before .before .before .before .before .before .before .before .before .before .before .before .get .ensures .is in
-    let w = c .before .before .before .before .before .before .before .before .before .before .before .before .before .before .before .before .get2 .result in
-    let isw : w ≡ getD ws (a .at + 2) 0 = c .before .before .before .before .before .before .before .before .before .before .before .before .before .before .before .before .get2 .ensures .is in
-    let front = c .before .before .before .before .before .before .before .before .before .before .before .before .before .before .lower-plain in
-    let s0 = words (front .last .1 .1 .1 .1 .0) in
-    let k = c .before .before .before .before .before .before .before .before .before .lower-all in
-    let s1 = words (k .last .1 .1 .1 .1 .1 .1 .0) in
-    let cs1 = words (k .last .1 .1 .1 .1 .1 .0) in
-    let hc : length cs1 ≡ length cs = length-words-kept (k .last .1 .1 .1 .1 .1 .0) (a .counters .now) (k .kept .1 .1 .1 .1 .1 .0) in
-    let hs : length s1 ≡ length s = length-words-kept (k .last .1 .1 .1 .1 .1 .1 .0) (a .scratch .now) (k .kept .1 .1 .1 .1 .1 .1 .0 ∙ front .kept .1 .1 .1 .1 .0) in
-    λ sig x bound n sc. name-unbound sig bound ws (a .at) (a .to) (a .sp) (a .log) (a .scope) s cs x v w isv isw room s1 cs1 (k .result) (plain-walk sig bound ws (maxDepth - 1) (countOf w) (a .at) 3 (a .to) (a .sp) (a .log) (a .scope) s cs (args-of sig bound ws (a .at) (a .to) (a .sp) (a .log) (a .scope) s cs x v w isv isw room) n sc room (front .result) (front .ensures .0) sr s0 (front .ensures .1) s1 cs1 (k .result) (λ y t. k .ensures sig y bound n t)) (c .before .before .before .if1 .left) (c .before .may-read .result) (c .before .may-read .ensures sig bound (name-scope sig bound ws (a .at) (a .to) (a .sp) (a .log) (a .scope) s cs x v w isv isw room s1 cs1 (k .result) (plain-walk sig bound ws (maxDepth - 1) (countOf w) (a .at) 3 (a .to) (a .sp) (a .log) (a .scope) s cs (args-of sig bound ws (a .at) (a .to) (a .sp) (a .log) (a .scope) s cs x v w isv isw room) n sc room (front .result) (front .ensures .0) sr s0 (front .ensures .1) s1 cs1 (k .result) (λ y t. k .ensures sig y bound n t)) (c .before .before .before .if1 .left) sr sc)) _ (c .if2 .left) refl
+returns-4 c = name-refused (at-else (c .before .before .before)) (c .before .may-read .ensures) (c .if2 .left)
 
 pub set-name-spec : {M : Type 1} → statement M
 set-name-spec =
