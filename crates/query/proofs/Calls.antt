@@ -10,10 +10,12 @@ use Rattle.rules.specs.Signature.{Sig}
 use Rattle.rules.specs.ToQuery.{fresh}
 use Rattle.walks.specs.Log.{Taken}
 use Rattle.walks.specs.Steps.{Walked, InAnswer, OnStack, Room, Under, Counted, ExprAt, ExprsAt}
+use Rattle.walks.specs.Leaves.{leavesUpTo}
 use Rattle.walks.specs.declared.Walk.{Walk}
 use Rattle.walks.proofs.Asks.{counted-kept, room-in, CallFacts, call-facts}
-use Rattle.query.specs.Flattened.{flattened, flattenedAll, leafRun}
-use Rattle.query.proofs.Direct.{AtomRoom, atom-room-in, run-in, walked-anew, leaves-walked}
+use Rattle.walks.proofs.LeavesUpTo.{leaves-most}
+use Rattle.query.specs.Flattened.{flattened, flattenedAll}
+use Rattle.query.proofs.Direct.{AtomRoom, atom-room-in, walked-anew, leaves-walked}
 use Rattle.query.proofs.Exprs.{stop-way, atom-room, done-way}
 
 -- ---- at its head word
@@ -34,7 +36,7 @@ call-at {ws} {s} {cs} {d} {at} {to} {sp} {lg} {w} q room is low =
 
 -- ---- with its fresh variable
 
--- it has its variable v, and of its arguments the k that stand before any call are written behind the place of its head word
+-- it has its variable v, and of its arguments k, which are names and literals, are written behind the place of its head word
 pub record Begun (ws s cs : List ℕ) (d at to sp lg w v k : ℕ) (s1 cs1 sl : List ℕ) : Type 0 where
   pub known : Under (λ sig. ExprAt sig ws d at × Counted sig cs)
   pub is : w ≡ getD ws at 0
@@ -45,7 +47,8 @@ pub record Begun (ws s cs : List ℕ) (d at to sp lg w v k : ℕ) (s1 cs1 sl : L
   pub counters : length cs1 ≡ length cs
   pub scratch : length s1 ≡ length s
   pub left : length sl ≡ length s1
-  pub run : k ≡ leafRun (part ws (at + 1) (countOf w))
+  pub bound : ℕ
+  pub run : k ≡ leavesUpTo bound (part ws (at + 1) (countOf w))
   pub put : sl ≡ splice s1 (to + 1) (part ws (at + 1) k)
 
 module _ {ws s cs : List ℕ} {d at to sp lg w v k : ℕ} {s1 cs1 sl : List ℕ} (b : Begun ws s cs d at to sp lg w v k s1 cs1 sl) where
@@ -56,7 +59,7 @@ module _ {ws s cs : List ℕ} {d at to sp lg w v k : ℕ} {s1 cs1 sl : List ℕ}
   behind = room-in 1 (length s1) (b .room) (omega arith) (b .scratch)
 
   most : k ≤ countOf w
-  most = omega (arith, b .run, run-in ws (at + 1) (countOf w) (at-start .atom .inside))
+  most = omega (arith, b .run, leaves-most (b .bound) ws (at + 1) (countOf w) (at-start .atom .inside))
 
   -- what the walk of its arguments asks
   pub begun-known : Under (λ sig. ExprsAt sig ws (d - 1) (countOf w) (at + 1) × Counted sig cs1)
@@ -78,7 +81,7 @@ module _ {ws s cs : List ℕ} {d at to sp lg w v k : ℕ} {s1 cs1 sl : List ℕ}
       let hl = b .left in
       let a : Walk = record { next = at + 1 + k; to = to; log = lg + 1; term = 0; refused = 0 } in
       done-way sig ws d at to sp lg s cs x c w (b .is) (b .low) v s1 cs1 (b .taken) (b .room) (b .some) (b .counters) (to + 1) sl cs1 a
-      (λ es. leaves-walked sig ws (d - 1) (countOf w) k (at + 1) to sp (lg + 1) s1 cs1 sl es behind most (b .put) (c .few) (omega (arith, ar .words)) (b .run) all)
+      (λ es. leaves-walked sig ws (d - 1) (countOf w) k (at + 1) to sp (lg + 1) s1 cs1 sl es behind most (b .put) (b .bound) (c .few) (omega (arith, ar .words)) (b .run) all)
       s3 e refl there (omega (arith, ar .words)) put
 
   -- where a call stands among its arguments, all are walked

@@ -1,11 +1,8 @@
 -- 01, "Flattening the body": what the definitions of `to_query` give, as pieces that a walk makes, and where facts stand in a written rule.
 -- Assumes nothing: these are definitions.
-use mathlib.Core.Bool.{cond}
 use mathlib.Core.List.{List, [], _∷_}
-use Prim.Native.Nat.{ℕ, suc}
-use lib.Dec.{ltb}
+use Prim.Native.Nat.{ℕ}
 use lib.ListN.{length}
-use Rattle.rules.specs.Words.{literalBase}
 use Rattle.rules.specs.Refusals.{Res, ok, refuse}
 use Rattle.rules.specs.Signature.{Sig}
 use Rattle.rules.specs.Written.{Expr, Exprs, Fact, readFact, readRow}
@@ -44,10 +41,3 @@ FactAt sig ws at = ReadAt (readFact sig ws) ws at
 
 abbrev pub FactsAt : Sig → List ℕ → ℕ → ℕ → Type 0
 FactsAt sig ws n at = ReadAt (readRow (readFact sig ws) n) ws at
-
--- ---- a row of words
-
--- how many names and literals it starts with: words from the first literal up
-unfoldable pub leafRun : List ℕ → ℕ
-leafRun [] = 0
-leafRun (w ∷ ws) = cond (ltb w literalBase) 0 (suc (leafRun ws))

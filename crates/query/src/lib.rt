@@ -13,7 +13,7 @@ ghost use Rattle.octets.specs.Regions.{splice, part};
 ghost use Rattle.rules.specs.Words.{literalBase};
 ghost use Rattle.rules.specs.Signature.{Sig};
 ghost use Rattle.walks.specs.Steps.{Walked, InAnswer, OnStack, NoTerms, Room, Under, Counted, ExprAt, ExprsAt};
-ghost use Rattle.query.specs.Flattened.{flattened, flattenedAll, flattenedFact, query, FactAt, FactsAt, leafRun};
+ghost use Rattle.query.specs.Flattened.{flattened, flattenedAll, flattenedFact, query, FactAt, FactsAt};
 
 // The equality of two.
 const EQUALITY: u32 = 0x0800_0002;
@@ -45,24 +45,6 @@ pub fn flatten(
         };
     }
     flatten_call(rule, at, w, depth, counters, scratch, to, sp, log)
-}
-
-// Of the n words from `at` on, writes those before the first that is no name or literal to `to`. Returns how many they are: n, where no call
-// stands among them.
-fn leaves(rule: &[u8], at: usize, n: usize, scratch: &mut [u8], to: usize) -> usize
-    requires { ⌜ (at + n ≤ length (words (now rule))) × (to + n ≤ length (words (now scratch))) ⌝ }
-    ensures { λ r. ⌜ (r ≡ leafRun (part (words (now (rule .entry))) at n)) × (words (now (scratch .exit)) ≡ splice (words (now (scratch .entry))) to (part (words (now (rule .entry))) at r)) ⌝ }
-{
-    let mut k = 0;
-    while k < n {
-        let w = octets::get(rule, at + k);
-        if w < walks::LITERAL {
-            return k;
-        }
-        octets::put(scratch, to + k, w);
-        k += 1;
-    }
-    k
 }
 
 // Makes an atom of the n words that stand behind the one at `at`: its head word goes before them, and its output behind. Returns the place
@@ -109,7 +91,7 @@ pub fn flatten_call(
             refused: walks::USED_UP,
         };
     }
-    let k = leaves(rule, at + 1, n as usize, scratch, to + 1);
+    let k = walks::leaves(rule, at + 1, n as usize, u32::MAX, scratch, to + 1);
     if k == n as usize {
         let end = put_around(scratch, to, w + 1, n as usize, v);
         return Walk {

@@ -7,3 +7,4 @@ pub mod Rows
 pub mod Words
 pub mod Asks
 pub mod Turns
+pub mod LeavesUpTo

@@ -1,13 +1,14 @@
 // What the two walks of lowering share: fresh variables are taken from the counters in place, and each use is logged, so that a refusal can
-// put the counters back.
+// put the counters back. Literals and names in front of a row go past the walk over each.
 ghost use mathlib.Core.Path.{_≡_};
 ghost use Prim.Native.Nat.{ℕ, _+_, _<_, _≤_};
 ghost use lib.ListN.{length};
 ghost use Rattle.octets.specs.Words.{words};
-ghost use Rattle.octets.specs.Regions.{part};
+ghost use Rattle.octets.specs.Regions.{splice, part};
 ghost use Rattle.rules.specs.Words.{limit12};
 ghost use Rattle.rules.specs.ToQuery.{fresh};
 ghost use Rattle.walks.specs.Log.{Taken, undone};
+ghost use Rattle.walks.specs.Leaves.{leavesUpTo};
 
 // Counts and literals are numbered below LIMIT_16.
 pub const LIMIT_16: u32 = 65536;
@@ -72,4 +73,25 @@ pub fn restore(counters: &mut [u8], scratch: &[u8], from: usize, n: usize)
             octets::put(counters, h, v % LIMIT_16);
         }
     }
+}
+
+// Of the n words from `at` on, writes those before the first that is no literal or name, or is above `most`, to `to`. Returns how many they are.
+pub fn leaves(rule: &[u8], at: usize, n: usize, most: u32, scratch: &mut [u8], to: usize) -> usize
+    requires { ⌜ (at + n ≤ length (words (now rule))) × (to + n ≤ length (words (now scratch))) ⌝ }
+    ensures { λ r. ⌜ (r ≡ leavesUpTo most (part (words (now (rule .entry))) at n))
+        × (words (now (scratch .exit)) ≡ splice (words (now (scratch .entry))) to (part (words (now (rule .entry))) at r)) ⌝ }
+{
+    let mut k = 0;
+    while k < n {
+        let w = octets::get(rule, at + k);
+        if w < LITERAL {
+            return k;
+        }
+        if most < w {
+            return k;
+        }
+        octets::put(scratch, to + k, w);
+        k += 1;
+    }
+    k
 }

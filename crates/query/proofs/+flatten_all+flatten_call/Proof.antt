@@ -1,6 +1,6 @@
 -- Flattening a call and a row of arguments: the one proof of their cycle. The depth falls at each call's arguments. What is known at a place of the
 -- code is said once, as a record of `Arguments` or `Calls`, and the needs behind that place cite it. Assumes nothing.
-use Prim.Native.Nat.{ℕ, _+_, _*_, _-_, _<_}
+use Prim.Native.Nat.{ℕ, _+_, _*_, _-_, _^_, _<_}
 use mathlib.Core.Path.{_≡_, refl, _∙_}
 use native.Mathlib.Omega.{arith}
 use lib.ListN.{length}
@@ -23,8 +23,8 @@ use Rattle.query.proofs.+flatten_all+flatten_call.Lts-flatten_call as f
 use Rattle.octets.proofs.get.Reads as get-reads
 use Rattle.octets.proofs.put.Reads as put-reads
 use Rattle.octets.proofs.rows.put_atom.Reads as put-atom-reads
-use Rattle.query.proofs.leaves.Reads as leaves-reads
 use Rattle.query.proofs.put_around.Reads as put-around-reads
+use Rattle.walks.proofs.leaves.Reads as leaves-reads
 use Rattle.walks.proofs.take.Reads as take-reads
 use Rattle.query.proofs.+flatten_all+flatten_call.{statement}
 use Rattle.query.proofs.+flatten_all+flatten_call.Tie.{close}
@@ -186,7 +186,7 @@ flatten-call-begun : (t : ℕ) (c : flatten-call-lts.After-leaves (flatten-call-
     let v = c .before .before .before .before .before .before .before .take in
     let l = c .leaves in
     Begun (words (a .rule .now)) (words (a .scratch .now)) (words (a .counters .now)) (a .depth) (a .at) (a .to) (a .sp) (a .log) (a .w) (v .result) (l .result)
-    (words (v .last .1 .0)) (words (v .last .0)) (words (l .last .1 .1 .1 .0))
+    (words (v .last .1 .0)) (words (v .last .0)) (words (l .last .1 .1 .1 .1 .0))
 flatten-call-begun t c =
     let s = c .before .before .before .before .before .before .before .before .before .before .before .before .before in
     let a = s .args in
@@ -201,7 +201,8 @@ flatten-call-begun t c =
       some = c .before .before .if1 .left;
       counters = length-words-kept (v .last .0) (a .counters .now) (v .kept .0);
       scratch = length-words-kept (v .last .1 .0) (a .scratch .now) (v .kept .1 .0);
-      left = length-words-kept (l .last .1 .1 .1 .0) (v .last .1 .0) (l .kept .1 .1 .1 .0);
+      left = length-words-kept (l .last .1 .1 .1 .1 .0) (v .last .1 .0) (l .kept .1 .1 .1 .1 .0);
+      bound = 2 ^ 32 - 1;
       run = l .ensures .0;
       put = l .ensures .1;
     }
@@ -274,7 +275,7 @@ flatten-call-same-length-3 : (t : ℕ) → flatten-call-lts.Need-same-length-3 (
 flatten-call-same-length-3 t c = c .before .before .before .before .before .before .before .before .before .before .before .before .before .before .take .kept .0
 
 flatten-call-same-length-4 : (t : ℕ) → flatten-call-lts.Need-same-length-4 (flatten-call-calls t) (flatten-call-at t) flatten-call.Post
-flatten-call-same-length-4 t c = c .before .before .put-around .kept .0 ∙ c .before .before .before .before .before .before .before .leaves .kept .1 .1 .1 .0 ∙ c .before .before .before .before .before .before .before .before .before .before .before .before .before .before .take .kept .1 .0
+flatten-call-same-length-4 t c = c .before .before .put-around .kept .0 ∙ c .before .before .before .before .before .before .before .leaves .kept .1 .1 .1 .1 .0 ∙ c .before .before .before .before .before .before .before .before .before .before .before .before .before .before .take .kept .1 .0
 
 flatten-call-returns-2 : (t : ℕ) → flatten-call-lts.Need-returns-2 (flatten-call-calls t) (flatten-call-at t) flatten-call.Post
 flatten-call-returns-2 t c = let p = c .before .before .put-around in begun-leaves (flatten-call-begun t (c .before .before .before .before .before .before .before)) _ _ (c .before .before .before .before .if2 .taken) (p .ensures .0) (p .ensures .1)
@@ -303,7 +304,7 @@ flatten-call-same-length-5 : (t : ℕ) → flatten-call-lts.Need-same-length-5 (
 flatten-call-same-length-5 t c = c .before .before .before .before .before .before .flatten-all .kept .1 .1 .1 .1 .0 ∙ c .before .before .before .before .before .before .before .before .before .before .before .before .before .before .before .before .before .before .before .take .kept .0
 
 flatten-call-same-length-6 : (t : ℕ) → flatten-call-lts.Need-same-length-6 (flatten-call-calls t) (flatten-call-at t) flatten-call.Post
-flatten-call-same-length-6 t c = c .before .before .before .before .before .before .flatten-all .kept .1 .1 .1 .1 .1 .0 ∙ c .before .before .before .before .before .before .before .before .before .before .before .before .leaves .kept .1 .1 .1 .0 ∙ c .before .before .before .before .before .before .before .before .before .before .before .before .before .before .before .before .before .before .before .take .kept .1 .0
+flatten-call-same-length-6 t c = c .before .before .before .before .before .before .flatten-all .kept .1 .1 .1 .1 .1 .0 ∙ c .before .before .before .before .before .before .before .before .before .before .before .before .leaves .kept .1 .1 .1 .1 .0 ∙ c .before .before .before .before .before .before .before .before .before .before .before .before .before .before .before .before .before .before .before .take .kept .1 .0
 
 flatten-call-returns-3 : (t : ℕ) → flatten-call-lts.Need-returns-3 (flatten-call-calls t) (flatten-call-at t) flatten-call.Post
 flatten-call-returns-3 t c = let k = c .before .before .before .before .before .before .flatten-all in begun-stop (flatten-call-begun t (c .before .before .before .before .before .before .before .before .before .before .before .before)) (words (k .last .1 .1 .1 .1 .1 .0)) (words (k .last .1 .1 .1 .1 .0)) (k .result) (k .ensures) (c .if3 .taken)
@@ -317,20 +318,20 @@ flatten-call-cast-put-atom t c = search needs
 flatten-call-put-atom-requires : (t : ℕ) → flatten-call-lts.Need-put-atom-requires (flatten-call-calls t) (flatten-call-at t) flatten-call.Post
 flatten-call-put-atom-requires t c κs =
     let k = c .before .before .before .before .before .before .before .flatten-all in
-    let kept = length-words-kept (k .last .1 .1 .1 .1 .1 .0) (c .before .before .before .before .before .before .before .before .before .before .before .before .before .leaves .last .1 .1 .1 .0) (k .kept .1 .1 .1 .1 .1 .0) in
+    let kept = length-words-kept (k .last .1 .1 .1 .1 .1 .0) (c .before .before .before .before .before .before .before .before .before .before .before .before .before .leaves .last .1 .1 .1 .1 .0) (k .kept .1 .1 .1 .1 .1 .0) in
     begun-atom (flatten-call-begun t (c .before .before .before .before .before .before .before .before .before .before .before .before .before)) (words (k .last .1 .1 .1 .1 .1 .0)) (words (k .last .1 .1 .1 .1 .0)) (k .result) (k .ensures) (c .before .if3 .left) kept
 
 flatten-call-same-length-7 : (t : ℕ) → flatten-call-lts.Need-same-length-7 (flatten-call-calls t) (flatten-call-at t) flatten-call.Post
 flatten-call-same-length-7 t c = c .before .before .before .before .before .before .before .before .before .before .flatten-all .kept .1 .1 .1 .1 .0 ∙ c .before .before .before .before .before .before .before .before .before .before .before .before .before .before .before .before .before .before .before .before .before .before .before .take .kept .0
 
 flatten-call-same-length-8 : (t : ℕ) → flatten-call-lts.Need-same-length-8 (flatten-call-calls t) (flatten-call-at t) flatten-call.Post
-flatten-call-same-length-8 t c = c .before .before .put-atom .kept .0 ∙ c .before .before .before .before .before .before .before .before .before .before .flatten-all .kept .1 .1 .1 .1 .1 .0 ∙ c .before .before .before .before .before .before .before .before .before .before .before .before .before .before .before .before .leaves .kept .1 .1 .1 .0 ∙ c .before .before .before .before .before .before .before .before .before .before .before .before .before .before .before .before .before .before .before .before .before .before .before .take .kept .1 .0
+flatten-call-same-length-8 t c = c .before .before .put-atom .kept .0 ∙ c .before .before .before .before .before .before .before .before .before .before .flatten-all .kept .1 .1 .1 .1 .1 .0 ∙ c .before .before .before .before .before .before .before .before .before .before .before .before .before .before .before .before .leaves .kept .1 .1 .1 .1 .0 ∙ c .before .before .before .before .before .before .before .before .before .before .before .before .before .before .before .before .before .before .before .before .before .before .before .take .kept .1 .0
 
 flatten-call-returns-4 : (t : ℕ) → flatten-call-lts.Need-returns-4 (flatten-call-calls t) (flatten-call-at t) flatten-call.Post
 flatten-call-returns-4 t c =
     let k = c .before .before .before .before .before .before .before .before .before .before .flatten-all in
     let p = c .before .before .put-atom in
-    let kept = length-words-kept (k .last .1 .1 .1 .1 .1 .0) (c .before .before .before .before .before .before .before .before .before .before .before .before .before .before .before .before .leaves .last .1 .1 .1 .0) (k .kept .1 .1 .1 .1 .1 .0) in
+    let kept = length-words-kept (k .last .1 .1 .1 .1 .1 .0) (c .before .before .before .before .before .before .before .before .before .before .before .before .before .before .before .before .leaves .last .1 .1 .1 .1 .0) (k .kept .1 .1 .1 .1 .1 .0) in
     begun-done (flatten-call-begun t (c .before .before .before .before .before .before .before .before .before .before .before .before .before .before .before .before)) (words (k .last .1 .1 .1 .1 .1 .0)) (words (k .last .1 .1 .1 .1 .0)) (k .result) (k .ensures) (c .before .before .before .before .if3 .left) kept _ _ (p .ensures .0) (p .ensures .1)
 
 pub +flatten-all+flatten-call-spec : {M : Type 1} → statement M
