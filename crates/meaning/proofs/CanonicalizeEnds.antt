@@ -14,6 +14,7 @@ use Rattle.rules.specs.Signature.{Sig, isVar}
 use Rattle.rules.specs.Flat.{Atom, eqn, tab}
 use Rattle.rules.specs.Canonicalize.{Replacement, replaceTerm, replaceAtom, replacementOf, orElse, firstReplacement, replaceStep, replaceUpTo, replaceAll}
 use Rattle.meaning.specs.Weight.{unlike, live}
+use Rattle.meaning.specs.Bounds.{ReplaceAllEnds}
 
 -- ---- each replacement makes an equality's terms equal, and equal terms stay so
 
@@ -99,7 +100,7 @@ ended s (suc n) xs rs h = go (firstReplacement s xs) refl (λ ys qs l. ended s n
     go (some r) e ih = ih (map (replaceAtom r) xs) (r ∷ rs) (omega (arith, live-falls s xs r e))
 
 -- no equality is left that asks for a replacement
-pub replace-all-ends : (s : Sig) (xs : List Atom) (rs : List Replacement) → firstReplacement s (replaceAll s xs rs .atoms) ≡ none
+pub replace-all-ends : ReplaceAllEnds
 replace-all-ends s xs rs = ended s (length xs) xs rs (live-length xs)
 
 -- where none asks, nothing is done

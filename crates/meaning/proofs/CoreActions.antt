@@ -14,11 +14,14 @@ use Rattle.rules.specs.Refusals.{ok, unbound, alreadyDefined}
 use Rattle.rules.specs.ToQuery.{count, Fresh, fresh}
 use Rattle.rules.specs.ToCoreActions.{readable, Low, Lows, lowerExpr, lowerExprs, Done, lowerSet, lowerChange, AsSet, optional, unionAsSet, lowerUnion, lowerLet, lowerAction, toCoreActions}
 use Rattle.rules.specs.Canonicalize.{bindings, Replacement}
-use Rattle.meaning.specs.Meaning.{World, All, val, Bound, Event, called, wasSet, deleted, subsumed, united, Answers, Run, upd, give, note, runExpr, runExprs, runSet, runUnion, runAction, runActions, runCoreAction, runCoreActions}
+use Rattle.meaning.specs.Meaning.{World, All, val, Event, called, wasSet, deleted, subsumed, united, Answers, Run, upd, give, note, runExpr, runExprs, runSet, UnionSet, unionSet, runUnion, runAction, runActions, runCoreAction, runCoreActions}
+use Rattle.meaning.specs.Demand3.{SameSet}
 use Rattle.meaning.proofs.Results.{bind-ok, ok-inj, refuse-ok, demand-ok}
 use Rattle.meaning.proofs.Fresh.{Before, Grows, before-later, plain-before, Took, took, fresh-var}
 use Rattle.meaning.proofs.Query.{Plain, Plains, AgreePlain, AgreeBefore, val-agree, same-all, Same, upd-same, upd-other, val-fresh, before-plain}
 use Rattle.meaning.proofs.Lists.{all-map}
+use Rattle.meaning.proofs.Settling.{Bound}
+use Rattle.meaning.proofs.Unions.{unions-agree}
 
 abbrev pub PlainAction : Action → Type 0
 PlainAction (let′ p w e) = Plain e
@@ -248,12 +251,17 @@ module _ {D : Type 0} (s : Sig) (W : World D) (ans : Answers D) where
       go false k = absurd (Option·none-ne-some u k)
 
   -- a union proper is one argument, then the other
-  union-alike : (x y : Expr) → Plain x → Plain y → (o : Option AsSet) → unionAsSet s x y ≡ o → (bound cs : List ℕ) (d : Done) → lowerUnion s bound o x y cs ≡ ok d
-      → (ρ σ : ℕ → D) (tr : List (Event D)) → AgreePlain ρ σ → Alike (runUnion s W ans o x y (at ρ tr)) (runCoreActions s W ans (d .acts) (at σ tr))
-  union-alike x y px py (some u) e bound cs d k ρ σ tr a =
+  union-alike : (x y : Expr) → Plain x → Plain y → (o : Option AsSet) → unionAsSet s x y ≡ o → (m : Option UnionSet) → SameSet o m
+      → (bound cs : List ℕ) (d : Done) → lowerUnion s bound o x y cs ≡ ok d
+      → (ρ σ : ℕ → D) (tr : List (Event D)) → AgreePlain ρ σ → Alike (runUnion s W ans m x y (at ρ tr)) (runCoreActions s W ans (d .acts) (at σ tr))
+  union-alike x y px py (some u) e (some v) same bound cs d k ρ σ tr a =
       let pu = plain-as-set x y px py u e in
-      set-alike (u .place) (u .head) (u .args) (u .value) (pu .0) (pu .1) bound cs d k ρ σ tr a
-  union-alike x y px py none e bound cs d k ρ σ tr a =
+      subst (λ (z : Run D). Alike z (runCoreActions s W ans (d .acts) (at σ tr)))
+      (λ i. runSet s W ans (same .0 i) (same .1 i) (same .2 .1 i) (at ρ tr))
+      (set-alike (u .place) (u .head) (u .args) (u .value) (pu .0) (pu .1) bound cs d k ρ σ tr a)
+  union-alike x y px py (some u) e none same bound cs d k ρ σ tr a = absurd same
+  union-alike x y px py none e (some v) same bound cs d k ρ σ tr a = absurd same
+  union-alike x y px py none e none same bound cs d k ρ σ tr a =
       let r = bind-ok (lowerExpr s bound x cs) _ d k in
       let q = bind-ok (lowerExpr s bound y (r .0 .next)) _ d (r .2) in
       let l = lowers x px bound cs (r .0) (r .1) in
@@ -281,7 +289,7 @@ module _ {D : Type 0} (s : Sig) (W : World D) (ans : Answers D) where
   action-alike (set′ p h es e) pl bound cs d k ρ σ tr a = set-alike p h es e (pl .0) (pl .1) bound cs d k ρ σ tr a
   action-alike (delete′ p h es) pl bound cs d k ρ σ tr a = change-alike Delete deleted (λ g ts m. refl) p h es pl bound cs d k ρ σ tr a
   action-alike (subsume′ p h es) pl bound cs d k ρ σ tr a = change-alike Subsume subsumed (λ g ts m. refl) p h es pl bound cs d k ρ σ tr a
-  action-alike (union′ x y) pl bound cs d k ρ σ tr a = union-alike x y (pl .0) (pl .1) (unionAsSet s x y) refl bound cs d k ρ σ tr a
+  action-alike (union′ x y) pl bound cs d k ρ σ tr a = union-alike x y (pl .0) (pl .1) (unionAsSet s x y) refl (unionSet s x y) (unions-agree s x y) bound cs d k ρ σ tr a
   action-alike (panic′ l) pl bound cs d k ρ σ tr a =
       subst (λ (z : Done). Alike (runAction s W ans (panic′ l) (at ρ tr)) (runCoreActions s W ans (z .acts) (at σ tr))) (ok-inj _ _ k) (record { names = a; events = refl })
   action-alike (expr′ e) pl bound cs d k ρ σ tr a =

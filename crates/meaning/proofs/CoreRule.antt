@@ -14,7 +14,7 @@ use Rattle.rules.specs.ToCoreActions.{Done, toCoreActions, CoreRule, toCoreRule
 use Rattle.rules.specs.Canonicalize.{bindings}
 use Rattle.rules.specs.RemoveDupVars.{settle}
 use Rattle.meaning.specs.Meaning.{World, ValueEq, All, val, FactHolds, Answers, Run, runActions, runCoreActions}
-use Rattle.meaning.specs.Demand3.{Stable, join, OneChoice}
+use Rattle.meaning.specs.Demand3.{join, OneChoice}
 use Rattle.meaning.proofs.Results.{bind-ok, ok-inj}
 use Rattle.meaning.proofs.Query.{PlainFact, AgreePlain, Same, facts-agree, GoodQ, good-query, before-plain}
 use Rattle.meaning.proofs.Terms.{all-terms-map}
@@ -49,7 +49,7 @@ join-self ρ τ a = fun-ext (λ w. go w (isFresh w) refl)
     go w true e = refl
     go w false e = sym (a w e)
 
-module _ {D : Type 0} (stable : Stable D) (s : Sig) (W : World D) (eqs : ValueEq D s W) (r : Rule) (pl : PlainRule r) where
+module _ {D : Type 0} (s : Sig) (W : World D) (eqs : ValueEq D s W) (r : Rule) (pl : PlainRule r) where
   keeps : (cs : List ℕ) (q : Query) → GoodQ s W (λ σ. All (FactHolds s W σ) (r .facts)) cs q
       → (bound : List ℕ) (d : Done) → toCoreActions s bound (r .actions) (q .next) ≡ ok d
       → Keeps s W r (record { body = q .atoms; head = d .acts; next = d .next })
@@ -60,17 +60,17 @@ module _ {D : Type 0} (stable : Stable D) (s : Sig) (W : World D) (eqs : ValueEq
               let t = g .complete ρ h in (
                 t .0,
                 subst (λ (σ : ℕ → D). SettledHolds s W σ (settle s (q .atoms)))
-                    (join-self ρ (t .0) (before-plain cs ρ (t .0) (t .1))) (settle-law s W (t .0) stable eqs (q .atoms) .0 (t .2)),
+                    (join-self ρ (t .0) (before-plain cs ρ (t .0) (t .1))) (settle-law s W (t .0) eqs (q .atoms) .0 (t .2)),
               ),
           λ h.
               facts-agree s W (join ρ (h .0)) ρ (λ w n. sym (join-plain ρ (h .0) w n)) (r .facts) (pl .facts)
-              (g .sound (join ρ (h .0)) (settle-law s W (join ρ (h .0)) stable eqs (q .atoms) .1 (h .1))),
+              (g .sound (join ρ (h .0)) (settle-law s W (join ρ (h .0)) eqs (q .atoms) .1 (h .1))),
         );
         unique = λ ρ φ ψ h k.
             all-terms-map (Same s W (join ρ φ) (join ρ ψ)) (λ (w : ℕ). isFresh w ≡ true → φ w ≡ ψ w)
             (λ w e f. sym (join-fresh ρ φ s W w f) ∙ e ∙ join-fresh ρ ψ s W w f) (q .atoms)
             (g .unique (join ρ φ) (join ρ ψ) (λ w n. sym (join-plain ρ φ w n) ∙ join-plain ρ ψ w n)
-            (settle-law s W (join ρ φ) stable eqs (q .atoms) .1 h) (settle-law s W (join ρ ψ) stable eqs (q .atoms) .1 k));
+            (settle-law s W (join ρ φ) eqs (q .atoms) .1 h) (settle-law s W (join ρ ψ) eqs (q .atoms) .1 k));
         events = λ ρ φ h ans.
             let m : Run D = record { env = join ρ φ; trace = [] } in
             let rs = settle s (q .atoms) .repls in

@@ -1,34 +1,37 @@
 -- Demand 3, proved: the statement of specs/Demand3.antt. Assumes nothing beyond what the statement supposes.
 use Prim.Native.Nat.{ℕ, suc, _+_, _≤_, _<_}
 use native.Mathlib.Omega.{arith}
-use mathlib.Core.Path.{_≡_, refl, _∙_, ap, ap₂, subst, transport, transport⁻¹}
+use mathlib.Core.Path.{_≡_, refl, sym, _∙_, ap, ap₂, subst, transport, transport⁻¹}
 use mathlib.Core.List.{List, [], _∷_, _++_}
+use mathlib.Core.Option.{Option·none-ne-some}
 use lib.ListN.{length}
 use lib.Seq.{take-at}
 use Rattle.rules.specs.Words.{limit12, limit16, maxWritten}
 use Rattle.rules.specs.Refusals.{ok}
 use Rattle.rules.specs.Signature.{Sig}
 use Rattle.rules.specs.Written.{Rule, readWritten, Expr, Exprs, leaf, call, end, _then_, Fact, holds, equal, Action, let′, set′, delete′, subsume′, union′, panic′, expr′}
-use Rattle.rules.specs.Flat.{Tab, Atom, CoreAction, FlatRule, tabWords, encode, readFlat}
-use Rattle.rules.specs.ToQuery.{Query, toQuery, bodyVars}
+use Rattle.rules.specs.Flat.{Tab, Atom, tab, CoreAction, FlatRule, tabWords, encode, readFlat}
+use Rattle.rules.specs.ToQuery.{Query, toQuery, termsOf, bodyVars}
 use Rattle.rules.specs.ToCoreActions.{CoreRule, toCoreActions, toCoreRule}
 use Rattle.rules.specs.Canonicalize.{Replacement, bindings}
 use Rattle.rules.specs.RemoveDupVars.{Settled, settle}
 use Rattle.rules.specs.Calls.{Result, lowerWords}
-use Rattle.meaning.specs.Meaning.{World, All, TabHolds, AtomHolds, Bound}
-use Rattle.meaning.specs.Demand3.{join, BindingHolds, Meets, Faithful, Demand3}
+use Rattle.meaning.specs.Meaning.{World, ValueEq, All, TabHolds, AtomHolds}
+use Rattle.meaning.specs.Demand3.{join, BindingHolds, Meets, FreshOf, bindingTerms, Faithful, Demand3, Stable, ValueEqWorded, Demand3Worded}
 use Rattle.meaning.proofs.Lists.{all-append, all-map}
 use Rattle.meaning.proofs.Results.{bind-ok, ok-inj}
 use Rattle.meaning.proofs.Reading.{Formed, FormedAll, FormedFact, FormedAction, FormedRule, leaf-plain, written-formed}
 use Rattle.meaning.proofs.SignatureLaws.{SoundSignature, signature-sound}
 use Rattle.meaning.proofs.Query.{Plain, Plains, PlainFact}
 use Rattle.meaning.proofs.CoreActions.{PlainAction}
-use Rattle.meaning.proofs.Settling.{SettledHolds}
+use Rattle.meaning.proofs.Settling.{Bound, SettledHolds}
 use Rattle.meaning.proofs.CoreRule.{PlainRule, Keeps, core-rule-keeps}
 use Rattle.meaning.proofs.Encoded.{placed, tabAt, FitTab, FitAction, reads-back}
 use Rattle.meaning.proofs.Fits.{FitAtom, query-fits, actions-fit, settle-fits, bindings-fit}
 use Rattle.meaning.proofs.ResultBounds.{Lowered, lower-inverse, lowered-counts}
 use Rattle.meaning.proofs.WordLaws.{length-bindings}
+use Rattle.meaning.proofs.SettledTerms.{Ends, settled-fresh}
+use Rattle.meaning.proofs.Terms.{AllTerms, AllTabTerms}
 
 -- ---- no fresh variable is written
 
@@ -79,6 +82,16 @@ module _ {D : Type 0} (s : Sig) (W : World D) (σ : ℕ → D) where
       ap₂ (λ (X Y : Type 0). X × Y) (placed-hold 1 (b .tabs))
       (ap (All (BindingHolds s W σ)) (take-at (bindings (b .repls)) head (length (b .repls)) (length-bindings (b .repls))) ∙ bindings-hold (b .repls))
 
+-- and its terms are those of its parts
+module _ (P : ℕ → Type 0) where
+  placed-terms : (p : ℕ) (ts : List Tab) → AllTerms P (placed tabWords tabAt p ts) ≡ AllTabTerms P ts
+  placed-terms p [] = refl
+  placed-terms p (t ∷ ts) = ap (λ (X : Type 0). All P (termsOf (tab t)) × X) (placed-terms (p + length (tabWords t)) ts)
+
+  bindings-terms : (rs : List Replacement) → All (Ends P) rs → All (λ (b : CoreAction). All P (bindingTerms b)) (bindings rs)
+  bindings-terms [] h = tt
+  bindings-terms (r ∷ rs) h = ((h .0 .0, (h .0 .1, tt)), bindings-terms rs (h .1))
+
 module _ {D : Type 0} (s : Sig) (W : World D) (r : Rule) (c : CoreRule) (k : Keeps s W r c) where
   abbrev settledBody : Settled
   settledBody = settle s (c .body)
@@ -91,7 +104,13 @@ module _ {D : Type 0} (s : Sig) (W : World D) (r : Rule) (c : CoreRule) (k : Kee
 
   pub faithful : Faithful s W r (c .body) readBack (length (settledBody .repls))
   faithful =
+      let own = settled-fresh s (c .body) in
+      let first = take-at (bindings (settledBody .repls)) (c .head) (length (settledBody .repls)) (length-bindings (settledBody .repls)) in
       record {
+        chosen = (
+          transport⁻¹ (placed-terms (FreshOf s (c .body)) 1 (settledBody .tabs)) (own .0),
+          transport⁻¹ (ap (All (λ (b : CoreAction). All (FreshOf s (c .body)) (bindingTerms b))) first) (bindings-terms (FreshOf s (c .body)) (settledBody .repls) (own .1)),
+        );
         matches = λ ρ. (
           λ h. let t = k .matches ρ .0 h in (t .0, transport⁻¹ (meets-is s W (join ρ (t .0)) settledBody (c .head)) (t .1)),
           λ h. k .matches ρ .1 (h .0, parts-met (join ρ (h .0)) (h .1)),
@@ -175,9 +194,23 @@ demand3 signature rule counters room scratch o e =
         flattens = a .fits .flattens;
         reads-lowered = subst (λ (x : Result). readFlat s (x .words) ≡ ok flat) (w .gives) back;
       },
-      λ D stable W eqs.
+      λ D W eqs.
           subst (λ (xs : List Atom). Faithful s W (w .tree) xs flat (o .replacements)) (a .fits .same)
           (subst (λ (n : ℕ). Faithful s W (w .tree) (c .body) flat n) (ap (λ (x : Result). x .replacements) (w .gives))
           (faithful s W (w .tree) c
-          (core-rule-keeps stable s W eqs (w .tree) (plain-rule s (length rule) (w .tree) (written-formed s rule (w .tree) (w .read))) counters c (w .lowers)))),
+          (core-rule-keeps s W eqs (w .tree) (plain-rule s (length rule) (w .tree) (written-formed s rule (w .tree) (w .read))) counters c (w .lowers)))),
     )
+
+-- ---- 01's own words for value-eq say as much, wherever an equality that cannot be denied holds
+
+worded : {D : Type 0} (s : Sig) (W : World D) → Stable D → ValueEqWorded D s W → ValueEq D s W
+worded s W stable eqs =
+    record {
+      same = eqs .same;
+      only = λ a b v h. stable a b (λ d. Option·none-ne-some v (sym (eqs .differ a b d) ∙ h));
+    }
+
+pub demand3-worded : Demand3Worded
+demand3-worded signature rule counters room scratch o e =
+    let d = demand3 signature rule counters room scratch o e in
+    (d .0, λ D W h. d .1 D W (worded (d .0 .sig) W (h .0) (h .1)))

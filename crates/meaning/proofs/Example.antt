@@ -2,13 +2,11 @@
 -- Assumes nothing.
 use Prim.Native.Nat.{ℕ, zero, suc}
 use mathlib.Core.Path.{_≡_, refl, sym, _∙_, ap, subst}
-use mathlib.Core.Bool.{Bool, true, cond}
+use mathlib.Core.Bool.{Bool, true, false, cond}
 use mathlib.Core.List.{List, [], _∷_}
-use mathlib.Core.Option.{Option, none, some}
-use mathlib.Core.Logic.{by-cases}
-use native.Mathlib.Decide.{ℕ-discrete}
+use mathlib.Core.Option.{Option, none, some, Option·none-ne-some}
 use lib.Dec.{eqb}
-use borrow.Author.Tests.{eq-eqb, ne-eqb}
+use borrow.Author.Tests.{eq-eqb, eqb-true}
 use Rattle.rules.specs.Words.{unit, scratchWords}
 use Rattle.rules.specs.Refusals.{ok}
 use Rattle.rules.specs.Signature.{Sig, readSignature}
@@ -16,35 +14,35 @@ use Rattle.rules.specs.Written.{leaf, call, end, _then_, equal, set′, Rule, r
 use Rattle.rules.specs.Trials.{flagOn}
 use Rattle.rules.specs.Calls.{Result, lowerWords}
 use Rattle.meaning.specs.Meaning.{World, ValueEq, All, FactHolds}
-use Rattle.meaning.specs.Demand3.{Stable, join, Meets, Carried}
+use Rattle.meaning.specs.Demand3.{join, Meets, Carried}
 use Rattle.meaning.proofs.Results.{ok-inj}
 use Rattle.meaning.proofs.Demand3.{demand3}
 
--- values are numbers
-stable : Stable ℕ
-stable a b n = by-cases (ℕ-discrete a b) (λ e. e) (λ d. absurd (n d))
-
--- value-eq is head 0; every other head gives its first input, or 0 without inputs
-abbrev eqTable : List ℕ → Option ℕ
+-- values are numbers. value-eq is head 0; every other head gives its first input, or 0 without inputs
+abbrev pub eqTable : List ℕ → Option ℕ
 eqTable [] = none
 eqTable (a ∷ []) = none
 eqTable (a ∷ b ∷ []) = cond (eqb a b) (some unit) none
 eqTable (a ∷ b ∷ c ∷ xs) = none
 
-abbrev table : ℕ → List ℕ → Option ℕ
+abbrev pub table : ℕ → List ℕ → Option ℕ
 table zero xs = eqTable xs
 table (suc h) [] = some 0
 table (suc h) (x ∷ xs) = some x
 
-abbrev world : World ℕ
+abbrev pub world : World ℕ
 world = record { fixed = λ w. w; table = table }
 
 value-eq : (s : Sig) → s .valueEq ≡ 0 → ValueEq ℕ s world
 value-eq s e =
     record {
       same = λ a. ap (λ (h : ℕ). table h (a ∷ a ∷ [])) e ∙ ap (λ (c : Bool). cond {A = Option ℕ} c (some unit) none) (eq-eqb a a refl);
-      differ = λ a b n. ap (λ (h : ℕ). table h (a ∷ b ∷ [])) e ∙ ap (λ (c : Bool). cond {A = Option ℕ} c (some unit) none) (ne-eqb a b n);
+      only = λ a b v h. only a b v (eqb a b) refl (ap (λ (h : ℕ). table h (a ∷ b ∷ [])) (sym e) ∙ h);
     }
+  where
+    only : (a b v : ℕ) (c : Bool) → eqb a b ≡ c → cond {A = Option ℕ} c (some unit) none ≡ some v → a ≡ b
+    only a b v true q h = eqb-true a b q
+    only a b v false q h = absurd (Option·none-ne-some v h)
 
 -- P1: x2 = f(x1), x3 = f(x1), set g(x1) = x3
 abbrev p1 : List ℕ
@@ -75,7 +73,7 @@ abbrev sevens : ℕ → ℕ
 sevens w = 7
 
 -- the signature and the rule as they are read
-abbrev sig : Sig
+abbrev pub sig : Sig
 sig = record { globals = 1; valueEq = 0; flag = true; kinds = 2 ∷ 0 ∷ 1 ∷ 0 ∷ [] }
 
 abbrev written : Rule
@@ -103,5 +101,5 @@ matched =
     let s : sig ≡ c .sig = ok-inj _ _ (sym sig-read ∙ c .reads-signature) in
     let r : written ≡ c .written = ok-inj _ _ (sym (subst (λ (x : Sig). readWritten x p1 ≡ ok written) s written-read) ∙ c .reads-written) in
     let met = subst (λ (x : Rule). All (FactHolds (c .sig) world sevens) (x .facts)) r (subst (λ (x : Sig). All (FactHolds x world sevens) (written .facts)) s facts-met) in
-    let m = d .1 ℕ stable world (value-eq (c .sig) (ap (λ (x : Sig). x .valueEq) (sym s))) .matches sevens .0 met in
+    let m = d .1 ℕ world (value-eq (c .sig) (ap (λ (x : Sig). x .valueEq) (sym s))) .matches sevens .0 met in
     (c, m .0, m .1)

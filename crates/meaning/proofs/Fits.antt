@@ -11,11 +11,11 @@ use lib.Dec.{eqb, leb}
 use borrow.Author.Tests.{lt-leb}
 use Rattle.rules.specs.Words.{limit16, freshBase, nameBase, literalBase, freshWord, unit, isNameWord, isLiteralWord, isFreshWord}
 use Rattle.rules.specs.Refusals.{ok, unbound, alreadyDefined}
-use Rattle.rules.specs.Signature.{Sig, heads, isVar, isFresh, isName, isConstructor, sameTerm, elem}
+use Rattle.rules.specs.Signature.{Sig, heads, isVar, isFresh, sameTerm, elem}
 use Rattle.rules.specs.Written.{Expr, Exprs, leaf, call, end, _then_, Fact, holds, equal, Action, let′, set′, delete′, subsume′, union′, panic′, expr′}
 use Rattle.rules.specs.Flat.{Tab, Atom, eqn, tab, CoreAction, Delete, Subsume, isTarget}
 use Rattle.rules.specs.ToQuery.{count, Fresh, fresh, Flat, Flats, flatten, flattenAll, Query, flattenFact, toQuery}
-use Rattle.rules.specs.ToCoreActions.{readable, Low, Lows, lowerExpr, lowerExprs, Done, lowerSet, lowerChange, AsSet, optional, unionAsSet, lowerUnion, lowerLet, lowerAction, toCoreActions}
+use Rattle.rules.specs.ToCoreActions.{readable, Low, Lows, lowerExpr, lowerExprs, Done, lowerSet, lowerChange, AsSet, unionAsSet, lowerUnion, lowerLet, lowerAction, toCoreActions}
 use Rattle.rules.specs.Canonicalize.{Replacement, replaceTerm, replaceAtom, replacementOf, orElse, firstReplacement, Body, replaceStep, replaceUpTo, replaceAll, resolveEq, resolve, bindings}
 use Rattle.rules.specs.RemoveDupVars.{alike, seen, keep, clashes, merged, Settled, afterPass, removeDupVars, settle}
 use Rattle.meaning.specs.Meaning.{All}
@@ -23,7 +23,7 @@ use Rattle.meaning.proofs.Lists.{all-append, cond-both, or-right}
 use Rattle.meaning.proofs.MergePass.{keep-all}
 use Rattle.meaning.proofs.Results.{bind-ok, ok-inj, refuse-ok, demand-ok}
 use Rattle.meaning.proofs.Fresh.{Took, took}
-use Rattle.meaning.proofs.Reading.{within-high, LeafWord, many, FormedCall, Formed, FormedAll, FormedFact, FormedAction}
+use Rattle.meaning.proofs.Reading.{within-high, LeafWord, many, FormedCall, Formed, FormedAll, FormedFact, FormedAction, as-set-formed}
 use Rattle.meaning.proofs.Encoded.{within-is, TermWord, FitTerms, FitTab, FitAction}
 
 -- ---- terms
@@ -186,24 +186,10 @@ module _ (s : Sig) where
           subst (λ (x : Done). All (FitAction s) (x .acts)) (ok-inj _ _ (f .2))
           (all-append (FitAction s) (r .0 .acts) _ (a .acts) (ok-change h (r .0 .terms) (fit-terms h es _ (r .0 .terms) g (a .count) (a .terms)), tt))
 
-      optional-formed : (b : Bool) (q p w h : ℕ) (es : Exprs) → FormedCall s n h es (FormedAll s n es) → LeafWord w → (u : AsSet)
-          → optional b (record { place = q; head = h; args = es; value = leaf p w }) ≡ some u
-          → FormedCall s n (u .head) (u .args) (FormedAll s n (u .args)) × Formed s n (u .value)
-      optional-formed true q p w h es f g u k =
-          subst (λ (x : AsSet). FormedCall s n (x .head) (x .args) (FormedAll s n (x .args)) × Formed s n (x .value)) (Option·some-injective _ _ k) (f, g)
-      optional-formed false q p w h es f g u k = absurd (Option·none-ne-some u k)
-
-      as-set-formed : (a b : Expr) → Formed s n a → Formed s n b → (u : AsSet) → unionAsSet s a b ≡ some u
-          → FormedCall s n (u .head) (u .args) (FormedAll s n (u .args)) × Formed s n (u .value)
-      as-set-formed (leaf p w) (leaf q v) fa fb u e = absurd (Option·none-ne-some u e)
-      as-set-formed (call p h es) (call q g fs) fa fb u e = absurd (Option·none-ne-some u e)
-      as-set-formed (leaf p w) (call q h es) fa fb u e = optional-formed (isName w && s .flag && isConstructor s h) q p w h es fb fa u e
-      as-set-formed (call q h es) (leaf p w) fa fb u e = optional-formed (isName w && s .flag && isConstructor s h) q p w h es fa fb u e
-
       union-fits : (a b : Expr) → Formed s n a → Formed s n b → (o : Option AsSet) → unionAsSet s a b ≡ o → (cs : List ℕ) (d : Done)
           → lowerUnion s bound o a b cs ≡ ok d → All (FitAction s) (d .acts)
       union-fits a b fa fb (some u) e cs d k =
-          let f = as-set-formed a b fa fb u e in
+          let f = as-set-formed s n a b fa fb u e in
           set-fits (u .place) (u .head) (u .args) (u .value) (f .0) (f .1) cs d k
       union-fits a b fa fb none e cs d k =
           let r = bind-ok (lowerExpr s bound a cs) _ d k in

@@ -3,6 +3,7 @@ pub mod Results
 pub mod Fresh
 pub mod Query
 pub mod Settling
+pub mod Unions
 pub mod CoreActions
 pub mod Reading
 pub mod CoreRule
@@ -17,6 +18,7 @@ pub mod RemoveDupVarsEnds
 pub mod Terms
 pub mod DistinctWords
 pub mod Replacements
+pub mod SettledTerms
 -- The sizes of what is read, lowered and settled
 pub mod WordLaws
 pub mod Room
@@ -28,6 +30,8 @@ pub mod BodySizes
 pub mod LoweredBody
 pub mod HeadSizes
 pub mod ResultBounds
+-- Counters
+pub mod PastHeads
 -- For code that settles where the words stand
 pub mod ReadBack
 pub mod Unplaced
@@ -41,3 +45,4 @@ pub mod Numbers
 pub mod Demand3
 pub mod Demand3Bytes
 pub mod Example
+pub mod Strength

@@ -3,6 +3,7 @@
 use Prim.Native.Nat.{ℕ, zero, suc, _+_, _*_, _≤_, _<_}
 use native.Mathlib.Omega.{arith}
 use mathlib.Core.Path.{_≡_, refl, sym, ap, subst}
+use mathlib.Core.Option.{Option, none, some, Option·some-injective, Option·none-ne-some}
 use mathlib.Core.Bool.{Bool, true, false, cond, _&&_, _||_}
 use mathlib.Core.List.{List}
 use lib.ListN.{length, getD}
@@ -10,8 +11,9 @@ use lib.Dec.{leb, ltb, eqb}
 use borrow.Author.Tests.{ltb-true, leb-true, lt-leb}
 use Rattle.rules.specs.Words.{limit12, limit16, maxDepth, freshBase, nameBase, literalBase, headBase, equalityWord, within, isNameWord, isLiteralWord, isHeadWord, isHeaderWord, headOf, countOf, factsOf, actionsOf, Code, aLet, aSet, aDelete, aSubsume, aUnion, aPanic, aCall, anExpression, noCode}
 use Rattle.rules.specs.Refusals.{ok, refuse, unfit, tooDeep}
-use Rattle.rules.specs.Signature.{Sig, heads, isFresh}
+use Rattle.rules.specs.Signature.{Sig, heads, isFresh, isName, isConstructor}
 use Rattle.rules.specs.Written.{Expr, Exprs, leaf, call, end, _then_, Fact, holds, equal, Action, let′, set′, delete′, subsume′, union′, panic′, expr′, Rule, Read, Reader, isLeaf, isCall, isBad, readMany, readRow, readShape, readExpr, readWord, Target, readTarget, readEqual, readHolds, readFact, readCode, codeAt, readAction, readWritten}
+use Rattle.rules.specs.ToCoreActions.{AsSet, optional, unionAsSet}
 use Rattle.meaning.specs.Meaning.{All}
 use Rattle.meaning.proofs.Lists.{and-left, and-right}
 use Rattle.meaning.proofs.Results.{bind-ok, ok-inj, refuse-ok, demand-ok}
@@ -219,6 +221,23 @@ module _ (s : Sig) (ws : List ℕ) where
         actions =
             reads-row (FormedAction s size) (readAction s ws) (λ p. code-formed p (codeAt ws p) (suc p)) (actionsOf (w .0 .value)) (f .0 .at) (x .0) (x .1);
       })
+
+-- ---- a union that becomes a set has a well-formed call and a well-formed value
+
+module _ (s : Sig) (n : ℕ) where
+  optional-formed : (b : Bool) (q p w h : ℕ) (es : Exprs) → FormedCall s n h es (FormedAll s n es) → LeafWord w → (u : AsSet)
+      → optional b (record { place = q; head = h; args = es; value = leaf p w }) ≡ some u
+      → FormedCall s n (u .head) (u .args) (FormedAll s n (u .args)) × Formed s n (u .value)
+  optional-formed true q p w h es f g u k =
+      subst (λ (x : AsSet). FormedCall s n (x .head) (x .args) (FormedAll s n (x .args)) × Formed s n (x .value)) (Option·some-injective _ _ k) (f, g)
+  optional-formed false q p w h es f g u k = absurd (Option·none-ne-some u k)
+
+  pub as-set-formed : (a b : Expr) → Formed s n a → Formed s n b → (u : AsSet) → unionAsSet s a b ≡ some u
+      → FormedCall s n (u .head) (u .args) (FormedAll s n (u .args)) × Formed s n (u .value)
+  as-set-formed (leaf p w) (leaf q v) fa fb u e = absurd (Option·none-ne-some u e)
+  as-set-formed (call p h es) (call q g fs) fa fb u e = absurd (Option·none-ne-some u e)
+  as-set-formed (leaf p w) (call q h es) fa fb u e = optional-formed (isName w && s .flag && isConstructor s h) q p w h es fb fa u e
+  as-set-formed (call q h es) (leaf p w) fa fb u e = optional-formed (isName w && s .flag && isConstructor s h) q p w h es fa fb u e
 
 -- ---- no fresh variable is written
 

@@ -21,7 +21,7 @@ use Rattle.rules.specs.Flat.{Tab, Atom, eqn, tab}
 use Rattle.rules.specs.Canonicalize.{Replacement, replaceTerm, replaceAtom, firstReplacement, replaceStep, replaceUpTo, replaceAll, resolveEq, resolve, canonicalize}
 use Rattle.rules.specs.RemoveDupVars.{alike, seen, keep, clashes, merged, afterPass, removeDupVars, settle}
 use Rattle.meaning.specs.Meaning.{All}
-use Rattle.meaning.specs.Bounds.{Apart, SettledApart, PassesBounded}
+use Rattle.meaning.specs.Bounds.{Apart, SettledApart, SettleEnough, PassesBounded}
 use Rattle.meaning.proofs.Lists.{or-false}
 use Rattle.meaning.proofs.CanonicalizeEnds.{first-var}
 use Rattle.meaning.proofs.MergePass.{keep-length, keep-apart, IsEqn, merged-eqns, clashes-unlike, clashes-same, apart-stays}
@@ -240,8 +240,7 @@ enough s (suc n) (suc m) ts rs k h l = go (merged [] ts) refl (λ us qs j a b. e
         ih (c .tabs) (c .repls) (suc k) (omega arith) (omega arith)
 
 -- more passes than the atoms and one are never made, whatever is allowed
-pub settle-enough : (s : Sig) (n : ℕ) (xs : List Atom) → length xs < n
-    → removeDupVars s n (canonicalize s xs [] .tabs) (canonicalize s xs [] .repls) 0 ≡ settle s xs
+pub settle-enough : SettleEnough
 settle-enough s n xs h =
     let c = canonicalize s xs [] in
     let b = behind-start s xs in

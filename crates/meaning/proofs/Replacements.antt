@@ -24,7 +24,7 @@ use Rattle.meaning.proofs.Terms.{AllTerms, AllTabTerms, all-terms-map, 
 
 -- ---- every variable of the body is one of its variables
 
-abbrev VarIn : Sig → List ℕ → ℕ → Type 0
+abbrev pub VarIn : Sig → List ℕ → ℕ → Type 0
 VarIn s vs w = isVar s w ≡ true → elem w vs ≡ true
 
 vars-in : (s : Sig) (ws : List ℕ) → All (VarIn s (varsOf s ws)) ws
@@ -38,7 +38,7 @@ vars-in s (w ∷ ws) = go (isVar s w) refl (vars-in s ws)
     )
     go false e ih = ((λ v. absurd (false≢true (sym e ∙ v))), ih)
 
-body-in : (s : Sig) (xs : List Atom) → AllTerms (VarIn s (bodyVars s xs)) xs
+pub body-in : (s : Sig) (xs : List Atom) → AllTerms (VarIn s (bodyVars s xs)) xs
 body-in s [] = tt
 body-in s (x ∷ xs) =
     let vs = varsOf s (termsOf x) in (

@@ -12,12 +12,16 @@ use borrow.Author.Tests.{eqb-true, lt-leb}
 use native.Mathlib.Omega.{arith}
 use Rattle.rules.specs.Signature.{Sig, isVar, sameTerms}
 use Rattle.rules.specs.Words.{unit, nameBase}
-use Rattle.rules.specs.Flat.{Tab, Atom, eqn, tab}
+use Rattle.rules.specs.Flat.{Tab, Atom, eqn, tab, Let}
 use Rattle.rules.specs.Canonicalize.{Replacement, replaceTerm, replaceAtom, replacementOf, orElse, firstReplacement, Body, replaceStep, replaceUpTo, resolveEq, resolve, replaceAll}
 use Rattle.rules.specs.RemoveDupVars.{alike, seen, keep, clashes, merged, afterPass, removeDupVars, settle, Settled}
-use Rattle.meaning.specs.Demand3.{Stable}
+use Rattle.meaning.specs.Demand3.{BindingHolds}
 use Rattle.meaning.proofs.Lists.{all-append, all-left, all-right, and-left, and-right, same-terms}
-use Rattle.meaning.specs.Meaning.{World, ValueEq, All, val, TabHolds, AtomHolds, Bound}
+use Rattle.meaning.specs.Meaning.{World, ValueEq, All, val, TabHolds, AtomHolds}
+
+-- a replacement holds when its variable and its term have one value, as the binding that says it does
+abbrev pub Bound : {D : Type 0} → Sig → World D → (ℕ → D) → Replacement → Type 0
+Bound s W σ r = BindingHolds s W σ (Let (r .old) (r .new))
 
 module _ {D : Type 0} (s : Sig) (W : World D) (σ : ℕ → D) where
   -- ---- (a) replacing a variable by a term of the same value
@@ -160,11 +164,11 @@ module _ {D : Type 0} (s : Sig) (W : World D) (σ : ℕ → D) where
   val-unit : val s W σ unit ≡ W .fixed unit
   val-unit = ap (λ (b : Bool). cond b (σ unit) (W .fixed unit)) (lt-leb (nameBase + s .globals) unit (omega arith))
 
-  module _ (stable : Stable D) (eqs : ValueEq D s W) where
+  module _ (eqs : ValueEq D s W) where
     value-eq : (p a b : ℕ) → (val s W σ a ≡ val s W σ b) ↔ TabHolds s W σ (record { place = p; head = s .valueEq; ins = a ∷ b ∷ []; out = unit })
     value-eq p a b = (
       λ h. ap (λ (x : D). W .table (s .valueEq) (x ∷ val s W σ b ∷ [])) h ∙ eqs .same (val s W σ b) ∙ ap (λ (x : D). some x) (sym val-unit),
-      λ h. stable (val s W σ a) (val s W σ b) (λ d. Option·none-ne-some _ (sym (eqs .differ _ _ d) ∙ h)),
+      λ h. eqs .only _ _ _ h,
     )
 
     close-law : (xs : List Atom) → All (AtomHolds s W σ) xs ↔ All (TabHolds s W σ) (resolve s xs)

@@ -8,12 +8,10 @@ use mathlib.Core.Bool.{cond}
 use mathlib.Core.List.{List, [], _∷_, _++_, map}
 use mathlib.Core.Option.{Option, none, some}
 use lib.Dec.{eqb}
-use Rattle.rules.specs.Signature.{Sig, isVar}
+use Rattle.rules.specs.Signature.{Sig, isVar, isName, isConstructor}
 use Rattle.rules.specs.Words.{unit}
 use Rattle.rules.specs.Written.{Expr, Exprs, leaf, call, end, _then_, Fact, holds, equal, Action, let′, set′, delete′, subsume′, union′, panic′, expr′}
 use Rattle.rules.specs.Flat.{Tab, Atom, eqn, tab, CoreAction, Let, Set, Delete, Subsume, Union, Panic, Call}
-use Rattle.rules.specs.Canonicalize.{Replacement}
-use Rattle.rules.specs.ToCoreActions.{AsSet, unionAsSet}
 
 -- ---- what a rule is run in
 
@@ -22,10 +20,10 @@ pub record World (D : Type 0) : Type 0 where
   pub fixed : ℕ → D
   pub table : ℕ → List D → Option D
 
--- what demand 3 supposes of value-eq: Unit for two equal values, and nothing for two unequal ones
+-- what demand 3 supposes of value-eq: Unit for two equal values, and an output for no others
 pub record ValueEq (D : Type 0) (s : Sig) (W : World D) : Type 0 where
   pub same : (a : D) → W .table (s .valueEq) (a ∷ a ∷ []) ≡ some (W .fixed unit)
-  pub differ : (a b : D) → (a ≡ b → ⊥) → W .table (s .valueEq) (a ∷ b ∷ []) ≡ none
+  pub only : (a b v : D) → W .table (s .valueEq) (a ∷ b ∷ []) ≡ some v → a ≡ b
 
 -- each of a list
 abbrev pub All {ℓ} : {A : Type ℓ} → (A → Type 0) → List A → Type 0
@@ -56,7 +54,7 @@ abbrev pub FactHolds : {D : Type 0} → Sig → World D → (ℕ → D) → Fact
 FactHolds {D} s W ρ (holds e) = (v : D) × (eval s W ρ e ≡ some v)
 FactHolds {D} s W ρ (equal p a b) = (v : D) × (eval s W ρ a ≡ some v) × (eval s W ρ b ≡ some v)
 
--- ---- atoms and bindings
+-- ---- atoms
 
 -- the head's table gives the last term's value for the values of the terms before it
 abbrev pub TabHolds : {D : Type 0} → Sig → World D → (ℕ → D) → Tab → Type 0
@@ -65,10 +63,6 @@ TabHolds s W σ t = W .table (t .head) (map (val s W σ) (t .ins)) ≡ some (val
 abbrev pub AtomHolds : {D : Type 0} → Sig → World D → (ℕ → D) → Atom → Type 0
 AtomHolds s W σ (eqn p a b) = val s W σ a ≡ val s W σ b
 AtomHolds s W σ (tab t) = TabHolds s W σ t
-
--- a binding holds when its variable and its term have one value
-abbrev pub Bound : {D : Type 0} → Sig → World D → (ℕ → D) → Replacement → Type 0
-Bound s W σ r = val s W σ (r .old) ≡ val s W σ (r .new)
 
 -- ---- heads: their events
 
@@ -129,9 +123,42 @@ runSet s W ans h es e g =
     let q = runExpr s W ans (g .env) e (r .trace) in
     record { env = g .env; trace = note (q .trace) (wasSet h (r .value) (q .value)) }
 
--- with the flag on, a union of a name and a constructor call means its set
-abbrev pub runUnion : {D : Type 0} → Sig → World D → Answers D → Option AsSet → Expr → Expr → Run D → Run D
-runUnion s W ans (some u) a b g = runSet s W ans (u .head) (u .args) (u .value) g
+-- the value of a name
+abbrev pub nameOf : Expr → Option ℕ
+nameOf (leaf p w) = cond (isName w) (some w) none
+nameOf (call p h es) = none
+
+-- a call of a constructor: its head and its arguments
+pub record Built : Type 0 where
+  pub head : ℕ
+  pub args : Exprs
+
+abbrev pub builtBy : Sig → Expr → Option Built
+builtBy s (leaf p w) = none
+builtBy s (call p h es) = cond (isConstructor s h) (some (record { head = h; args = es })) none
+
+-- what such a call is set to: the name
+pub record UnionSet : Type 0 where
+  pub call : Built
+  pub name : ℕ
+
+abbrev pub setTo : Option Built → Option ℕ → Option UnionSet
+setTo c n = andThen c (λ b. andThen n (λ w. some (record { call = b; name = w })))
+
+abbrev pub either : Option UnionSet → Option UnionSet → Option UnionSet
+either (some u) o = some u
+either none o = o
+
+-- with the flag on, a union of a name and a constructor call, in either order, means the set of that call to the name. It is said here from 01's
+-- sentence alone, and not by the choice that lowering makes: that both agree is the promise `UnionsAgree`
+abbrev pub unionSet : Sig → Expr → Expr → Option UnionSet
+unionSet s a b = cond (s .flag) (either (setTo (builtBy s a) (nameOf b)) (setTo (builtBy s b) (nameOf a))) none
+
+-- the call's arguments, then the name; any other union is one side, then the other
+abbrev pub runUnion : {D : Type 0} → Sig → World D → Answers D → Option UnionSet → Expr → Expr → Run D → Run D
+runUnion s W ans (some u) a b g =
+    let r = runExprs s W ans (g .env) (u .call .args) (g .trace) in
+    record { env = g .env; trace = note (r .trace) (wasSet (u .call .head) (r .value) (val s W (g .env) (u .name))) }
 runUnion s W ans none a b g =
     let r = runExpr s W ans (g .env) a (g .trace) in
     let q = runExpr s W ans (g .env) b (r .trace) in
@@ -149,7 +176,7 @@ runAction s W ans (delete′ p h es) g =
 runAction s W ans (subsume′ p h es) g =
     let r = runExprs s W ans (g .env) es (g .trace) in
     record { env = g .env; trace = note (r .trace) (subsumed h (r .value)) }
-runAction s W ans (union′ a b) g = runUnion s W ans (unionAsSet s a b) a b g
+runAction s W ans (union′ a b) g = runUnion s W ans (unionSet s a b) a b g
 runAction s W ans (panic′ l) g = record { env = g .env; trace = note (g .trace) (panicked l) }
 runAction s W ans (expr′ e) g = record { env = g .env; trace = runExpr s W ans (g .env) e (g .trace) .trace }
 
