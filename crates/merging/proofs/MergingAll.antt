@@ -18,7 +18,8 @@ use Rattle.merging.specs.declared.Merging.{Merging}
 use Rattle.merging.specs.Chains.{LinkAsks, Linked, LinksAt, MarksAt, markOf}
 use Rattle.merging.specs.RemoveDupVars.{DroppedOne, Group, GroupAsks, Grouped, KeptOne, LinksKept, MarkedBy, MergeAsks, MergeOneAsks, MergedAll, MergedOne, OneStep, PassAsks, Passed, behind, groupOf, groupWords, groupsOf}
 use Rattle.bodies.specs.Standing.{TabsAt, sizeAt, tabAt, tabsIn}
-use Rattle.merging.proofs.Groups.{links-after, marks-after}
+use Rattle.merging.proofs.Links.{links-after}
+use Rattle.merging.proofs.Marks.{marks-after}
 use Rattle.bodies.proofs.Standing.{FirstTab, first-tab, no-tab-left, no-tabs, none-passed, size-tab, tab-is, tabs-after, tabs-before, tabs-is, tabs-join, tabs-read}
 
 -- ---- words carried to where they are
@@ -406,8 +407,8 @@ module _ (l : List ℕ) (from n eqs links : ℕ) (c : MergeAsks l from n eqs lin
             buckets = w .buckets;
             grouping = subst (λ (us : List Tab). Grouping (tabsIn l from n) (w .gs ++ g ∷ []) us (pass-here .atom ∷ w .firsts) (pass-here .rest)) ks (new f);
             tabs = tabs-after o rest-at (omega (arith, c .below));
-            linked = links-after (w .buckets) (pass-here .rest) i₂ m m₂ links chained linked-on;
-            marks = marks-after (pass-here .atom) (w .firsts) (pass-here .rest) i₂ m m₂ links marked marks-on;
+            linked = links-after m m₂ links (w .buckets) (pass-here .rest) i₂ chained linked-on;
+            marks = marks-after m m₂ links (pass-here .atom) (w .firsts) (pass-here .rest) i₂ marked marks-on;
             helds = tabs-to from (r .kept) (tabs-after o (w .helds) (omega (arith, c .below))) refl (sym (k .kept-end));
             runs = tabs-to (from + r .start) (i₂ - r .start) (tabs-after o longer (omega (arith, c .below))) (omega (arith, k .start-end)) (omega (arith, k .start-end, ei, w .up));
             at = subst (λ (ws : List ℕ). At ws m₂ eqs) (sym (words-append groupWords (w .gs) (g ∷ [])))
