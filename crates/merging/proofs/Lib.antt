@@ -4,5 +4,7 @@ pub mod Linking
 pub mod Links
 pub mod Marks
 pub mod Groups
+pub mod Runs
+pub mod MergingOne
 pub mod MergingAll
 pub mod PassGroups

@@ -1,19 +1,14 @@
--- The loop over the atoms of a pass, and the last run, which moves behind it.
+-- Each turn merges one atom, so behind the loop the groups are written and every kept atom is held in front or in the last run, which then moves.
 use mathlib.Core.Path.{_∙_, _≡_, ap, refl}
 use Prim.Native.Nat.{_+_, _-_, ℕ}
 use native.Mathlib.Omega.{arith}
 use lib.ListN.{length}
-use Rattle.octets.proofs.Words.{length-words, length-words-kept}
+use Rattle.octets.proofs.Words.{length-words}
 use Rattle.octets.specs.Words.{words}
-use Rattle.merging.proofs.MergingAll.{MergingAll, last-up, last-within, merging-end, merging-next, merging-start, one-asks, pass-in, pass-some}
+use Rattle.merging.proofs.MergingAll.{MergingAll, merging-start, Going, going, one-asks, merging-next, Last, at-last, merging-end}
 use borrow.Author.Needs.{needs}
 use Rattle.merging.proofs.merge_all.Statement.{statement}
 use Rattle.merging.proofs.merge_all.Tie as tie
-use Rattle.merging.proofs.merge_all.Reads as reads
-use Rattle.merging.proofs.merge_all.Lts as lts
-use Rattle.bodies.proofs.atoms.size.Reads as size-reads
-use Rattle.merging.proofs.carry_down.Reads as carry-down-reads
-use Rattle.merging.proofs.merge_one.Reads as merge-one-reads
 
 abbrev Inv-loop : tie.InvT-loop
 Inv-loop s₀ from n eqs links t₀ i₀ s t i = (length s ≡ length s₀) × MergingAll (words s₀) (words s) from n eqs links i t
@@ -21,159 +16,67 @@ Inv-loop s₀ from n eqs links t₀ i₀ s t i = (length s ≡ length s₀) × M
 abbrev μ-loop : tie.MeasureT-loop
 μ-loop s₀ from n eqs links t₀ i₀ s t i = n - i
 
--- src/lib.rt:131:5
 loop-holds : tie.Need-loop-holds Inv-loop μ-loop
-loop-holds c =
-    let a = c .before .args in
-    let l = words (a .s .now) in
-    (refl, merging-start l (a .from) (a .n) (a .eqs) (a .links) (c .before .pre))
+loop-holds c = let e = c .before in (refl, merging-start (e .pre) (omega (arith, length-words (e .args .s .now), e .good)))
 
--- src/lib.rt:132:25
+-- ---- an atom is left
+
+at-in : (c : tie.In-loop Inv-loop μ-loop) → Going (c .before .loop .inv .1)
+at-in c = going (c .before .loop .inv .1) (c .loop-test .taken)
+
 add-size : tie.Need-add-size Inv-loop μ-loop
-add-size c =
-    let a = c .before .before .before .before .args in
-    let p = c .before .before .before .before .pre in
-    let top = length-words (a .s .now) in
-    let same = length-words-kept (c .before .before .loop .s) (a .s .now) (c .before .before .loop .inv .0) in
-    omega (arith, p .tabs .within)
+add-size c = omega (arith, at-in (c .before))
 
--- src/lib.rt:132:13
 size-requires : tie.Need-size-requires Inv-loop μ-loop
-size-requires c κs =
-    let a = c .before .before .before .before .args in
-    let p = c .before .before .before .before .pre in
-    let top = length-words (a .s .now) in
-    let same = length-words-kept (c .before .before .loop .s) (a .s .now) (c .before .before .loop .inv .0) in
-    omega (arith, p .tabs .within)
+size-requires c κs = at-in (c .before) .here
 
--- src/lib.rt:133:9
 merge-one-requires : tie.Need-merge-one-requires Inv-loop μ-loop
-merge-one-requires c κs =
-    let a = c .before .before .before .before .before .before .args in
-    let p = c .before .before .before .before .before .before .pre in
-    let l = words (a .s .now) in
-    let m = words (c .before .before .before .before .loop .s) in
-    let i = c .before .before .before .before .loop .i in
-    let t = c .before .before .before .before .loop .t in
-    let w = c .before .before .before .before .loop .inv .1 in
-    one-asks l (a .from) (a .n) (a .eqs) (a .links) p m i t w (c .before .before .before .loop-test .taken)
+merge-one-requires c κs = one-asks (at-in (c .before .before .before))
 
--- src/lib.rt:134:9
+abbrev one-size : tie.After-merge-one Inv-loop μ-loop → tie.After-size Inv-loop μ-loop
+one-size c = c .before .before
+
 add-i : tie.Need-add-i Inv-loop μ-loop
-add-i c =
-    let a = c .before .before .before .before .before .before .before .before .before .args in
-    let p = c .before .before .before .before .before .before .before .before .before .pre in
-    let l = words (a .s .now) in
-    let top = length-words (a .s .now) in
-    let m = words (c .before .before .before .before .before .before .before .loop .s) in
-    let i = c .before .before .before .before .before .before .before .loop .i in
-    let t = c .before .before .before .before .before .before .before .loop .t in
-    let w = c .before .before .before .before .before .before .before .loop .inv .1 in
-    let same = length-words-kept (c .before .before .before .before .before .before .before .loop .s) (a .s .now) (c .before .before .before .before .before .before .before .loop .inv .0) in
-    omega (arith, p .tabs .within, c .before .before .before .before .size .ensures, pass-in l (a .from) (a .n) (a .eqs) (a .links) p m i t w (c .before .before .before .before .before .before .loop-test .taken))
+add-i c = let z = one-size (c .before .before) in omega (arith, at-in (z .before .before), z .size .ensures)
 
--- src/lib.rt:131:5
 loop-less : tie.Need-loop-less Inv-loop μ-loop
-loop-less c =
-    let a = c .before .before .before .before .before .before .before .before .before .args in
-    let p = c .before .before .before .before .before .before .before .before .before .pre in
-    let l = words (a .s .now) in
-    let m = words (c .before .before .before .before .before .before .before .loop .s) in
-    let i = c .before .before .before .before .before .before .before .loop .i in
-    let t = c .before .before .before .before .before .before .before .loop .t in
-    let w = c .before .before .before .before .before .before .before .loop .inv .1 in
-    omega (arith, c .before .before .before .before .size .ensures, pass-some l (a .from) (a .n) (a .eqs) (a .links) p m i t w (c .before .before .before .before .before .before .loop-test .taken))
+loop-less c = let z = one-size (c .before .before) in omega (arith, at-in (z .before .before) .some, z .size .ensures)
 
--- src/lib.rt:131:5
 loop-again : tie.Need-loop-again Inv-loop μ-loop
 loop-again c =
-    let a = c .before .before .before .before .before .before .before .before .before .args in
-    let p = c .before .before .before .before .before .before .before .before .before .pre in
-    let l = words (a .s .now) in
-    let m = words (c .before .before .before .before .before .before .before .loop .s) in
-    let i = c .before .before .before .before .before .before .before .loop .i in
-    let t = c .before .before .before .before .before .before .before .loop .t in
-    let w = c .before .before .before .before .before .before .before .loop .inv .1 in
-    (c .before .before .merge-one .kept .0 ∙ c .before .before .before .before .before .before .before .loop .inv .0, merging-next l (a .from) (a .n) (a .eqs) (a .links) p m i t w (c .before .before .before .before .before .before .loop-test .taken) _ (ap (λ (x : ℕ). i + x) (c .before .before .before .before .size .ensures)) _ _ (c .before .before .merge-one .ensures))
+    let o = c .before .before in
+    let z = one-size o in
+    let p = z .before .before .before .loop in
+    (o .merge-one .kept .0 ∙ p .inv .0, merging-next (at-in (z .before .before)) (ap (λ (x : ℕ). p .i + x) (z .size .ensures)) (o .merge-one .ensures))
 
--- src/lib.rt:136:15
+-- ---- none is left
+
+at-end : (c : tie.After-loop Inv-loop μ-loop) → Last (c .before .loop .inv .1)
+at-end c = at-last (c .before .loop .inv .1) (c .loop-test .left)
+
 sub-last : tie.Need-sub-last Inv-loop μ-loop
-sub-last c =
-    let a = c .before .before .before .before .args in
-    let p = c .before .before .before .before .pre in
-    let l = words (a .s .now) in
-    let m = words (c .before .before .loop .s) in
-    let i = c .before .before .loop .i in
-    let t = c .before .before .loop .t in
-    let w = c .before .before .loop .inv .1 in
-    last-up l (a .from) (a .n) (a .eqs) (a .links) p m i t w (c .before .loop-test .left)
+sub-last c = at-end (c .before) .up
 
--- src/lib.rt:137:19
 add-carry-down : tie.Need-add-carry-down Inv-loop μ-loop
-add-carry-down c =
-    let a = c .before .before .before .before .before .before .args in
-    let p = c .before .before .before .before .before .before .pre in
-    let l = words (a .s .now) in
-    let top = length-words (a .s .now) in
-    let m = words (c .before .before .before .before .loop .s) in
-    let i = c .before .before .before .before .loop .i in
-    let t = c .before .before .before .before .loop .t in
-    let w = c .before .before .before .before .loop .inv .1 in
-    omega (arith, p .tabs .within, w .down, last-up l (a .from) (a .n) (a .eqs) (a .links) p m i t w (c .before .before .before .loop-test .left))
+add-carry-down c = omega (arith, at-end (c .before .before .before))
 
--- src/lib.rt:137:34
 add-carry-down-2 : tie.Need-add-carry-down-2 Inv-loop μ-loop
-add-carry-down-2 c =
-    let a = c .before .before .before .before .before .before .before .args in
-    let p = c .before .before .before .before .before .before .before .pre in
-    let l = words (a .s .now) in
-    let top = length-words (a .s .now) in
-    let m = words (c .before .before .before .before .before .loop .s) in
-    let i = c .before .before .before .before .before .loop .i in
-    let t = c .before .before .before .before .before .loop .t in
-    let w = c .before .before .before .before .before .loop .inv .1 in
-    omega (arith, p .tabs .within, last-up l (a .from) (a .n) (a .eqs) (a .links) p m i t w (c .before .before .before .before .loop-test .left))
+add-carry-down-2 c = omega (arith, at-end (c .before .before .before .before))
 
--- src/lib.rt:137:5
 carry-down-requires : tie.Need-carry-down-requires Inv-loop μ-loop
-carry-down-requires c κs =
-    let a = c .before .before .before .before .before .before .before .args in
-    let p = c .before .before .before .before .before .before .before .pre in
-    let l = words (a .s .now) in
-    let m = words (c .before .before .before .before .before .loop .s) in
-    let i = c .before .before .before .before .before .loop .i in
-    let t = c .before .before .before .before .before .loop .t in
-    let w = c .before .before .before .before .before .loop .inv .1 in
-    (omega (arith, w .down), last-within l (a .from) (a .n) (a .eqs) (a .links) p m i t w (c .before .before .before .before .loop-test .left))
+carry-down-requires c κs = let e = at-end (c .before .before .before .before) in (omega (arith, e .down), e .within)
 
--- src/lib.rt:140:15
+abbrev carry-end : tie.After-carry-down Inv-loop μ-loop → tie.After-loop Inv-loop μ-loop
+carry-end c = c .before .before .before .before .before
+
 add-t19 : tie.Need-add-t19 Inv-loop μ-loop
-add-t19 c =
-    let a = c .before .before .before .before .before .before .before .before .before .before .before .args in
-    let p = c .before .before .before .before .before .before .before .before .before .before .before .pre in
-    let l = words (a .s .now) in
-    let top = length-words (a .s .now) in
-    let m = words (c .before .before .before .before .before .before .before .before .before .loop .s) in
-    let i = c .before .before .before .before .before .before .before .before .before .loop .i in
-    let t = c .before .before .before .before .before .before .before .before .before .loop .t in
-    let w = c .before .before .before .before .before .before .before .before .before .loop .inv .1 in
-    omega (arith, p .tabs .within, w .down, last-up l (a .from) (a .n) (a .eqs) (a .links) p m i t w (c .before .before .before .before .before .before .before .before .loop-test .left))
+add-t19 c = omega (arith, at-end (carry-end (c .before .before .before)))
 
--- src/lib.rt:120:1
 same-length : tie.Need-same-length Inv-loop μ-loop
 same-length c = search needs
 
--- src/lib.rt:120:1
 returns : tie.Need-returns Inv-loop μ-loop
-returns c =
-    let a = c .before .before .before .before .before .before .before .before .before .before .before .args in
-    let p = c .before .before .before .before .before .before .before .before .before .before .before .pre in
-    let l = words (a .s .now) in
-    let m = words (c .before .before .before .before .before .before .before .before .before .loop .s) in
-    let i = c .before .before .before .before .before .before .before .before .before .loop .i in
-    let t = c .before .before .before .before .before .before .before .before .before .loop .t in
-    let w = c .before .before .before .before .before .before .before .before .before .loop .inv .1 in
-    merging-end l (a .from) (a .n) (a .eqs) (a .links) p m i t w (c .before .before .before .before .before .before .before .before .loop-test .left) _ (c .before .before .before .carry-down .ensures)
+returns c = let d = c .before .before .before in merging-end (at-end (carry-end d)) (d .carry-down .ensures)
 
 pub merge-all-spec : {M : Type 1} → statement M
 merge-all-spec =
