@@ -22,7 +22,8 @@ use Rattle.canonicalize.specs.declared.Canonical.{Canonical}
 use Rattle.canonicalize.specs.Canonicalize.{CanonicalAt, CanonicalizeAsks, FrontAsks, Fronted, Leads, ReplaceAsks, Replaced, ResolveAsks, Resolved, bindingWords}
 use Rattle.canonicalize.specs.Spans.{Built, Spanned}
 use Rattle.canonicalize.proofs.Replacing.{bindings-append, no-equality}
-use Rattle.canonicalize.proofs.SpanLaws.{built-only, spanned-tail}
+use Rattle.canonicalize.proofs.SpanLaws.{spanned-tail}
+use Rattle.canonicalize.proofs.SpansBuilt.{built-only}
 
 -- ---- the equalities in front, counted
 
@@ -112,7 +113,7 @@ pub record Tabled (l : List ℕ) (at n to d table buckets : ℕ) : Type 0 where
 
 module _ (s : Sig) (l : List ℕ) (at n to d : ℕ) (c : CanonicalizeAsks l at n to d) (m : List ℕ) (buckets : ℕ) (b : Built l m at n (at + n) buckets) where
   made-table : Only l m (at + n) (at + n + 2 * buckets)
-  made-table = built-only l m at n (at + n) buckets b (omega (arith, c .clear, c .room, c .top, b .few))
+  made-table = built-only b (omega (arith, c .clear, c .room, c .top, b .few))
 
   same-atoms : AtomsAt (atomsIn l at n) m at n
   same-atoms = atoms-before made-table (c .atoms) (omega arith)
@@ -144,7 +145,7 @@ module _ (s : Sig) (l : List ℕ) (at n to d table buckets : ℕ) (c : Tabled l 
         eqs = z .eqs;
         equalities = z .equalities;
         others = z .others;
-        spanned = spanned-tail l at n table buckets at (e + (n - e)) (c .spanned) (omega arith) (omega (arith, z .inside));
+        spanned = spanned-tail at (e + (n - e)) (c .spanned) (omega arith) (omega (arith, z .inside));
         clear = c .clear;
         room = subst (λ (us : List Atom). to + weight us + 3 * length us + 3 ≤ d) (z .whole) (c .room);
         top = c .top;

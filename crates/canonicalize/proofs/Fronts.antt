@@ -255,7 +255,7 @@ module _ (s : Sig) (l : List ℕ) (at e k to d₀ table buckets : ℕ) (c : Fron
         stand = subst (λ (q : ℕ). AtomsAt (atomsIn l at e ++ atomsIn l (at + e) k) l q (e - 0 + k)) (plus at)
             (subst (λ (q : ℕ). AtomsAt (atomsIn l at e ++ atomsIn l (at + e) k) l at (q + k)) (minus e)
             (atoms-join (atomsIn l at e) (atomsIn l (at + e) k) l at e (at + e) k (c .eqs) (c .others) refl));
-        spanned = spanned-tail l at (e + k) table buckets (at + 0) (e - 0 + k) (c .spanned) (omega arith) (omega arith);
+        spanned = spanned-tail (at + 0) (e - 0 + k) (c .spanned) (omega arith) (omega arith);
         tabs = no-tabs l to (omega (arith, c .room, c .top));
         binds = at-nil l d₀ (c .top);
         count = omega arith;
@@ -301,7 +301,7 @@ module _ (s : Sig) (l : List ℕ) (at e k to d₀ table buckets : ℕ) (c : Fron
         record {
           equality = at-first (front-here .stands);
           whole = omega (arith, long);
-          spanned = spanned-tail m (at + i) (e - i + k) table buckets (at + i + 3) (e - i + k - 3) (w .spanned) (omega arith) (omega (arith, long));
+          spanned = spanned-tail (at + i + 3) (e - i + k - 3) (w .spanned) (omega arith) (omega (arith, long));
           clear = omega (arith, c .clear);
           room = omega (arith, w .room, short, weights, w .binds .within);
           binds = omega (arith, w .room, c .clear);
@@ -336,8 +336,7 @@ module _ (s : Sig) (l : List ℕ) (at e k to d₀ table buckets : ℕ) (c : Fron
           equalities = front-here .equalities;
           left = omega (arith, long);
           stand = atoms-before o (front-here .behind (at + i₂) (e - i₂ + k) (omega arith) (omega (arith, long))) (omega (arith, c .clear, c .spanned .beyond, long));
-          spanned = spanned-before m (splice m (to + t .words) new) (at + i₂) (e - i₂ + k) table buckets (to + t .words) (to + t₂ .words) o
-              (spanned-tail m (at + i) (e - i + k) table buckets (at + i₂) (e - i₂ + k) (w .spanned) (omega arith) (omega (arith, long))) (omega (arith, c .clear));
+          spanned = spanned-before o (spanned-tail (at + i₂) (e - i₂ + k) (w .spanned) (omega arith) (omega (arith, long))) (omega (arith, c .clear));
           tabs = subst (λ (q : ℕ). TabsAt (w .written ++ one) (splice m (to + t .words) new) to q) (sym ew)
               (tabs-join (w .written) one (splice m (to + t .words) new) to (t .words) (to + t .words) (length new) (tabs-before o (w .tabs) (omega arith)) tab-one refl);
           binds = subst (λ (q : ℕ). At (bindingWords (w .rs)) (splice m (to + t .words) new) q) (sym eb)
@@ -381,7 +380,7 @@ module _ (s : Sig) (l : List ℕ) (at e k to d₀ table buckets : ℕ) (c : Fron
           stand = subst (λ (us : List Atom). AtomsAt us m₂ (at + i₂) (e - i₂ + k)) split
               (subst (λ (q : ℕ). AtomsAt (map (replaceAtom r) (front-here .es ++ w .others)) m₂ q (e - i₂ + k)) (omega arith)
               (subst (λ (q : ℕ). AtomsAt (map (replaceAtom r) (front-here .es ++ w .others)) m₂ (at + i + 3) q) (omega (arith, long)) (mk .atoms)));
-          spanned = spanned-tail m₂ (at + i + 3) (e - i + k - 3) table buckets (at + i₂) (e - i₂ + k) (mk .spanned) (omega arith) (omega (arith, long));
+          spanned = spanned-tail (at + i₂) (e - i₂ + k) (mk .spanned) (omega arith) (omega (arith, long));
           tabs = subst (λ (q : ℕ). TabsAt (w .written) m₂ to q) (sym ew)
               (record {
                 fits = w .tabs .fits;
@@ -442,7 +441,7 @@ module _ (s : Sig) (l : List ℕ) (at e k to d₀ table buckets : ℕ) (c : Fron
             others = subst (λ (us : List Atom). AtomsAt us m (at + e) k) gone
                 (subst (λ (u : ℕ). AtomsAt (w .eqs ++ w .others) m (at + e) u) (left-over e k)
                 (subst (λ (u : ℕ). AtomsAt (w .eqs ++ w .others) m (at + u) (e - u + k)) ie (w .stand)));
-            spanned = spanned-tail m (at + i) (e - i + k) table buckets (at + e) k (w .spanned) (omega arith) (omega arith);
+            spanned = spanned-tail (at + e) k (w .spanned) (omega arith) (omega arith);
             binds = w .binds;
             count = w .count;
             room = subst (λ (us : List Atom). to + t .words + weight us + 3 * length us + 3 ≤ t .binds) gone (w .room);

@@ -291,6 +291,6 @@ module _ (s : Sig) (l : List ℕ) (at n p d table buckets : ℕ) where
         spans = k .spans;
         words = em ∙ ap (λ (x : List ℕ). splice x (d - 3) bind) (k .words);
         size = k .size;
-        spanned = spanned-before m₁ m at n table buckets (d - 3) d o₂ (k .spanned) (omega arith);
+        spanned = spanned-before o₂ (k .spanned) (omega arith);
       } in
       (ap (λ (x : Option Replacement). placeAfter x d) (sym e), subst (λ (x : Option Replacement). Stepped x l m at n d table buckets) (sym e) w)

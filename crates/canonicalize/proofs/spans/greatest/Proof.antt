@@ -1,4 +1,4 @@
--- `spans::greatest` meets its contract. Assumes nothing.
+-- The greater of two words, by the test. Assumes nothing.
 use Rattle.canonicalize.proofs.SpanLaws.{greater-is, greater-other}
 use Rattle.canonicalize.proofs.spans.greatest.Statement.{statement}
 use Rattle.canonicalize.proofs.spans.greatest.Tie as tie

@@ -1,4 +1,4 @@
--- `spans::later` meets its contract. Assumes nothing.
+-- The later of two places is the greater number: by the test. Assumes nothing.
 use Rattle.canonicalize.proofs.SpanLaws.{greater-is, greater-other}
 use Rattle.canonicalize.proofs.spans.later.Statement.{statement}
 use Rattle.canonicalize.proofs.spans.later.Tie as tie

@@ -1,4 +1,4 @@
--- `spans::least` meets its contract. Assumes nothing.
+-- The lesser of two words, by the test. Assumes nothing.
 use Rattle.canonicalize.proofs.SpanLaws.{lesser-is, lesser-other}
 use Rattle.canonicalize.proofs.spans.least.Statement.{statement}
 use Rattle.canonicalize.proofs.spans.least.Tie as tie

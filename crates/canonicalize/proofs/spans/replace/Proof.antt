@@ -1,11 +1,14 @@
--- `spans::replace` meets its contract. Assumes nothing.
+-- Replacing x by y over the span of x: every x stands in its span, so that run is as good as one over all words; and y may then stand wherever x did, so its
+-- span takes in that of x. With one bucket the span is the whole body. Assumes nothing.
 use native.Mathlib.Omega.{arith}
 use Rattle.octets.proofs.Words.{length-words, length-words-kept}
 use Rattle.octets.specs.Words.{words}
-use Rattle.canonicalize.proofs.SpanLaws.{high-inside, replaced, replaced-whole}
+use Rattle.canonicalize.proofs.SpansUsed.{Found, Passed, Seen, passed, replaced, replaced-whole, seen}
 use borrow.Author.Needs.{needs}
 use Rattle.canonicalize.proofs.spans.replace.Statement.{statement}
 use Rattle.canonicalize.proofs.spans.replace.Tie as tie
+
+-- ---- one bucket
 
 replace-requires : tie.Need-replace-requires
 replace-requires c κs = search needs
@@ -15,30 +18,54 @@ same-length c = search needs
 
 returns : tie.Need-returns
 returns c =
-    let c₆ = c .before .before .before .before .before .before in
-    let a = c₆ .args in
-    replaced-whole (words (a .s .now)) (a .at) (a .n) (a .x) (a .y) (a .table) (a .count) (c₆ .pre) _ (c .before .before .before .before .if1 .taken) (c .before .before .replace .ensures)
+    let t = c .before .before .before .before in
+    replaced-whole (t .before .before .pre) _ _ (t .if1 .taken) (c .before .before .replace .ensures)
+
+-- ---- many buckets: those of x and y are found
+
+abbrev start : tie.After-bucket → tie.Start
+start c = c .before .before .before
+
+at-buckets : (c : tie.After-bucket2) → let e = start (c .before) in Found (e .pre) (e .args .x) (e .args .y) (c .before .bucket .result) (c .bucket2 .result)
+at-buckets c =
+    let e = start (c .before) in
+    let x = c .before .bucket .ensures in
+    let y = c .bucket2 .ensures in
+    record { old = x .0; new = y .0; oldInside = x .1; newInside = y .1; room = e .pre .room; fits = omega (arith, length-words (e .args .s .now), e .good) }
 
 bucket-requires : tie.Need-bucket-requires
 bucket-requires c κs = search needs
 
 add-from : tie.Need-add-from
-add-from c = omega (arith, c .bucket .ensures .1, c .before .before .before .pre .room, length-words (c .before .before .before .args .s .now))
+add-from c = omega (arith, c .bucket .ensures .1, start c .pre .room, length-words (start c .args .s .now))
 
 bucket-requires-2 : tie.Need-bucket-requires-2
 bucket-requires-2 c κs = search needs
 
 add-to : tie.Need-add-to
-add-to c = omega (arith, c .bucket2 .ensures .1, c .before .before .before .before .pre .room, length-words (c .before .before .before .before .args .s .now))
+add-to c = omega (arith, at-buckets c)
+
+-- ---- the span of x is read
+
+abbrev get2-buckets : tie.After-get2 → tie.After-bucket2
+get2-buckets c = c .before .before .before .before
+
+at-span : (c : tie.After-get2) → Seen (at-buckets (get2-buckets c)) (c .before .before .get .result) (c .get2 .result)
+at-span c = seen (at-buckets (get2-buckets c)) (c .before .before .get .ensures .is) (c .get2 .ensures .is)
 
 get-requires : tie.Need-get-requires
 get-requires c κs = search needs
 
 add-get : tie.Need-add-get
-add-get c = omega (arith, c .before .before .before .before .bucket .ensures .1, c .before .before .before .before .before .before .before .pre .room, length-words (c .before .before .before .before .before .before .before .args .s .now))
+add-get c = omega (arith, at-buckets (c .before .before .before))
 
 get-requires-2 : tie.Need-get-requires-2
 get-requires-2 c κs = search needs
+
+-- ---- the replacement is made over it
+
+at-between : (c : tie.After-replace-between) → Passed (at-span (c .before .before .before)) (words (c .replace-between .last .0))
+at-between c = passed (at-span (c .before .before .before)) (c .before .later .ensures) (c .replace-between .ensures)
 
 cast-later : tie.Need-cast-later
 cast-later c = search needs
@@ -50,40 +77,55 @@ cast-replace-between : tie.Need-cast-replace-between
 cast-replace-between c = search needs
 
 replace-between-requires : tie.Need-replace-between-requires
-replace-between-requires c κs = high-inside (words (c .before .before .before .before .before .before .before .before .before .before .args .s .now)) (c .before .before .before .before .before .before .before .before .before .before .args .at) (c .before .before .before .before .before .before .before .before .before .before .args .n) (c .before .before .before .before .before .before .before .before .before .before .args .x) (c .before .before .before .before .before .before .before .before .before .before .args .y) (c .before .before .before .before .before .before .before .before .before .before .args .table) (c .before .before .before .before .before .before .before .before .before .before .args .count) (c .before .before .before .before .before .before .before .before .before .before .pre) (c .before .before .before .before .before .before .before .bucket .result) (c .before .before .before .before .before .before .bucket2 .result) (c .before .before .before .before .get .result) (c .before .before .get2 .result) (c .before .before .before .before .before .before .before .bucket .ensures .0) (c .before .before .before .before .before .before .bucket2 .ensures .0) (c .before .before .before .before .get .ensures .is) (c .before .before .get2 .ensures .is)
+replace-between-requires c κs = at-span (c .before .before) .inside
+
+-- ---- the span of y is put anew
+
+abbrev get3-between : tie.After-get3 → tie.After-replace-between
+get3-between c = c .before .before .before .before
+
+abbrev least-between : tie.After-least → tie.After-replace-between
+least-between c = get3-between (c .before .before .before .before)
+
+abbrev greatest-put : tie.After-greatest → tie.After-put
+greatest-put c = c .before .before .before .before
 
 get-requires-3 : tie.Need-get-requires-3
-get-requires-3 c κs = omega (arith, c .before .before .before .before .before .before .before .before .before .before .bucket2 .ensures .1, c .before .before .before .before .before .before .before .before .before .before .before .before .before .before .pre .room, length-words-kept (c .before .before .before .replace-between .last .0) (c .before .before .before .before .before .before .before .before .before .before .before .before .before .before .args .s .now) (c .before .before .before .replace-between .kept .0))
+get-requires-3 c κs = omega (arith, at-between (c .before .before .before))
 
 add-get-2 : tie.Need-add-get-2
-add-get-2 c = omega (arith, c .before .before .before .before .before .before .before .before .before .before .before .before .bucket2 .ensures .1, c .before .before .before .before .before .before .before .before .before .before .before .before .before .before .before .before .pre .room, length-words (c .before .before .before .before .before .before .before .before .before .before .before .before .before .before .before .before .args .s .now))
+add-get-2 c = omega (arith, at-between (get3-between (c .before)))
 
 get-requires-4 : tie.Need-get-requires-4
-get-requires-4 c κs = omega (arith, c .before .before .before .before .before .before .before .before .before .before .before .before .bucket2 .ensures .1, c .before .before .before .before .before .before .before .before .before .before .before .before .before .before .before .before .pre .room, length-words-kept (c .before .before .before .before .before .replace-between .last .0) (c .before .before .before .before .before .before .before .before .before .before .before .before .before .before .before .before .args .s .now) (c .before .before .before .before .before .replace-between .kept .0))
+get-requires-4 c κs = omega (arith, at-between (get3-between (c .before)))
 
 least-requires : tie.Need-least-requires
 least-requires c κs = search needs
 
 put-requires : tie.Need-put-requires
-put-requires c κs = omega (arith, c .before .before .before .before .before .before .before .before .before .before .before .before .before .before .before .bucket2 .ensures .1, c .before .before .before .before .before .before .before .before .before .before .before .before .before .before .before .before .before .before .before .pre .room, length-words-kept (c .before .before .before .before .before .before .before .before .replace-between .last .0) (c .before .before .before .before .before .before .before .before .before .before .before .before .before .before .before .before .before .before .before .args .s .now) (c .before .before .before .before .before .before .before .before .replace-between .kept .0))
+put-requires c κs = omega (arith, at-between (least-between c))
 
 add-put : tie.Need-add-put
-add-put c = omega (arith, c .before .before .before .before .before .before .before .before .before .before .before .before .before .before .before .before .before .before .before .bucket2 .ensures .1, c .before .before .before .before .before .before .before .before .before .before .before .before .before .before .before .before .before .before .before .before .before .before .before .pre .room, length-words (c .before .before .before .before .before .before .before .before .before .before .before .before .before .before .before .before .before .before .before .before .before .before .before .args .s .now))
+add-put c = omega (arith, at-between (least-between (c .before .before .before .before)))
 
 greatest-requires : tie.Need-greatest-requires
 greatest-requires c κs = search needs
 
 put-requires-2 : tie.Need-put-requires-2
-put-requires-2 c κs = omega (arith, c .before .before .before .before .before .before .before .before .before .before .before .before .before .before .before .before .before .before .before .before .bucket2 .ensures .1, c .before .before .before .before .before .before .before .before .before .before .before .before .before .before .before .before .before .before .before .before .before .before .before .before .pre .room, length-words-kept (c .before .before .before .before .before .before .before .before .before .before .before .before .before .replace-between .last .0) (c .before .before .before .before .before .before .before .before .before .before .before .before .before .before .before .before .before .before .before .before .before .before .before .before .args .s .now) (c .before .before .before .before .before .before .before .before .before .before .before .before .before .replace-between .kept .0), length-words-kept (c .before .before .before .before .put .last .0) (c .before .before .before .before .before .before .before .before .before .before .before .before .before .replace-between .last .0) (c .before .before .before .before .put .kept .0))
+put-requires-2 c κs =
+    let p = greatest-put c in
+    omega (arith, at-between (least-between (p .before)), length-words-kept (p .put .last .0) (least-between (p .before) .replace-between .last .0) (p .put .kept .0))
 
 same-length-2 : tie.Need-same-length-2
 same-length-2 c = search needs
 
 returns-2 : tie.Need-returns-2
 returns-2 c =
-    replaced (words (c .before .before .before .before .before .before .before .before .before .before .before .before .before .before .before .before .before .before .before .before .before .before .before .before .before .before .before .args .s .now)) (c .before .before .before .before .before .before .before .before .before .before .before .before .before .before .before .before .before .before .before .before .before .before .before .before .before .before .before .args .at) (c .before .before .before .before .before .before .before .before .before .before .before .before .before .before .before .before .before .before .before .before .before .before .before .before .before .before .before .args .n) (c .before .before .before .before .before .before .before .before .before .before .before .before .before .before .before .before .before .before .before .before .before .before .before .before .before .before .before .args .x) (c .before .before .before .before .before .before .before .before .before .before .before .before .before .before .before .before .before .before .before .before .before .before .before .before .before .before .before .args .y) (c .before .before .before .before .before .before .before .before .before .before .before .before .before .before .before .before .before .before .before .before .before .before .before .before .before .before .before .args .table) (c .before .before .before .before .before .before .before .before .before .before .before .before .before .before .before .before .before .before .before .before .before .before .before .before .before .before .before .args .count) (c .before .before .before .before .before .before .before .before .before .before .before .before .before .before .before .before .before .before .before .before .before .before .before .before .before .before .before .pre) (c .before .before .before .before .before .before .before .before .before .before .before .before .before .before .before .before .before .before .before .before .before .before .before .before .bucket .result) (c .before .before .before .before .before .before .before .before .before .before .before .before .before .before .before .before .before .before .before .before .before .before .before .bucket2 .result) (c .before .before .before .before .before .before .before .before .before .before .before .before .before .before .before .before .before .before .before .before .before .get .result) (c .before .before .before .before .before .before .before .before .before .before .before .before .before .before .before .before .before .before .before .get2 .result) (c .before .before .before .before .before .before .before .before .before .before .before .before .before .before .before .before .before .before .before .before .before .before .before .before .bucket .ensures .0) (c .before .before .before .before .before .before .before .before .before .before .before .before .before .before .before .before .before .before .before .before .before .before .before .bucket2 .ensures .0) (c .before .before .before .before .before .before .before .before .before .before .before .before .before .before .before .before .before .before .before .before .before .get .ensures .is) (c .before .before .before .before .before .before .before .before .before .before .before .before .before .before .before .before .before .before .before .get2 .ensures .is)
-    (c .before .before .before .before .before .before .before .before .before .before .before .before .get3 .result) (c .before .before .before .before .before .before .before .before .least .result) (c .before .before .before .before .before .before .before .before .before .before .get4 .result) (c .before .before .before .greatest .result) (c .before .before .before .before .before .before .before .before .before .before .before .before .before .before .before .before .before .later .result) (words (c .before .before .before .before .before .before .before .before .before .before .before .before .before .before .before .before .replace-between .last .0)) (words (c .before .before .before .before .before .before .before .put .last .0)) _ (c .before .before .before .before .before .before .before .before .before .before .before .before .before .before .before .before .before .later .ensures) (c .before .before .before .before .before .before .before .before .before .before .before .before .before .before .before .before .replace-between .ensures)
-    (c .before .before .before .before .before .before .before .before .before .before .before .before .get3 .ensures .is) (c .before .before .before .before .before .before .before .before .before .before .get4 .ensures .is) (c .before .before .before .before .before .before .before .before .least .ensures) (c .before .before .before .greatest .ensures) (c .before .before .before .before .before .before .before .put .ensures) (c .before .before .put2 .ensures)
+    let g = c .before .before .before in
+    let p = greatest-put g in
+    let e = p .before .before .before in
+    replaced (at-span (least-between (p .before) .before .before .before)) (at-between (least-between (p .before))) (e .before .before .get3 .ensures .is) (e .get4 .ensures .is)
+    (p .before .least .ensures) (g .greatest .ensures) (p .put .ensures) (c .before .before .put2 .ensures)
 
 pub replace-spec : {M : Type 1} → statement M
 replace-spec =

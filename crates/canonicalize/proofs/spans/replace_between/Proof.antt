@@ -1,6 +1,6 @@
--- `spans::replace_between` meets its contract. Assumes nothing.
+-- Between two places the run of `regions::replace` is what is asked; where the end is not behind the start, nothing is. Assumes nothing.
 use Rattle.octets.specs.Words.{words}
-use Rattle.canonicalize.proofs.SpanLaws.{nothing-between}
+use Rattle.canonicalize.proofs.SpansUsed.{nothing-between}
 use borrow.Author.Needs.{needs}
 use Rattle.canonicalize.proofs.spans.replace_between.Statement.{statement}
 use Rattle.canonicalize.proofs.spans.replace_between.Tie as tie

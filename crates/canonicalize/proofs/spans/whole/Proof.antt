@@ -1,6 +1,5 @@
--- `spans::whole` meets its contract. Assumes nothing.
-use Rattle.octets.specs.Words.{words}
-use Rattle.canonicalize.proofs.SpanLaws.{whole-built}
+-- One bucket whose span is the whole body: every word stands in it, whichever it is. Assumes nothing.
+use Rattle.canonicalize.proofs.SpansBuilt.{whole-built}
 use borrow.Author.Needs.{needs}
 use Rattle.canonicalize.proofs.spans.whole.Statement.{statement}
 use Rattle.canonicalize.proofs.spans.whole.Tie as tie
@@ -21,9 +20,7 @@ same-length : tie.Need-same-length
 same-length c = search needs
 
 returns : tie.Need-returns
-returns c =
-    let a = c .before .before .before .before .before .args in
-    whole-built (words (a .s .now)) _ (a .at) (a .n) (a .table) (c .before .before .before .before .before .pre) (c .before .before .put-two .ensures .1)
+returns c = let p = c .before .before in whole-built (p .before .before .before .pre) (p .put-two .ensures .1)
 
 pub whole-spec : {M : Type 1} → statement M
 whole-spec =

@@ -1,11 +1,23 @@
--- `spans::widen` meets its contract. Assumes nothing.
+-- Widening the span of the bucket of a word: both words of that span are put as `widened` has them, and nothing else is. Assumes nothing.
 use native.Mathlib.Omega.{arith}
 use Rattle.octets.proofs.Words.{length-words, length-words-kept}
 use Rattle.octets.specs.Words.{words}
-use Rattle.canonicalize.proofs.SpanLaws.{widen-is}
+use Rattle.canonicalize.proofs.SpansBuilt.{Fallen, fallen, widen-is}
 use borrow.Author.Needs.{needs}
 use Rattle.canonicalize.proofs.spans.widen.Statement.{statement}
 use Rattle.canonicalize.proofs.spans.widen.Tie as tie
+
+abbrev start : tie.After-get → tie.Start
+start c = c .before .before .before
+
+-- the bucket is found
+at-bucket : (c : tie.After-bucket) → let a = start (c .before) .args in Fallen (words (a .s .now)) (a .p) (a .table) (a .count) (c .bucket .result)
+at-bucket c =
+    let e = start (c .before) in
+    fallen (e .pre) (omega (arith, length-words (e .args .s .now), e .good)) (c .before .get .ensures .is) (c .bucket .ensures)
+
+abbrev put-bucket : tie.After-put → tie.After-bucket
+put-bucket c = c .before .before .before .before .before
 
 get-requires : tie.Need-get-requires
 get-requires c κs = search needs
@@ -14,7 +26,7 @@ bucket-requires : tie.Need-bucket-requires
 bucket-requires c κs = search needs
 
 add-low : tie.Need-add-low
-add-low c = omega (arith, c .bucket .ensures .1, c .before .before .before .before .pre .room, length-words (c .before .before .before .before .args .s .now))
+add-low c = omega (arith, at-bucket c)
 
 get-requires-2 : tie.Need-get-requires-2
 get-requires-2 c κs = search needs
@@ -29,7 +41,7 @@ put-requires : tie.Need-put-requires
 put-requires c κs = search needs
 
 add-put : tie.Need-add-put
-add-put c = omega (arith, c .before .before .before .before .before .before .before .before .bucket .ensures .1, c .before .before .before .before .before .before .before .before .before .before .before .before .pre .room, length-words (c .before .before .before .before .before .before .before .before .before .before .before .before .args .s .now))
+add-put c = omega (arith, at-bucket (put-bucket (c .before .before .before)))
 
 add-put-2 : tie.Need-add-put-2
 add-put-2 c = search needs
@@ -38,15 +50,18 @@ cast-put : tie.Need-cast-put
 cast-put c = search needs
 
 put-requires-2 : tie.Need-put-requires-2
-put-requires-2 c κs = omega (arith, c .before .before .before .before .before .before .before .before .bucket .ensures .1, c .before .before .before .before .before .before .before .before .before .before .before .before .pre .room, length-words-kept (c .before .before .before .put .last .0) (c .before .before .before .before .before .before .before .before .before .before .before .before .args .s .now) (c .before .before .before .put .kept .0))
+put-requires-2 c κs =
+    let p = c .before .before .before in
+    omega (arith, at-bucket (put-bucket p), length-words-kept (p .put .last .0) (start (put-bucket p .before) .args .s .now) (p .put .kept .0))
 
 same-length : tie.Need-same-length
 same-length c = search needs
 
 returns : tie.Need-returns
 returns c =
-    let a = c .before .before .before .before .before .before .before .before .before .before .before .before .before .before .before .args in
-    widen-is (words (a .s .now)) (words (c .before .before .before .before .before .before .put .last .0)) _ (a .p) (a .table) (a .count) (c .before .before .before .before .before .before .before .before .before .before .before .before .get .result) (c .before .before .before .before .before .before .before .before .before .before .before .bucket .result) (c .before .before .before .before .before .before .before .before .before .get2 .result) (c .before .before .before .before .before .before .before .least .result) (c .before .before .before .before .before .before .before .before .before .before .before .before .get .ensures .is) (c .before .before .before .before .before .before .before .before .before .before .before .bucket .ensures .0) (c .before .before .before .before .before .before .before .before .before .get2 .ensures .is) (c .before .before .before .before .before .before .before .least .ensures) (c .before .before .before .before .before .before .put .ensures) (c .before .before .put2 .ensures)
+    let p = c .before .before .before .before .before .before in
+    let g = p .before .before .before in
+    widen-is (at-bucket (put-bucket p)) (g .get2 .ensures .is) (p .before .least .ensures) (p .put .ensures) (c .before .before .put2 .ensures)
 
 pub widen-spec : {M : Type 1} → statement M
 widen-spec =
