@@ -2,7 +2,7 @@
 -- is in ascending order, each word once.
 -- Assumes nothing.
 use Prim.Native.Nat.{ℕ}
-use mathlib.Core.Bool.{Bool, true, false, cond, _&&_, _||_}
+use mathlib.Core.Bool.{Bool, true, false, cond, _&&_, _||_, and-false}
 use mathlib.Core.List.{List, [], _∷_}
 use mathlib.Core.Path.{_≡_, refl, sym, ap, _∙_}
 use lib.Dec.{eqb}
@@ -112,11 +112,7 @@ module _ (s : Sig) (v : ℕ) (b : Bool) (is : isVar s v ≡ b) where
   elem-before (Call x h ts) vs a = elem-remove v x (addTerms s ts vs) (terms-ascending s ts vs a) ∙ ap (cond (eqb v x) false) (elem-terms ts vs)
 
   pub elem-free : (xs : List CoreAction) → elem v (getFreeVars s xs) ≡ (b && freeIn v xs)
-  elem-free [] = none b
-    where
-      none : (c : Bool) → false ≡ (c && false)
-      none true = refl
-      none false = refl
+  elem-free [] = sym (and-false b)
   elem-free (x ∷ xs) =
       elem-before x (getFreeVars s xs) (free-ascending s xs) ∙ ap (λ (z : Bool). cond (targetIs v x) false ((b && used v x) || z)) (elem-free xs)
       ∙ and-out b (targetIs v x) (used v x) (freeIn v xs)

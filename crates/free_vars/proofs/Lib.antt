@@ -1,4 +1,5 @@
--- Laws. Sets and Free are about 01's definition; Reading, Found, Bounds and Atoms about the words of a rule; Terms, Moving, Writing and Adding about the code's steps.
+-- Laws. Sets and Free are about 01's definition; Reading, Found, Bounds and Atoms about the words of a rule; Terms, Moving, Adding and Writing about
+-- the code's steps.
 pub mod Sets
 pub mod Free
 pub mod Reading
@@ -7,5 +8,5 @@ pub mod Bounds
 pub mod Atoms
 pub mod Terms
 pub mod Moving
-pub mod Writing
 pub mod Adding
+pub mod Writing

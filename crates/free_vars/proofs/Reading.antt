@@ -12,7 +12,8 @@ use borrow.Author.Tests.{ltb-true, leb-true, eqb-true, ne-eqb}
 use Rattle.rules.specs.Flat.{CoreAction, isTarget, isTerm, readTerm, Terms, readTerms, readCoreCode, readCoreAction}
 use Rattle.rules.specs.Refusals.{ok, unfit}
 use Rattle.rules.specs.Signature.{Sig, heads, isFresh, isVar, elem}
-use Rattle.rules.specs.Words.{limit12, limit16, freshBase, nameBase, literalBase, headBase, actionWord, isNameWord, isLiteralWord, isFreshWord, isHeadWord, countOf, Code, aLet, aSet, aDelete, aSubsume, aUnion, aPanic, aCall, anExpression, noCode, codeOf}
+use Rattle.rules.specs.Words.{limit12, limit16, freshBase, nameBase, literalBase, headBase, actionWord, isNameWord, isLiteralWord, isFreshWord, isHeadWord, countOf}
+use Rattle.rules.specs.Words.{Code, aLet, aSet, aDelete, aSubsume, aUnion, aPanic, aCall, anExpression, noCode, codeOf}
 use Rattle.rules.specs.Written.{Read, readWord, readRow}
 use Rattle.meaning.proofs.Lists.{and-left, and-right}
 use Rattle.meaning.proofs.Reading.{within-low, within-high}
@@ -217,6 +218,7 @@ module _ (s : Sig) (ws : List ℕ) (few : heads s ≤ limit12) (v : ℕ) (var : 
       (λ rest. action-acts p (a .0) (a .1) (freeIn v (b .0 .value)) (actions-begin n (a .0 .at) (b .0) (b .1) rest))
 
 -- a variable is free in the actions if its first word in the head is no target
-pub first-is-free : (s : Sig) (ws : List ℕ) (from : ℕ) (xs : List CoreAction) (v last : ℕ) → Actions s ws from xs → isVar s v ≡ true → freeFirst v last (drop from ws) ≡ freeIn v xs
+pub first-is-free : (s : Sig) (ws : List ℕ) (from : ℕ) (xs : List CoreAction) (v last : ℕ) → Actions s ws from xs → isVar s v ≡ true
+    → freeFirst v last (drop from ws) ≡ freeIn v xs
 first-is-free s ws from xs v last a var =
     actions-begin s ws (a .few) v var (a .some) from (record { value = xs; at = a .end }) (a .read) (λ l. ap (freeFirst v l) (drop-of-length-le ws (a .all))) last

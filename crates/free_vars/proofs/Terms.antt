@@ -1,13 +1,15 @@
 -- The test of a word of the head, from what the code has learnt of the word: which term it is, whether the word before it binds, and whether it was seen.
 -- Assumes nothing.
-use Prim.Native.Nat.{ℕ, _+_, _<_}
+use Prim.Native.Nat.{ℕ, _+_, _-_, _<_}
 use native.Mathlib.Omega.{arith}
 use mathlib.Core.Bool.{Bool, true, false, not, _&&_, _||_, and-false}
 use mathlib.Core.List.{List, [], _∷_}
 use mathlib.Core.Path.{_≡_, refl, sym, ap, ap₂, _∙_}
 use denote.Enum.Declared.{tagOf}
 use types.Run.{OneOf, miss}
+use lib.ListN.{getD}
 use borrow.Author.Tests.{lt-leb}
+use Rattle.octets.specs.Regions.{part}
 use Rattle.rules.specs.Signature.{elem}
 use Rattle.rules.specs.Words.{nameBase, freshBase}
 use Rattle.words.proofs.AtomLaws.{term-word, term-var}
@@ -15,7 +17,7 @@ use Rattle.words.proofs.Term.{the-type}
 use Rattle.words.specs.Atom.{termOf, termWord, isVarTerm}
 use Rattle.words.specs.declared.Term.the-variants.{Var, Global, Literal}
 use Rattle.words.specs.declared.Term.{Term}
-use Rattle.free_vars.specs.First.{binds, isVarWord, firstFree}
+use Rattle.free_vars.specs.First.{binds, isVarWord, firstFree, firstFreeAt}
 
 -- the other branch of `let Term::Var(..) = t else`
 not-var : (t : Term) → OneOf (1 ∷ 2 ∷ []) (tagOf the-type t) → isVarTerm t ≡ false
@@ -23,36 +25,46 @@ not-var (Var w) h = absurd (miss (1 ∷ 2 ∷ []) 0 tt h)
 not-var (Global w) h = refl
 not-var (Literal w) h = refl
 
-module _ (G w : ℕ) where
-  -- no variable
-  pub none-free : (last : ℕ) (seen : List ℕ) → isVarWord G w ≡ false → firstFree G last seen w ≡ false
+is-var : (G w : ℕ) → isVarTerm (termOf G w) ≡ isVarWord G w
+is-var G w = term-var (record { globals = G; valueEq = 0; flag = false; kinds = [] }) w
+
+-- word i of the head is the variable v, and `bound` says whether the word before binds it
+pub record Variable (G : ℕ) (ws : List ℕ) (from i v : ℕ) (bound : Bool) : Type 0 where
+  pub is : v ≡ getD ws (from + i) 0
+  pub var : isVarWord G v ≡ true
+  pub told : binds (getD ws (from + i - 1) 0) ≡ bound
+
+pub variable : {G : ℕ} {ws : List ℕ} {from i w w′ v : ℕ} {t : Term} {bound : Bool} → w ≡ getD ws (from + i) 0 → t ≡ termOf G w → t ≡ Var v
+    → w′ ≡ getD ws (from + i - 1) 0 → bound ≡ binds w′ → Variable G ws from i v bound
+variable {G} {ws} {from} {i} {w} {w′} {v} read is e read′ says =
+    let same : v ≡ w = ap termWord (sym e ∙ is) ∙ term-word G w in
+    record { is = same ∙ read; var = ap (isVarWord G) same ∙ sym (is-var G w) ∙ ap isVarTerm (sym is ∙ e); told = sym (says ∙ ap binds read′) }
+
+-- a word below the names is no variable
+pub low-none : (G w : ℕ) → w < nameBase → isVarWord G w ≡ false
+low-none G w h = ap₂ _||_ (lt-leb freshBase w (omega arith)) (lt-leb (nameBase + G) w (omega arith))
+
+module _ (G : ℕ) (ws : List ℕ) (from i : ℕ) where
+  -- nor is a term of another kind
+  pub no-variable : {w : ℕ} {t : Term} → w ≡ getD ws (from + i) 0 → t ≡ termOf G w → OneOf (1 ∷ 2 ∷ []) (tagOf the-type t) → isVarWord G (getD ws (from + i) 0) ≡ false
+  no-variable {w} {t} read is h = ap (isVarWord G) (sym read) ∙ sym (is-var G w) ∙ ap isVarTerm (sym is) ∙ not-var t h
+
+  pub none-free : isVarWord G (getD ws (from + i) 0) ≡ false → firstFreeAt G ws from i ≡ false
   unfolding firstFree
-  none-free last seen e = ap (λ (b : Bool). b && (not (binds last) && not (elem w seen))) e
+  none-free e = ap (λ (b : Bool). b && (not (binds (getD ws (from + i - 1) 0)) && not (elem (getD ws (from + i) 0) (part ws from i)))) e
 
-  pub low-none : w < nameBase → isVarWord G w ≡ false
-  low-none h = ap₂ _||_ (lt-leb freshBase w (omega arith)) (lt-leb (nameBase + G) w (omega arith))
+module _ {G : ℕ} {ws : List ℕ} {from i v : ℕ} {bound : Bool} (x : Variable G ws from i v bound) where
+  pub word-var : isVarWord G (getD ws (from + i) 0) ≡ true
+  word-var = ap (isVarWord G) (sym (x .is)) ∙ x .var
 
-  is-var : isVarTerm (termOf G w) ≡ isVarWord G w
-  is-var = term-var (record { globals = G; valueEq = 0; flag = false; kinds = [] }) w
+  -- a target is not free, and another variable is if it was not seen
+  pub bound-free : bound ≡ true → firstFreeAt G ws from i ≡ false
+  unfolding firstFree
+  bound-free h =
+      let w : ℕ = getD ws (from + i) 0 in
+      ap (λ (b : Bool). isVarWord G w && (not b && not (elem w (part ws from i)))) (x .told ∙ h) ∙ and-false (isVarWord G w)
 
-  module _ (t : Term) (is : t ≡ termOf G w) where
-    pub var-word : (v : ℕ) → t ≡ Var v → v ≡ w
-    var-word v e = ap termWord (sym e ∙ is) ∙ term-word G w
-
-    -- a variable, or not
-    pub var-yes : (v : ℕ) → t ≡ Var v → isVarWord G w ≡ true
-    var-yes v e = sym is-var ∙ ap isVarTerm (sym is ∙ e)
-
-    pub var-no : OneOf (1 ∷ 2 ∷ []) (tagOf the-type t) → isVarWord G w ≡ false
-    var-no h = sym is-var ∙ ap isVarTerm (sym is) ∙ not-var t h
-
-    pub other-free : (last : ℕ) (seen : List ℕ) → OneOf (1 ∷ 2 ∷ []) (tagOf the-type t) → false ≡ firstFree G last seen w
-    other-free last seen h = sym (none-free last seen (var-no h))
-
-    pub bound-free : (last : ℕ) (seen : List ℕ) → binds last ≡ true → false ≡ firstFree G last seen w
-    unfolding firstFree
-    bound-free last seen b = sym (ap (λ (x : Bool). isVarWord G w && (not x && not (elem w seen))) b ∙ and-false (isVarWord G w))
-
-    pub var-free : (last v : ℕ) (seen : List ℕ) → t ≡ Var v → binds last ≡ false → not (elem v seen) ≡ firstFree G last seen w
-    unfolding firstFree
-    var-free last v seen e b = ap (λ (x : ℕ). not (elem x seen)) (var-word v e) ∙ sym (λ i. var-yes v e i && (not (b i) && not (elem w seen)))
+  pub var-free : bound ≡ false → firstFreeAt G ws from i ≡ not (elem v (part ws from i))
+  unfolding firstFree
+  var-free h =
+      (λ j. word-var j && (not ((x .told ∙ h) j) && not (elem (getD ws (from + i) 0) (part ws from i)))) ∙ ap (λ (w : ℕ). not (elem w (part ws from i))) (sym (x .is))
