@@ -8,18 +8,19 @@ use Rattle.octets.specs.Words.{words}
 use Rattle.octets.proofs.Words.{length-words, length-words-kept}
 use Rattle.walks.specs.declared.Walk.{Walk}
 use Rattle.walks.proofs.Turns.{Turn}
-use Rattle.query.proofs.Exprs.{leaf-way, full-way}
+use Rattle.query.proofs.Spots.{Spot, Held, onward}
 use Rattle.query.proofs.Arguments.{here, Row, row-start, row-turn, row-done, row-stop, row-next}
-use Rattle.query.proofs.Calls.{CallAt, call-at, Begun, begun-known, begun-room, begun-leaves, begun-stop, begun-atom, begun-done}
+use Rattle.query.proofs.Calls.{leaf-answer, Begun, begun, none-left, Named, Fronted, around-room, leaves-answer}
+use Rattle.query.proofs.Calls.{args-known, args-room, Argued, args-refused, atom-asks, call-answer}
 use borrow.Author.Needs.{needs}
 use borrow.Fn.Kinds.{In}
 use borrow.Fn.PlainCycle.{Measures, is, falls, and}
-use Rattle.query.proofs.flatten_all.Reads as flatten-all
-use Rattle.query.proofs.flatten_all.Kinds as flatten-all-kinds
-use Rattle.query.proofs.+flatten_all+flatten_call.Lts-flatten_all as flatten-all-lts
-use Rattle.query.proofs.flatten_call.Reads as flatten-call
-use Rattle.query.proofs.flatten_call.Kinds as flatten-call-kinds
-use Rattle.query.proofs.+flatten_all+flatten_call.Lts-flatten_call as flatten-call-lts
+use Rattle.query.proofs.flatten_all.Reads as all
+use Rattle.query.proofs.flatten_all.Kinds as all-kinds
+use Rattle.query.proofs.+flatten_all+flatten_call.Lts-flatten_all as all-lts
+use Rattle.query.proofs.flatten_call.Reads as call
+use Rattle.query.proofs.flatten_call.Kinds as call-kinds
+use Rattle.query.proofs.+flatten_all+flatten_call.Lts-flatten_call as call-lts
 use Rattle.octets.proofs.get.Reads as get-reads
 use Rattle.octets.proofs.put.Reads as put-reads
 use Rattle.octets.proofs.rows.put_atom.Reads as put-atom-reads
@@ -29,371 +30,449 @@ use Rattle.walks.proofs.take.Reads as take-reads
 use Rattle.query.proofs.+flatten_all+flatten_call.{statement}
 use Rattle.query.proofs.+flatten_all+flatten_call.Tie.{close}
 
-abbrev μ-flatten-all : Measures 3 flatten-all-kinds.ps ℕ
-μ-flatten-all κs a = length (words (a .0 .now)) - a .1 .0 + 2 * a .1 .1 .1 .0 + 1
+abbrev μ-all : Measures 3 all-kinds.ps ℕ
+μ-all κs a = length (words (a .0 .now)) - a .1 .0 + 2 * a .1 .1 .1 .0 + 1
 
-abbrev μ-flatten-call : Measures 3 flatten-call-kinds.ps ℕ
-μ-flatten-call κs a = length (words (a .0 .now)) - a .1 .0 + 2 * a .1 .1 .1 .0
+abbrev μ-call : Measures 3 call-kinds.ps ℕ
+μ-call κs a = length (words (a .0 .now)) - a .1 .0 + 2 * a .1 .1 .1 .0
 
 -- what each is given at the measure t, what a call of it asks below t, and what its own calls claim
-abbrev flatten-all-at : ℕ → In 3 flatten-all-kinds.ps
-flatten-all-at t = and 3 flatten-all-kinds.ps (is 3 flatten-all-kinds.ps μ-flatten-all t) flatten-all.Pre
+abbrev all-at : ℕ → In 3 all-kinds.ps
+all-at t = and 3 all-kinds.ps (is 3 all-kinds.ps μ-all t) all.Pre
 
-abbrev flatten-all-below : ℕ → In 3 flatten-all-kinds.ps
-flatten-all-below t = and 3 flatten-all-kinds.ps (falls 3 flatten-all-kinds.ps _<_ μ-flatten-all t) flatten-all.Pre
+abbrev all-below : ℕ → In 3 all-kinds.ps
+all-below t = and 3 all-kinds.ps (falls 3 all-kinds.ps _<_ μ-all t) all.Pre
 
-abbrev flatten-call-at : ℕ → In 3 flatten-call-kinds.ps
-flatten-call-at t = and 3 flatten-call-kinds.ps (is 3 flatten-call-kinds.ps μ-flatten-call t) flatten-call.Pre
+abbrev call-at : ℕ → In 3 call-kinds.ps
+call-at t = and 3 call-kinds.ps (is 3 call-kinds.ps μ-call t) call.Pre
 
-abbrev flatten-call-below : ℕ → In 3 flatten-call-kinds.ps
-flatten-call-below t = and 3 flatten-call-kinds.ps (falls 3 flatten-call-kinds.ps _<_ μ-flatten-call t) flatten-call.Pre
+abbrev call-below : ℕ → In 3 call-kinds.ps
+call-below t = and 3 call-kinds.ps (falls 3 call-kinds.ps _<_ μ-call t) call.Pre
 
-abbrev flatten-all-calls : ℕ → flatten-all-lts.Claims
-flatten-all-calls t = (get-reads.Asked, get-reads.Learnt, put-reads.Asked, put-reads.Learnt, flatten-call-below t, flatten-call.Post)
+abbrev all-calls : ℕ → all-lts.Claims
+all-calls t = (get-reads.Asked, get-reads.Learnt, put-reads.Asked, put-reads.Learnt, call-below t, call.Post)
 
-abbrev flatten-call-calls : ℕ → flatten-call-lts.Claims
-flatten-call-calls t = (
+abbrev call-calls : ℕ → call-lts.Claims
+call-calls t = (
   take-reads.Asked,
   take-reads.Learnt,
   leaves-reads.Asked,
   leaves-reads.Learnt,
   put-around-reads.Asked,
   put-around-reads.Learnt,
-  flatten-all-below t,
-  flatten-all.Post,
+  all-below t,
+  all.Post,
   put-atom-reads.Asked,
   put-atom-reads.Learnt,
 )
 
 -- ---- flatten_all: what is left of the row makes the whole, and no turn changes how long the lists are
 
-abbrev flatten-all-Inv-loop : flatten-all-lts.InvT-loop
-flatten-all-Inv-loop rule at n depth counters₀ scratch₀ to sp log left₀ next₀ end₀ top₀ uses₀ counters scratch left next end top uses =
-    (length counters ≡ length counters₀) × (length scratch ≡ length scratch₀)
-    × (Row (words rule) depth n at to sp log (words scratch₀) (words counters₀) left next end top uses (words scratch) (words counters))
+abbrev Inv-loop : all-lts.InvT-loop
+Inv-loop rule at n depth counters₀ scratch₀ to sp log left₀ next₀ end₀ top₀ uses₀ counters scratch left next end top uses =
+    let p : Spot = record { ws = words rule; s = words scratch₀; cs = words counters₀; at = at; to = to; sp = sp; lg = log } in
+    (length counters ≡ length counters₀) × (length scratch ≡ length scratch₀) × Row p depth n left top (words scratch) (words counters) (here next end uses)
 
-abbrev flatten-all-μ-loop : flatten-all-lts.MeasureT-loop
-flatten-all-μ-loop rule at n depth counters₀ scratch₀ to sp log left₀ next₀ end₀ top₀ uses₀ counters scratch left next end top uses = left
+abbrev μ-loop : all-lts.MeasureT-loop
+μ-loop rule at n depth counters₀ scratch₀ to sp log left₀ next₀ end₀ top₀ uses₀ counters scratch left next end top uses = left
 
-flatten-all-loop-holds : (t : ℕ) → flatten-all-lts.Need-loop-holds (flatten-all-calls t) (flatten-all-at t) flatten-all.Post flatten-all-Inv-loop flatten-all-μ-loop
-flatten-all-loop-holds t c = (refl, refl, row-start (c .before .before .before .pre .1 .1) (c .before .before .before .pre .1 .0))
+module _ (t : ℕ) where
+  abbrev AllStart : Type 0
+  AllStart = all-lts.Start (all-calls t) (all-at t) all.Post Inv-loop μ-loop
 
--- what each turn's calls ask
-flatten-all-turn : (t : ℕ) (c : flatten-all-lts.In-loop (flatten-all-calls t) (flatten-all-at t) flatten-all.Post flatten-all-Inv-loop flatten-all-μ-loop)
-    → let a = c .before .before .before .before .before .args in
-    let l = c .before .loop in
-    Turn (words (a .rule .now)) (a .depth) (a .at) (l .left) (l .top) (words (a .scratch .now)) (words (a .counters .now)) (words (l .scratch)) (words (l .counters)) (here (l .next) (l .end) (l .uses))
-flatten-all-turn t c =
-    let a = c .before .before .before .before .before .args in
-    let l = c .before .loop in
-    row-turn (l .inv .2) (c .loop-test .taken) (length-words-kept (l .counters) (a .counters .now) (l .inv .0)) (length-words-kept (l .scratch) (a .scratch .now) (l .inv .1))
+  abbrev AllTurn : Type 0
+  AllTurn = all-lts.In-loop (all-calls t) (all-at t) all.Post Inv-loop μ-loop
 
-flatten-all-get-requires : (t : ℕ) → flatten-all-lts.Need-get-requires (flatten-all-calls t) (flatten-all-at t) flatten-all.Post flatten-all-Inv-loop flatten-all-μ-loop
-flatten-all-get-requires t c κs = flatten-all-turn t c .inside
+  abbrev AllWalked : Type 0
+  AllWalked = all-lts.After-flatten-call (all-calls t) (all-at t) all.Post Inv-loop μ-loop
 
-flatten-all-put-requires : (t : ℕ) → flatten-all-lts.Need-put-requires (flatten-all-calls t) (flatten-all-at t) flatten-all.Post flatten-all-Inv-loop flatten-all-μ-loop
-flatten-all-put-requires t c κs = let m = flatten-all-turn t (c .before .before .before) in omega (arith, m .room .stack, m .room .log, m .inside)
+  abbrev all-spot : AllStart → Spot
+  all-spot c =
+      let a = c .args in
+      record { ws = words (a .rule .now); s = words (a .scratch .now); cs = words (a .counters .now); at = a .at; to = a .to; sp = a .sp; lg = a .log }
 
-flatten-all-add-next : (t : ℕ) → flatten-all-lts.Need-add-next (flatten-all-calls t) (flatten-all-at t) flatten-all.Post flatten-all-Inv-loop flatten-all-μ-loop
-flatten-all-add-next t c = omega (arith, flatten-all-turn t (c .before .before .before .before .before .before) .inside, length-words (c .before .before .before .before .before .before .before .before .before .before .before .args .rule .now), c .before .before .before .before .before .before .before .before .before .before .before .good)
+  abbrev turn-start : AllTurn → AllStart
+  turn-start c = c .before .before .before .before .before
 
-flatten-all-add-top : (t : ℕ) → flatten-all-lts.Need-add-top (flatten-all-calls t) (flatten-all-at t) flatten-all.Post flatten-all-Inv-loop flatten-all-μ-loop
-flatten-all-add-top t c =
-    let m = flatten-all-turn t (c .before .before .before .before .before .before) in
-    omega (arith, m .room .stack, m .room .log, m .inside, m .scratch, length-words (c .before .before .before .before .before .before .before .before .before .before .before .args .scratch .now), c .before .before .before .before .before .before .before .before .before .before .before .good)
+  -- a turn, and what its calls ask
+  at-turn : (c : AllTurn)
+      → let p = all-spot (turn-start c) in
+      let l = c .before .loop in
+      Turn (p .ws) (turn-start c .args .depth) (p .at) (l .left) (l .top) (p .s) (p .cs) (words (l .scratch)) (words (l .counters)) (here (l .next) (l .end) (l .uses))
+  at-turn c =
+      let l = c .before .loop in
+      row-turn (l .inv .2) (c .loop-test .taken) (length-words-kept _ _ (l .inv .0)) (length-words-kept _ _ (l .inv .1))
 
-flatten-all-sub-left : (t : ℕ) → flatten-all-lts.Need-sub-left (flatten-all-calls t) (flatten-all-at t) flatten-all.Post flatten-all-Inv-loop flatten-all-μ-loop
-flatten-all-sub-left t c = omega (arith, c .before .before .before .before .before .before .loop-test .taken)
+  all-loop-holds : all-lts.Need-loop-holds (all-calls t) (all-at t) all.Post Inv-loop μ-loop
+  all-loop-holds c =
+      let s : AllStart = c .before .before .before in
+      let held : Held (all-spot s) = record { rule = omega (arith, length-words (s .args .rule .now), s .good); scratch = omega (arith, length-words (s .args .scratch .now), s .good) } in
+      (refl, refl, row-start (s .pre .1 .0) (s .pre .1 .1) held)
 
-flatten-all-loop-less : (t : ℕ) → flatten-all-lts.Need-loop-less (flatten-all-calls t) (flatten-all-at t) flatten-all.Post flatten-all-Inv-loop flatten-all-μ-loop
-flatten-all-loop-less t c = omega (arith, c .before .before .before .before .before .before .loop-test .taken)
+  all-get-requires : all-lts.Need-get-requires (all-calls t) (all-at t) all.Post Inv-loop μ-loop
+  all-get-requires c κs = at-turn c .inside
 
-flatten-all-loop-again : (t : ℕ) → flatten-all-lts.Need-loop-again (flatten-all-calls t) (flatten-all-at t) flatten-all.Post flatten-all-Inv-loop flatten-all-μ-loop
-flatten-all-loop-again t c =
-    let l = c .before .before .before .before .before .before .before .loop in
-    let g = c .before .before .before .before .before .get in
-    let p = c .before .before .put in
-    let r : Walk = record { next = l .next + 1; to = l .end; log = l .uses; term = g .result; refused = 0 } in (
-      l .inv .0,
-      p .kept .0 ∙ l .inv .1,
-      row-next (l .inv .2) (flatten-all-turn t (c .before .before .before .before .before .before)) (words (l .scratch)) (words (l .counters)) r
-          (λ sig e n. leaf-way sig _ (c .before .before .before .before .before .before .before .before .before .before .before .args .depth) (l .next) (l .end) (l .top) (l .uses) (words (l .scratch)) (words (l .counters)) e n (g .result) (g .ensures .is) (c .before .before .before .before .if1 .taken)) _ refl (p .ensures),
-    )
+  -- the word is a name or a literal
+  abbrev leaf-turn : all-lts.Then1 (all-calls t) (all-at t) all.Post Inv-loop μ-loop → AllTurn
+  leaf-turn c = c .before .before
 
-flatten-all-flatten-call-requires : (t : ℕ) → flatten-all-lts.Need-flatten-call-requires (flatten-all-calls t) (flatten-all-at t) flatten-all.Post flatten-all-Inv-loop flatten-all-μ-loop
-flatten-all-flatten-call-requires t c κs =
-    let m = flatten-all-turn t (c .before .before .before .before) in
-    (omega (arith, c .before .before .before .before .before .before .before .before .before .pre .0, m .on), (record { sig = m .sig; known = (m .expr, m .counted) }, (m .room, (c .before .before .before .get .ensures .is, c .before .before .if1 .left))))
+  all-put-requires : all-lts.Need-put-requires (all-calls t) (all-at t) all.Post Inv-loop μ-loop
+  all-put-requires c κs = omega (arith, at-turn (leaf-turn (c .before)))
 
-flatten-all-same-length : (t : ℕ) → flatten-all-lts.Need-same-length (flatten-all-calls t) (flatten-all-at t) flatten-all.Post flatten-all-Inv-loop flatten-all-μ-loop
-flatten-all-same-length t c = c .before .before .before .before .before .before .flatten-call .kept .1 .1 .1 .1 .0 ∙ c .before .before .before .before .before .before .before .before .before .before .before .before .loop .inv .0
+  all-add-next : all-lts.Need-add-next (all-calls t) (all-at t) all.Post Inv-loop μ-loop
+  all-add-next c = let u = leaf-turn (c .before .before .before .before) in omega (arith, at-turn u, u .before .loop .inv .2 .held)
 
-flatten-all-same-length-2 : (t : ℕ) → flatten-all-lts.Need-same-length-2 (flatten-all-calls t) (flatten-all-at t) flatten-all.Post flatten-all-Inv-loop flatten-all-μ-loop
-flatten-all-same-length-2 t c = c .before .before .before .before .before .before .flatten-call .kept .1 .1 .1 .1 .1 .0 ∙ c .before .before .before .before .before .before .before .before .before .before .before .before .loop .inv .1
+  all-add-top : all-lts.Need-add-top (all-calls t) (all-at t) all.Post Inv-loop μ-loop
+  all-add-top c = let u = leaf-turn (c .before .before .before .before) in omega (arith, at-turn u, u .before .loop .inv .2 .held)
 
-flatten-all-returns : (t : ℕ) → flatten-all-lts.Need-returns (flatten-all-calls t) (flatten-all-at t) flatten-all.Post flatten-all-Inv-loop flatten-all-μ-loop
-flatten-all-returns t c =
-    let k = c .before .before .before .before .before .before .flatten-call in
-    row-stop (c .before .before .before .before .before .before .before .before .before .before .before .before .loop .inv .2) (flatten-all-turn t (c .before .before .before .before .before .before .before .before .before .before .before)) (words (k .last .1 .1 .1 .1 .1 .0)) (words (k .last .1 .1 .1 .1 .0)) (k .result) (k .ensures) (c .if2 .taken)
+  all-sub-left : all-lts.Need-sub-left (all-calls t) (all-at t) all.Post Inv-loop μ-loop
+  all-sub-left c = at-turn (leaf-turn (c .before .before .before .before)) .some
 
-flatten-all-put-requires-2 : (t : ℕ) → flatten-all-lts.Need-put-requires-2 (flatten-all-calls t) (flatten-all-at t) flatten-all.Post flatten-all-Inv-loop flatten-all-μ-loop
-flatten-all-put-requires-2 t c κs =
-    let m = flatten-all-turn t (c .before .before .before .before .before .before .before .before .before .before .before .before) in
-    let k = c .before .before .before .before .before .before .before .flatten-call in
-    omega (arith, m .room .stack, m .room .log, m .inside, length-words-kept (k .last .1 .1 .1 .1 .1 .0) (c .before .before .before .before .before .before .before .before .before .before .before .before .before .loop .scratch) (k .kept .1 .1 .1 .1 .1 .0))
+  all-loop-less : all-lts.Need-loop-less (all-calls t) (all-at t) all.Post Inv-loop μ-loop
+  all-loop-less c = let some = at-turn (leaf-turn (c .before .before .before .before)) .some in omega arith
 
-flatten-all-add-top-2 : (t : ℕ) → flatten-all-lts.Need-add-top-2 (flatten-all-calls t) (flatten-all-at t) flatten-all.Post flatten-all-Inv-loop flatten-all-μ-loop
-flatten-all-add-top-2 t c =
-    let m = flatten-all-turn t (c .before .before .before .before .before .before .before .before .before .before .before .before .before .before .before) in
-    omega (arith, m .room .stack, m .room .log, m .inside, m .scratch, length-words (c .before .before .before .before .before .before .before .before .before .before .before .before .before .before .before .before .before .before .before .before .args .scratch .now), c .before .before .before .before .before .before .before .before .before .before .before .before .before .before .before .before .before .before .before .before .good)
+  all-loop-again : all-lts.Need-loop-again (all-calls t) (all-at t) all.Post Inv-loop μ-loop
+  all-loop-again c =
+      let h : all-lts.Then1 (all-calls t) (all-at t) all.Post Inv-loop μ-loop = c .before .before .before .before in
+      let u = leaf-turn h in
+      let l = u .before .loop in
+      let p = c .before .before .put in
+      let here = onward (all-spot (turn-start u)) (words (l .scratch)) (words (l .counters)) (l .top) (here (l .next) (l .end) (l .uses)) in
+      let leaf = leaf-answer here (turn-start u .args .depth) _ (h .before .get .ensures .is) (h .if1 .taken) in
+      (l .inv .0, p .kept .0 ∙ l .inv .1, row-next (l .inv .2) (at-turn u) _ _ _ leaf _ refl (p .ensures))
 
-flatten-all-sub-left-2 : (t : ℕ) → flatten-all-lts.Need-sub-left-2 (flatten-all-calls t) (flatten-all-at t) flatten-all.Post flatten-all-Inv-loop flatten-all-μ-loop
-flatten-all-sub-left-2 t c = omega (arith, c .before .before .before .before .before .before .before .before .before .before .before .before .before .before .before .loop-test .taken)
+  -- it is a call's
+  abbrev call-turn : AllWalked → AllTurn
+  call-turn c = c .before .before .before .before .before
 
-flatten-all-loop-less-2 : (t : ℕ) → flatten-all-lts.Need-loop-less-2 (flatten-all-calls t) (flatten-all-at t) flatten-all.Post flatten-all-Inv-loop flatten-all-μ-loop
-flatten-all-loop-less-2 t c = omega (arith, c .before .before .before .before .before .before .before .before .before .before .before .before .before .before .before .loop-test .taken)
+  all-flatten-call-requires : all-lts.Need-flatten-call-requires (all-calls t) (all-at t) all.Post Inv-loop μ-loop
+  all-flatten-call-requires c κs =
+      let e = c .before .before in
+      let m = at-turn (e .before .before) in
+      (omega (arith, turn-start (e .before .before) .pre .0, m .on), (record { sig = m .sig; known = (m .expr, m .counted) }, (m .room, (e .before .get .ensures .is, e .if1 .left))))
 
-flatten-all-loop-again-2 : (t : ℕ) → flatten-all-lts.Need-loop-again-2 (flatten-all-calls t) (flatten-all-at t) flatten-all.Post flatten-all-Inv-loop flatten-all-μ-loop
-flatten-all-loop-again-2 t c =
-    let l = c .before .before .before .before .before .before .before .before .before .before .before .before .before .before .before .before .loop in
-    let k = c .before .before .before .before .before .before .before .before .before .before .flatten-call in
-    let p = c .before .before .put2 in (
-      k .kept .1 .1 .1 .1 .0 ∙ l .inv .0,
-      p .kept .0 ∙ k .kept .1 .1 .1 .1 .1 .0 ∙ l .inv .1,
-      row-next (l .inv .2) (flatten-all-turn t (c .before .before .before .before .before .before .before .before .before .before .before .before .before .before .before)) (words (k .last .1 .1 .1 .1 .1 .0)) (words (k .last .1 .1 .1 .1 .0)) (k .result) (k .ensures) _ (c .before .before .before .before .if2 .left) (p .ensures),
-    )
+  -- both slices are as long as at the start
+  all-counters-kept : (c : AllWalked) → length (c .flatten-call .last .1 .1 .1 .1 .0) ≡ length (turn-start (call-turn c) .args .counters .now)
+  all-counters-kept c = c .flatten-call .kept .1 .1 .1 .1 .0 ∙ call-turn c .before .loop .inv .0
 
-flatten-all-same-length-3 : (t : ℕ) → flatten-all-lts.Need-same-length-3 (flatten-all-calls t) (flatten-all-at t) flatten-all.Post flatten-all-Inv-loop flatten-all-μ-loop
-flatten-all-same-length-3 t c = c .before .loop .inv .0
+  all-scratch-kept : (c : AllWalked) → length (c .flatten-call .last .1 .1 .1 .1 .1 .0) ≡ length (turn-start (call-turn c) .args .scratch .now)
+  all-scratch-kept c = c .flatten-call .kept .1 .1 .1 .1 .1 .0 ∙ call-turn c .before .loop .inv .1
 
-flatten-all-same-length-4 : (t : ℕ) → flatten-all-lts.Need-same-length-4 (flatten-all-calls t) (flatten-all-at t) flatten-all.Post flatten-all-Inv-loop flatten-all-μ-loop
-flatten-all-same-length-4 t c = c .before .loop .inv .1
+  -- it is refused
+  abbrev stopped : all-lts.Then2 (all-calls t) (all-at t) all.Post Inv-loop μ-loop → AllWalked
+  stopped c = c .before .before .before .before .before .before
 
-flatten-all-returns-2 : (t : ℕ) → flatten-all-lts.Need-returns-2 (flatten-all-calls t) (flatten-all-at t) flatten-all.Post flatten-all-Inv-loop flatten-all-μ-loop
-flatten-all-returns-2 t c = row-done (c .before .loop .inv .2) (omega (arith, c .loop-test .left))
+  all-same-length : all-lts.Need-same-length (all-calls t) (all-at t) all.Post Inv-loop μ-loop
+  all-same-length c = all-counters-kept (stopped c)
 
--- ---- flatten_call: the variable, then the run of names and literals, and from there the atom at once or the walk of all arguments
+  all-same-length-2 : all-lts.Need-same-length-2 (all-calls t) (all-at t) all.Post Inv-loop μ-loop
+  all-same-length-2 c = all-scratch-kept (stopped c)
 
--- what is known at its entry
-flatten-call-begins : (t : ℕ) (c : flatten-call-lts.Start (flatten-call-calls t) (flatten-call-at t) flatten-call.Post)
-    → let a = c .args in
-    CallAt (words (a .rule .now)) (words (a .scratch .now)) (words (a .counters .now)) (a .depth) (a .at) (a .to) (a .sp) (a .log) (a .w)
-flatten-call-begins t c = call-at (c .pre .1 .0) (c .pre .1 .1 .0) (c .pre .1 .1 .1 .0) (c .pre .1 .1 .1 .1)
+  all-returns : all-lts.Need-returns (all-calls t) (all-at t) all.Post Inv-loop μ-loop
+  all-returns c = let u = call-turn (stopped c) in row-stop (u .before .loop .inv .2) (at-turn u) _ _ _ (stopped c .flatten-call .ensures) (c .if2 .taken)
 
--- and behind the names and literals that its arguments start with
-flatten-call-begun : (t : ℕ) (c : flatten-call-lts.After-leaves (flatten-call-calls t) (flatten-call-at t) flatten-call.Post)
-    → let a = c .before .before .before .before .before .before .before .before .before .before .before .before .before .args in
-    let v = c .before .before .before .before .before .before .before .take in
-    let l = c .leaves in
-    Begun (words (a .rule .now)) (words (a .scratch .now)) (words (a .counters .now)) (a .depth) (a .at) (a .to) (a .sp) (a .log) (a .w) (v .result) (l .result)
-    (words (v .last .1 .0)) (words (v .last .0)) (words (l .last .1 .1 .1 .1 .0))
-flatten-call-begun t c =
-    let s = c .before .before .before .before .before .before .before .before .before .before .before .before .before in
-    let a = s .args in
-    let v = c .before .before .before .before .before .before .before .take in
-    let l = c .leaves in
-    record {
-      known = s .pre .1 .0;
-      is = s .pre .1 .1 .1 .0;
-      low = s .pre .1 .1 .1 .1;
-      room = s .pre .1 .1 .0;
-      taken = v .ensures;
-      some = c .before .before .if1 .left;
-      counters = length-words-kept (v .last .0) (a .counters .now) (v .kept .0);
-      scratch = length-words-kept (v .last .1 .0) (a .scratch .now) (v .kept .1 .0);
-      left = length-words-kept (l .last .1 .1 .1 .1 .0) (v .last .1 .0) (l .kept .1 .1 .1 .1 .0);
-      bound = 2 ^ 32 - 1;
-      run = l .ensures .0;
-      put = l .ensures .1;
-    }
+  -- it is flattened
+  abbrev passed : all-lts.Else2 (all-calls t) (all-at t) all.Post Inv-loop μ-loop → AllWalked
+  passed c = c .before .before .before .before .before .before
 
-flatten-call-sub-h : (t : ℕ) → flatten-call-lts.Need-sub-h (flatten-call-calls t) (flatten-call-at t) flatten-call.Post
-flatten-call-sub-h t c = omega (arith, flatten-call-begins t (c .before .before .before) .facts .high)
+  abbrev passed-turn : all-lts.Else2 (all-calls t) (all-at t) all.Post Inv-loop μ-loop → AllTurn
+  passed-turn c = call-turn (passed c)
 
-flatten-call-sub-n : (t : ℕ) → flatten-call-lts.Need-sub-n (flatten-call-calls t) (flatten-call-at t) flatten-call.Post
-flatten-call-sub-n t c = omega (arith, flatten-call-begins t (c .before .before .before) .facts .high)
+  all-put-requires-2 : all-lts.Need-put-requires-2 (all-calls t) (all-at t) all.Post Inv-loop μ-loop
+  all-put-requires-2 c κs =
+      let k = passed (c .before) .flatten-call in
+      let u = passed-turn (c .before) in
+      omega (arith, at-turn u, length-words-kept (k .last .1 .1 .1 .1 .1 .0) (u .before .loop .scratch) (k .kept .1 .1 .1 .1 .1 .0))
 
-flatten-call-take-requires : (t : ℕ) → flatten-call-lts.Need-take-requires (flatten-call-calls t) (flatten-call-at t) flatten-call.Post
-flatten-call-take-requires t c κs =
-    let b = flatten-call-begins t (c .before .before .before .before .before) in
-    (b .facts .small, b .facts .low, omega (arith, b .room .log, b .facts .inside))
+  all-add-top-2 : all-lts.Need-add-top-2 (all-calls t) (all-at t) all.Post Inv-loop μ-loop
+  all-add-top-2 c = let u = passed-turn (c .before .before .before .before) in omega (arith, at-turn u, u .before .loop .inv .2 .held)
 
-flatten-call-same-length : (t : ℕ) → flatten-call-lts.Need-same-length (flatten-call-calls t) (flatten-call-at t) flatten-call.Post
-flatten-call-same-length t c = search needs
+  all-sub-left-2 : all-lts.Need-sub-left-2 (all-calls t) (all-at t) all.Post Inv-loop μ-loop
+  all-sub-left-2 c = at-turn (passed-turn (c .before .before .before .before)) .some
 
-flatten-call-same-length-2 : (t : ℕ) → flatten-call-lts.Need-same-length-2 (flatten-call-calls t) (flatten-call-at t) flatten-call.Post
-flatten-call-same-length-2 t c = search needs
+  all-loop-less-2 : all-lts.Need-loop-less-2 (all-calls t) (all-at t) all.Post Inv-loop μ-loop
+  all-loop-less-2 c = let some = at-turn (passed-turn (c .before .before .before .before)) .some in omega arith
 
-flatten-call-returns : (t : ℕ) → flatten-call-lts.Need-returns (flatten-call-calls t) (flatten-call-at t) flatten-call.Post
-flatten-call-returns t c =
-    let s = c .before .before .before .before .before .before .before .before .before .before .before in
-    let a = s .args in
-    let v = c .before .before .before .before .before .take in
-    λ sig x n. full-way sig _ (a .depth) (a .at) (a .to) (a .sp) (a .log) _ _ x n (a .w) (s .pre .1 .1 .1 .0) (s .pre .1 .1 .1 .1) (v .result) _ _ (v .ensures) (c .if1 .taken)
+  all-loop-again-2 : all-lts.Need-loop-again-2 (all-calls t) (all-at t) all.Post Inv-loop μ-loop
+  all-loop-again-2 c =
+      let h : all-lts.Else2 (all-calls t) (all-at t) all.Post Inv-loop μ-loop = c .before .before .before .before in
+      let u = passed-turn h in
+      let p = c .before .before .put2 in
+      let row = row-next (u .before .loop .inv .2) (at-turn u) _ _ _ (passed h .flatten-call .ensures) _ (h .if2 .left) (p .ensures) in
+      (all-counters-kept (passed h), p .kept .0 ∙ all-scratch-kept (passed h), row)
 
-flatten-call-add-leaves : (t : ℕ) → flatten-call-lts.Need-add-leaves (flatten-call-calls t) (flatten-call-at t) flatten-call.Post
-flatten-call-add-leaves t c = omega (arith, flatten-call-begins t (c .before .before .before .before .before .before .before .before .before .before .before) .facts .inside, length-words (c .before .before .before .before .before .before .before .before .before .before .before .args .rule .now))
+  -- none are left
+  all-same-length-3 : all-lts.Need-same-length-3 (all-calls t) (all-at t) all.Post Inv-loop μ-loop
+  all-same-length-3 c = c .before .loop .inv .0
 
-flatten-call-cast-leaves : (t : ℕ) → flatten-call-lts.Need-cast-leaves (flatten-call-calls t) (flatten-call-at t) flatten-call.Post
-flatten-call-cast-leaves t c = search needs
+  all-same-length-4 : all-lts.Need-same-length-4 (all-calls t) (all-at t) all.Post Inv-loop μ-loop
+  all-same-length-4 c = c .before .loop .inv .1
 
-flatten-call-add-leaves-2 : (t : ℕ) → flatten-call-lts.Need-add-leaves-2 (flatten-call-calls t) (flatten-call-at t) flatten-call.Post
-flatten-call-add-leaves-2 t c = omega (arith, flatten-call-begins t (c .before .before .before .before .before .before .before .before .before .before .before .before) .atom .words, length-words (c .before .before .before .before .before .before .before .before .before .before .before .before .args .scratch .now))
+  all-returns-2 : all-lts.Need-returns-2 (all-calls t) (all-at t) all.Post Inv-loop μ-loop
+  all-returns-2 c = row-done (c .before .loop .inv .2) (omega (arith, c .loop-test .left))
 
-flatten-call-leaves-requires : (t : ℕ) → flatten-call-lts.Need-leaves-requires (flatten-call-calls t) (flatten-call-at t) flatten-call.Post
-flatten-call-leaves-requires t c κs =
-    let b = flatten-call-begins t (c .before .before .before .before .before .before .before .before .before .before .before .before) in
-    let v = c .before .before .before .before .before .before .take in
-    (b .atom .inside, omega (arith, b .atom .words, length-words-kept (v .last .1 .0) (c .before .before .before .before .before .before .before .before .before .before .before .before .args .scratch .now) (v .kept .1 .0)))
+-- ---- flatten_call: the variable, then the names and literals in front, and from there the atom at once or the walk of all arguments
 
-flatten-call-cast-if2 : (t : ℕ) → flatten-call-lts.Need-cast-if2 (flatten-call-calls t) (flatten-call-at t) flatten-call.Post
-flatten-call-cast-if2 t c = search needs
+module _ (t : ℕ) where
+  abbrev CallStart : Type 0
+  CallStart = call-lts.Start (call-calls t) (call-at t) call.Post
 
-flatten-call-add-put-around : (t : ℕ) → flatten-call-lts.Need-add-put-around (flatten-call-calls t) (flatten-call-at t) flatten-call.Post
-flatten-call-add-put-around t c = omega (arith, c .before .before .before .before .before .before .before .before .before .before .before .before .before .before .before .before .before .pre .1 .1 .1 .1)
+  abbrev CallTook : Type 0
+  CallTook = call-lts.After-take (call-calls t) (call-at t) call.Post
 
-flatten-call-cast-put-around : (t : ℕ) → flatten-call-lts.Need-cast-put-around (flatten-call-calls t) (flatten-call-at t) flatten-call.Post
-flatten-call-cast-put-around t c = search needs
+  abbrev CallNamed : Type 0
+  CallNamed = call-lts.Else1 (call-calls t) (call-at t) call.Post
 
-flatten-call-put-around-requires : (t : ℕ) → flatten-call-lts.Need-put-around-requires (flatten-call-calls t) (flatten-call-at t) flatten-call.Post
-flatten-call-put-around-requires t c κs =
-    let b = flatten-call-begun t (c .before .before .before .before) in
-    omega (arith, flatten-call-begins t (c .before .before .before .before .before .before .before .before .before .before .before .before .before .before .before .before .before) .atom .words, b .left, b .scratch)
+  abbrev CallFronted : Type 0
+  CallFronted = call-lts.After-leaves (call-calls t) (call-at t) call.Post
 
-flatten-call-add-t31 : (t : ℕ) → flatten-call-lts.Need-add-t31 (flatten-call-calls t) (flatten-call-at t) flatten-call.Post
-flatten-call-add-t31 t c = omega (arith, flatten-call-begins t (c .before .before .before .before .before .before .before .before .before .before .before .before .before .before .before .before .before .before .before .before) .facts .inside, length-words (c .before .before .before .before .before .before .before .before .before .before .before .before .before .before .before .before .before .before .before .before .args .rule .now))
+  abbrev CallArgued : Type 0
+  CallArgued = call-lts.After-flatten-all (call-calls t) (call-at t) call.Post
 
-flatten-call-add-t32 : (t : ℕ) → flatten-call-lts.Need-add-t32 (flatten-call-calls t) (flatten-call-at t) flatten-call.Post
-flatten-call-add-t32 t c = omega (arith, flatten-call-begins t (c .before .before .before .before .before .before .before .before .before .before .before .before .before .before .before .before .before .before .before .before) .atom .inside, c .before .before .before .before .if2 .taken, length-words (c .before .before .before .before .before .before .before .before .before .before .before .before .before .before .before .before .before .before .before .before .args .rule .now))
+  abbrev spot : CallStart → Spot
+  spot c =
+      let a = c .args in
+      record { ws = words (a .rule .now); s = words (a .scratch .now); cs = words (a .counters .now); at = a .at; to = a .to; sp = a .sp; lg = a .log }
 
-flatten-call-add-t33 : (t : ℕ) → flatten-call-lts.Need-add-t33 (flatten-call-calls t) (flatten-call-at t) flatten-call.Post
-flatten-call-add-t33 t c =
-    let b = flatten-call-begins t (c .before .before .before .before .before .before .before .before .before .before .before .before .before .before .before .before .before .before .before .before) in
-    omega (arith, b .room .log, b .facts .inside, length-words (c .before .before .before .before .before .before .before .before .before .before .before .before .before .before .before .before .before .before .before .before .args .scratch .now), c .before .before .before .before .before .before .before .before .before .before .before .before .before .before .before .before .before .before .before .before .good)
+  at-start : (c : CallStart) → Begun (spot c) (c .args .depth) (c .args .w)
+  at-start c =
+      let held : Held (spot c) = record { rule = omega (arith, length-words (c .args .rule .now), c .good); scratch = omega (arith, length-words (c .args .scratch .now), c .good) } in
+      begun (c .pre .1 .0) (c .pre .1 .1 .0) held (c .pre .1 .1 .1 .0) (c .pre .1 .1 .1 .1)
 
-flatten-call-same-length-3 : (t : ℕ) → flatten-call-lts.Need-same-length-3 (flatten-call-calls t) (flatten-call-at t) flatten-call.Post
-flatten-call-same-length-3 t c = c .before .before .before .before .before .before .before .before .before .before .before .before .before .before .take .kept .0
+  call-sub-h : call-lts.Need-sub-h (call-calls t) (call-at t) call.Post
+  call-sub-h c = at-start (c .before .before .before) .facts .high
 
-flatten-call-same-length-4 : (t : ℕ) → flatten-call-lts.Need-same-length-4 (flatten-call-calls t) (flatten-call-at t) flatten-call.Post
-flatten-call-same-length-4 t c = c .before .before .put-around .kept .0 ∙ c .before .before .before .before .before .before .before .leaves .kept .1 .1 .1 .1 .0 ∙ c .before .before .before .before .before .before .before .before .before .before .before .before .before .before .take .kept .1 .0
+  call-sub-n : call-lts.Need-sub-n (call-calls t) (call-at t) call.Post
+  call-sub-n c = at-start (c .before .before .before) .facts .high
 
-flatten-call-returns-2 : (t : ℕ) → flatten-call-lts.Need-returns-2 (flatten-call-calls t) (flatten-call-at t) flatten-call.Post
-flatten-call-returns-2 t c = let p = c .before .before .put-around in begun-leaves (flatten-call-begun t (c .before .before .before .before .before .before .before)) _ _ (c .before .before .before .before .if2 .taken) (p .ensures .0) (p .ensures .1)
+  call-take-requires : call-lts.Need-take-requires (call-calls t) (call-at t) call.Post
+  call-take-requires c κs = let b = at-start (c .before .before .before .before .before) in (b .facts .small, b .facts .low, b .log)
 
-flatten-call-add-flatten-all : (t : ℕ) → flatten-call-lts.Need-add-flatten-all (flatten-call-calls t) (flatten-call-at t) flatten-call.Post
-flatten-call-add-flatten-all t c = omega (arith, flatten-call-begins t (c .before .before .before .before .before .before .before .before .before .before .before .before .before .before .before .before) .facts .inside, length-words (c .before .before .before .before .before .before .before .before .before .before .before .before .before .before .before .before .args .rule .now))
+  -- a variable is asked for
+  abbrev start : CallTook → CallStart
+  start c = c .before .before .before .before .before .before
 
-flatten-call-cast-flatten-all : (t : ℕ) → flatten-call-lts.Need-cast-flatten-all (flatten-call-calls t) (flatten-call-at t) flatten-call.Post
-flatten-call-cast-flatten-all t c = search needs
+  call-same-length : call-lts.Need-same-length (call-calls t) (call-at t) call.Post
+  call-same-length c = search needs
 
-flatten-call-sub-flatten-all : (t : ℕ) → flatten-call-lts.Need-sub-flatten-all (flatten-call-calls t) (flatten-call-at t) flatten-call.Post
-flatten-call-sub-flatten-all t c = omega (arith, flatten-call-begins t (c .before .before .before .before .before .before .before .before .before .before .before .before .before .before .before .before) .facts .deep)
+  call-same-length-2 : call-lts.Need-same-length-2 (call-calls t) (call-at t) call.Post
+  call-same-length-2 c = search needs
 
-flatten-call-add-flatten-all-2 : (t : ℕ) → flatten-call-lts.Need-add-flatten-all-2 (flatten-call-calls t) (flatten-call-at t) flatten-call.Post
-flatten-call-add-flatten-all-2 t c =
-    let b = flatten-call-begins t (c .before .before .before .before .before .before .before .before .before .before .before .before .before .before .before .before .before .before) in
-    omega (arith, b .room .log, b .facts .inside, length-words (c .before .before .before .before .before .before .before .before .before .before .before .before .before .before .before .before .before .before .args .scratch .now))
+  call-returns : call-lts.Need-returns (call-calls t) (call-at t) call.Post
+  call-returns c = let k : CallTook = c .before .before .before .before .before in none-left (at-start (start k)) (k .take .ensures) (c .if1 .taken)
 
-flatten-call-flatten-all-requires : (t : ℕ) → flatten-call-lts.Need-flatten-all-requires (flatten-call-calls t) (flatten-call-at t) flatten-call.Post
-flatten-call-flatten-all-requires t c κs =
-    let f = flatten-call-begins t (c .before .before .before .before .before .before .before .before .before .before .before .before .before .before .before .before .before .before) .facts in
-    let b = flatten-call-begun t (c .before .before .before .before .before) in
-    (omega (arith, c .before .before .before .before .before .before .before .before .before .before .before .before .before .before .before .before .before .before .pre .0, f .inside, f .deep), (begun-known b, begun-room b))
+  -- there is one
+  abbrev took : CallNamed → CallTook
+  took c = c .before .before .before .before .before
 
-flatten-call-same-length-5 : (t : ℕ) → flatten-call-lts.Need-same-length-5 (flatten-call-calls t) (flatten-call-at t) flatten-call.Post
-flatten-call-same-length-5 t c = c .before .before .before .before .before .before .flatten-all .kept .1 .1 .1 .1 .0 ∙ c .before .before .before .before .before .before .before .before .before .before .before .before .before .before .before .before .before .before .before .take .kept .0
+  abbrev named-start : CallNamed → CallStart
+  named-start c = start (took c)
 
-flatten-call-same-length-6 : (t : ℕ) → flatten-call-lts.Need-same-length-6 (flatten-call-calls t) (flatten-call-at t) flatten-call.Post
-flatten-call-same-length-6 t c = c .before .before .before .before .before .before .flatten-all .kept .1 .1 .1 .1 .1 .0 ∙ c .before .before .before .before .before .before .before .before .before .before .before .before .leaves .kept .1 .1 .1 .1 .0 ∙ c .before .before .before .before .before .before .before .before .before .before .before .before .before .before .before .before .before .before .before .take .kept .1 .0
+  at-named : (c : CallNamed) → let v = took c .take in Named (at-start (named-start c)) (v .result) (words (v .last .1 .0)) (words (v .last .0))
+  at-named c =
+      let v = took c .take in
+      record { asked = v .ensures; some = c .if1 .left; counters = length-words-kept _ _ (v .kept .0); scratch = length-words-kept _ _ (v .kept .1 .0) }
 
-flatten-call-returns-3 : (t : ℕ) → flatten-call-lts.Need-returns-3 (flatten-call-calls t) (flatten-call-at t) flatten-call.Post
-flatten-call-returns-3 t c = let k = c .before .before .before .before .before .before .flatten-all in begun-stop (flatten-call-begun t (c .before .before .before .before .before .before .before .before .before .before .before .before)) (words (k .last .1 .1 .1 .1 .1 .0)) (words (k .last .1 .1 .1 .1 .0)) (k .result) (k .ensures) (c .if3 .taken)
+  call-add-leaves : call-lts.Need-add-leaves (call-calls t) (call-at t) call.Post
+  call-add-leaves c = omega (arith, at-start (named-start c))
 
-flatten-call-add-put-atom : (t : ℕ) → flatten-call-lts.Need-add-put-atom (flatten-call-calls t) (flatten-call-at t) flatten-call.Post
-flatten-call-add-put-atom t c = omega (arith, c .before .before .before .before .before .before .before .before .before .before .before .before .before .before .before .before .before .before .before .before .before .before .before .before .before .before .pre .1 .1 .1 .1)
+  call-cast-leaves : call-lts.Need-cast-leaves (call-calls t) (call-at t) call.Post
+  call-cast-leaves c = search needs
 
-flatten-call-cast-put-atom : (t : ℕ) → flatten-call-lts.Need-cast-put-atom (flatten-call-calls t) (flatten-call-at t) flatten-call.Post
-flatten-call-cast-put-atom t c = search needs
+  call-add-leaves-2 : call-lts.Need-add-leaves-2 (call-calls t) (call-at t) call.Post
+  call-add-leaves-2 c = omega (arith, at-start (named-start (c .before)))
 
-flatten-call-put-atom-requires : (t : ℕ) → flatten-call-lts.Need-put-atom-requires (flatten-call-calls t) (flatten-call-at t) flatten-call.Post
-flatten-call-put-atom-requires t c κs =
-    let k = c .before .before .before .before .before .before .before .flatten-all in
-    let kept = length-words-kept (k .last .1 .1 .1 .1 .1 .0) (c .before .before .before .before .before .before .before .before .before .before .before .before .before .leaves .last .1 .1 .1 .1 .0) (k .kept .1 .1 .1 .1 .1 .0) in
-    begun-atom (flatten-call-begun t (c .before .before .before .before .before .before .before .before .before .before .before .before .before)) (words (k .last .1 .1 .1 .1 .1 .0)) (words (k .last .1 .1 .1 .1 .0)) (k .result) (k .ensures) (c .before .if3 .left) kept
+  call-leaves-requires : call-lts.Need-leaves-requires (call-calls t) (call-at t) call.Post
+  call-leaves-requires c κs = let b = at-start (named-start (c .before)) .atom in (b .inside, omega (arith, b .words, at-named (c .before) .scratch))
 
-flatten-call-same-length-7 : (t : ℕ) → flatten-call-lts.Need-same-length-7 (flatten-call-calls t) (flatten-call-at t) flatten-call.Post
-flatten-call-same-length-7 t c = c .before .before .before .before .before .before .before .before .before .before .flatten-all .kept .1 .1 .1 .1 .0 ∙ c .before .before .before .before .before .before .before .before .before .before .before .before .before .before .before .before .before .before .before .before .before .before .before .take .kept .0
+  -- the names and literals in front are written
+  abbrev named : CallFronted → CallNamed
+  named c = c .before .before
 
-flatten-call-same-length-8 : (t : ℕ) → flatten-call-lts.Need-same-length-8 (flatten-call-calls t) (flatten-call-at t) flatten-call.Post
-flatten-call-same-length-8 t c = c .before .before .put-atom .kept .0 ∙ c .before .before .before .before .before .before .before .before .before .before .flatten-all .kept .1 .1 .1 .1 .1 .0 ∙ c .before .before .before .before .before .before .before .before .before .before .before .before .before .before .before .before .leaves .kept .1 .1 .1 .1 .0 ∙ c .before .before .before .before .before .before .before .before .before .before .before .before .before .before .before .before .before .before .before .before .before .before .before .take .kept .1 .0
+  at-leaves : (c : CallFronted) → let l = c .leaves in Fronted (at-named (named c)) (l .result) (words (l .last .1 .1 .1 .1 .0))
+  at-leaves c = let l = c .leaves in record { bound = 2 ^ 32 - 1; run = l .ensures .0; put = l .ensures .1; left = length-words-kept _ _ (l .kept .1 .1 .1 .1 .0) }
 
-flatten-call-returns-4 : (t : ℕ) → flatten-call-lts.Need-returns-4 (flatten-call-calls t) (flatten-call-at t) flatten-call.Post
-flatten-call-returns-4 t c =
-    let k = c .before .before .before .before .before .before .before .before .before .before .flatten-all in
-    let p = c .before .before .put-atom in
-    let kept = length-words-kept (k .last .1 .1 .1 .1 .1 .0) (c .before .before .before .before .before .before .before .before .before .before .before .before .before .before .before .before .leaves .last .1 .1 .1 .1 .0) (k .kept .1 .1 .1 .1 .1 .0) in
-    begun-done (flatten-call-begun t (c .before .before .before .before .before .before .before .before .before .before .before .before .before .before .before .before)) (words (k .last .1 .1 .1 .1 .1 .0)) (words (k .last .1 .1 .1 .1 .0)) (k .result) (k .ensures) (c .before .before .before .before .if3 .left) kept _ _ (p .ensures .0) (p .ensures .1)
+  -- the scratch is as long as at the start
+  leaves-kept : (c : CallFronted) → length (c .leaves .last .1 .1 .1 .1 .0) ≡ length (named-start (named c) .args .scratch .now)
+  leaves-kept c = c .leaves .kept .1 .1 .1 .1 .0 ∙ took (named c) .take .kept .1 .0
+
+  call-cast-if2 : call-lts.Need-cast-if2 (call-calls t) (call-at t) call.Post
+  call-cast-if2 c = search needs
+
+  -- they are all
+  abbrev whole : call-lts.Then2 (call-calls t) (call-at t) call.Post → CallFronted
+  whole c = c .before .before .before
+
+  abbrev whole-start : call-lts.Then2 (call-calls t) (call-at t) call.Post → CallStart
+  whole-start c = named-start (named (whole c))
+
+  call-add-put-around : call-lts.Need-add-put-around (call-calls t) (call-at t) call.Post
+  call-add-put-around c = omega (arith, at-start (whole-start (c .before)) .low)
+
+  call-cast-put-around : call-lts.Need-cast-put-around (call-calls t) (call-at t) call.Post
+  call-cast-put-around c = search needs
+
+  call-put-around-requires : call-lts.Need-put-around-requires (call-calls t) (call-at t) call.Post
+  call-put-around-requires c κs = around-room (at-leaves (whole (c .before)))
+
+  call-add-t31 : call-lts.Need-add-t31 (call-calls t) (call-at t) call.Post
+  call-add-t31 c = omega (arith, at-start (whole-start (c .before .before .before .before)))
+
+  call-add-t32 : call-lts.Need-add-t32 (call-calls t) (call-at t) call.Post
+  call-add-t32 c = let h = c .before .before .before .before in omega (arith, at-start (whole-start h), h .if2 .taken)
+
+  call-add-t33 : call-lts.Need-add-t33 (call-calls t) (call-at t) call.Post
+  call-add-t33 c = omega (arith, at-start (whole-start (c .before .before .before .before)))
+
+  call-same-length-3 : call-lts.Need-same-length-3 (call-calls t) (call-at t) call.Post
+  call-same-length-3 c = took (named (whole (c .before .before .before .before))) .take .kept .0
+
+  call-same-length-4 : call-lts.Need-same-length-4 (call-calls t) (call-at t) call.Post
+  call-same-length-4 c = c .before .before .put-around .kept .0 ∙ leaves-kept (whole (c .before .before .before .before))
+
+  call-returns-2 : call-lts.Need-returns-2 (call-calls t) (call-at t) call.Post
+  call-returns-2 c =
+      let h = c .before .before .before .before in
+      let p = c .before .before .put-around in
+      leaves-answer (at-leaves (whole h)) _ _ (h .if2 .taken) (p .ensures .0) (p .ensures .1)
+
+  -- a call stands among the arguments
+  abbrev mixed : call-lts.Else2 (call-calls t) (call-at t) call.Post → CallFronted
+  mixed c = c .before .before .before
+
+  abbrev mixed-start : call-lts.Else2 (call-calls t) (call-at t) call.Post → CallStart
+  mixed-start c = named-start (named (mixed c))
+
+  call-add-flatten-all : call-lts.Need-add-flatten-all (call-calls t) (call-at t) call.Post
+  call-add-flatten-all c = omega (arith, at-start (mixed-start c))
+
+  call-cast-flatten-all : call-lts.Need-cast-flatten-all (call-calls t) (call-at t) call.Post
+  call-cast-flatten-all c = search needs
+
+  call-sub-flatten-all : call-lts.Need-sub-flatten-all (call-calls t) (call-at t) call.Post
+  call-sub-flatten-all c = omega (arith, at-start (mixed-start c) .facts .deep)
+
+  call-add-flatten-all-2 : call-lts.Need-add-flatten-all-2 (call-calls t) (call-at t) call.Post
+  call-add-flatten-all-2 c = omega (arith, at-start (mixed-start (c .before .before)))
+
+  call-flatten-all-requires : call-lts.Need-flatten-all-requires (call-calls t) (call-at t) call.Post
+  call-flatten-all-requires c κs =
+      let s = mixed-start (c .before .before) in
+      let f = at-leaves (mixed (c .before .before)) in
+      (omega (arith, s .pre .0, at-start s .facts .inside, at-start s .facts .deep), (args-known f, args-room f))
+
+  -- all are walked
+  abbrev fronted : CallArgued → CallFronted
+  fronted c = mixed (c .before .before .before)
+
+  at-args : (c : CallArgued) → let k = c .flatten-all in Argued (at-leaves (fronted c)) (words (k .last .1 .1 .1 .1 .1 .0)) (words (k .last .1 .1 .1 .1 .0)) (k .result)
+  at-args c = let k = c .flatten-all in record { walk = k .ensures; scratch = length-words-kept _ _ (k .kept .1 .1 .1 .1 .1 .0) }
+
+  -- both slices are as long as at the start
+  call-counters-kept : (c : CallArgued) → length (c .flatten-all .last .1 .1 .1 .1 .0) ≡ length (named-start (named (fronted c)) .args .counters .now)
+  call-counters-kept c = c .flatten-all .kept .1 .1 .1 .1 .0 ∙ took (named (fronted c)) .take .kept .0
+
+  call-scratch-kept : (c : CallArgued) → length (c .flatten-all .last .1 .1 .1 .1 .1 .0) ≡ length (named-start (named (fronted c)) .args .scratch .now)
+  call-scratch-kept c = c .flatten-all .kept .1 .1 .1 .1 .1 .0 ∙ leaves-kept (fronted c)
+
+  -- one of them is refused
+  abbrev refused : call-lts.Then3 (call-calls t) (call-at t) call.Post → CallArgued
+  refused c = c .before .before .before .before .before .before
+
+  call-same-length-5 : call-lts.Need-same-length-5 (call-calls t) (call-at t) call.Post
+  call-same-length-5 c = call-counters-kept (refused c)
+
+  call-same-length-6 : call-lts.Need-same-length-6 (call-calls t) (call-at t) call.Post
+  call-same-length-6 c = call-scratch-kept (refused c)
+
+  call-returns-3 : call-lts.Need-returns-3 (call-calls t) (call-at t) call.Post
+  call-returns-3 c = args-refused (at-args (refused c)) (c .if3 .taken)
+
+  -- all are fine
+  abbrev argued : call-lts.Else3 (call-calls t) (call-at t) call.Post → CallArgued
+  argued c = c .before .before .before .before .before .before
+
+  call-add-put-atom : call-lts.Need-add-put-atom (call-calls t) (call-at t) call.Post
+  call-add-put-atom c = omega (arith, at-start (named-start (named (fronted (argued (c .before))))) .low)
+
+  call-cast-put-atom : call-lts.Need-cast-put-atom (call-calls t) (call-at t) call.Post
+  call-cast-put-atom c = search needs
+
+  call-put-atom-requires : call-lts.Need-put-atom-requires (call-calls t) (call-at t) call.Post
+  call-put-atom-requires c κs = atom-asks (at-args (argued (c .before))) (c .before .if3 .left)
+
+  call-same-length-7 : call-lts.Need-same-length-7 (call-calls t) (call-at t) call.Post
+  call-same-length-7 c = call-counters-kept (argued (c .before .before .before .before))
+
+  call-same-length-8 : call-lts.Need-same-length-8 (call-calls t) (call-at t) call.Post
+  call-same-length-8 c = c .before .before .put-atom .kept .0 ∙ call-scratch-kept (argued (c .before .before .before .before))
+
+  call-returns-4 : call-lts.Need-returns-4 (call-calls t) (call-at t) call.Post
+  call-returns-4 c =
+      let h = c .before .before .before .before in
+      let p = c .before .before .put-atom in
+      call-answer (at-args (argued h)) _ _ (h .if3 .left) (p .ensures .0) (p .ensures .1)
 
 pub +flatten-all+flatten-call-spec : {M : Type 1} → statement M
-+flatten-all+flatten-call-spec = close μ-flatten-all μ-flatten-call (λ t. flatten-all-lts.spec (flatten-all-calls t)
-    (flatten-all-at t)
-    flatten-all.Post
-    flatten-all-Inv-loop
-    flatten-all-μ-loop
-    (flatten-all-loop-holds t)
-    (flatten-all-get-requires t)
-    (flatten-all-put-requires t)
-    (flatten-all-add-next t)
-    (flatten-all-add-top t)
-    (flatten-all-sub-left t)
-    (flatten-all-loop-less t)
-    (flatten-all-loop-again t)
-    (flatten-all-flatten-call-requires t)
-    (flatten-all-same-length t)
-    (flatten-all-same-length-2 t)
-    (flatten-all-returns t)
-    (flatten-all-put-requires-2 t)
-    (flatten-all-add-top-2 t)
-    (flatten-all-sub-left-2 t)
-    (flatten-all-loop-less-2 t)
-    (flatten-all-loop-again-2 t)
-    (flatten-all-same-length-3 t)
-    (flatten-all-same-length-4 t)
-    (flatten-all-returns-2 t))
-    λ t. flatten-call-lts.spec (flatten-call-calls t)
-    (flatten-call-at t)
-    flatten-call.Post
-    (flatten-call-sub-h t)
-    (flatten-call-sub-n t)
-    (flatten-call-take-requires t)
-    (flatten-call-same-length t)
-    (flatten-call-same-length-2 t)
-    (flatten-call-returns t)
-    (flatten-call-add-leaves t)
-    (flatten-call-cast-leaves t)
-    (flatten-call-add-leaves-2 t)
-    (flatten-call-leaves-requires t)
-    (flatten-call-cast-if2 t)
-    (flatten-call-add-put-around t)
-    (flatten-call-cast-put-around t)
-    (flatten-call-put-around-requires t)
-    (flatten-call-add-t31 t)
-    (flatten-call-add-t32 t)
-    (flatten-call-add-t33 t)
-    (flatten-call-same-length-3 t)
-    (flatten-call-same-length-4 t)
-    (flatten-call-returns-2 t)
-    (flatten-call-add-flatten-all t)
-    (flatten-call-cast-flatten-all t)
-    (flatten-call-sub-flatten-all t)
-    (flatten-call-add-flatten-all-2 t)
-    (flatten-call-flatten-all-requires t)
-    (flatten-call-same-length-5 t)
-    (flatten-call-same-length-6 t)
-    (flatten-call-returns-3 t)
-    (flatten-call-add-put-atom t)
-    (flatten-call-cast-put-atom t)
-    (flatten-call-put-atom-requires t)
-    (flatten-call-same-length-7 t)
-    (flatten-call-same-length-8 t)
-    (flatten-call-returns-4 t)
++flatten-all+flatten-call-spec = close μ-all μ-call (λ t. all-lts.spec (all-calls t)
+    (all-at t)
+    all.Post
+    Inv-loop
+    μ-loop
+    (all-loop-holds t)
+    (all-get-requires t)
+    (all-put-requires t)
+    (all-add-next t)
+    (all-add-top t)
+    (all-sub-left t)
+    (all-loop-less t)
+    (all-loop-again t)
+    (all-flatten-call-requires t)
+    (all-same-length t)
+    (all-same-length-2 t)
+    (all-returns t)
+    (all-put-requires-2 t)
+    (all-add-top-2 t)
+    (all-sub-left-2 t)
+    (all-loop-less-2 t)
+    (all-loop-again-2 t)
+    (all-same-length-3 t)
+    (all-same-length-4 t)
+    (all-returns-2 t))
+    λ t. call-lts.spec (call-calls t)
+    (call-at t)
+    call.Post
+    (call-sub-h t)
+    (call-sub-n t)
+    (call-take-requires t)
+    (call-same-length t)
+    (call-same-length-2 t)
+    (call-returns t)
+    (call-add-leaves t)
+    (call-cast-leaves t)
+    (call-add-leaves-2 t)
+    (call-leaves-requires t)
+    (call-cast-if2 t)
+    (call-add-put-around t)
+    (call-cast-put-around t)
+    (call-put-around-requires t)
+    (call-add-t31 t)
+    (call-add-t32 t)
+    (call-add-t33 t)
+    (call-same-length-3 t)
+    (call-same-length-4 t)
+    (call-returns-2 t)
+    (call-add-flatten-all t)
+    (call-cast-flatten-all t)
+    (call-sub-flatten-all t)
+    (call-add-flatten-all-2 t)
+    (call-flatten-all-requires t)
+    (call-same-length-5 t)
+    (call-same-length-6 t)
+    (call-returns-3 t)
+    (call-add-put-atom t)
+    (call-cast-put-atom t)
+    (call-put-atom-requires t)
+    (call-same-length-7 t)
+    (call-same-length-8 t)
+    (call-returns-4 t)
