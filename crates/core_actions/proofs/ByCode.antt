@@ -1,55 +1,154 @@
--- An action by its code, from what the function for it leaves. Assumes nothing.
+-- An action by its code: what the function for it asks, and what it leaves, from what is known where the action's word is read. Assumes nothing.
 use mathlib.Core.Path.{_≡_, refl, sym, _∙_, subst}
 use mathlib.Core.List.{List, _∷_}
-use Prim.Native.Nat.{ℕ, _+_}
+use Prim.Native.Nat.{ℕ, _+_, _-_, _≤_, _<_}
 use native.Mathlib.Omega.{arith}
 use lib.ListN.{length, getD}
-use Rattle.rules.specs.Words.{actionWord, headWord, headOf}
+use Rattle.rules.specs.Words.{maxDepth, actionBase, actionWord, headWord, headOf}
 use Rattle.rules.specs.Refusals.{Res}
-use Rattle.rules.specs.Signature.{Sig}
-use Rattle.rules.specs.Written.{Expr, Exprs, set′, delete′, subsume′}
+use Rattle.rules.specs.Signature.{Sig, elem}
+use Rattle.rules.specs.Written.{expr′, panic′}
 use Rattle.rules.specs.Flat.{CoreAction, Delete, Subsume, actionWords}
-use Rattle.rules.specs.ToCoreActions.{Done, lowerChange, lowerSet, lowerAction}
-use Rattle.walks.specs.Steps.{Piece, Walked}
-use Rattle.core_actions.specs.Scopes.{Scoped, ScopeRoom}
+use Rattle.rules.specs.ToCoreActions.{Done, unionAsSet, lowerLet, lowerChange, lowerSet, lowerUnion, lowerAction}
+use Rattle.walks.specs.Steps.{Piece, Walked, Counted, ExprAt}
+use Rattle.core_actions.specs.Scopes.{Scoped}
 use Rattle.core_actions.specs.Lowered.{donePiece}
-use Rattle.core_actions.specs.Acts.{ChangeAt, changed, Gave, Acts}
-use Rattle.core_actions.specs.declared.scope.Scope.{Scope}
+use Rattle.core_actions.specs.Acts.{ActionAt, LetAt, ChangeAt, PairAt, Signed, changed, Gave}
 use Rattle.core_actions.specs.declared.actions.Acted.{Acted}
-use Rattle.core_actions.proofs.Pieces.{snoc, done-change, done-set-row, SameBound, same-change, same-set}
+use Rattle.core_actions.proofs.Given.{Given, RoomFor, ScopeRoomFor, Standing, StandingSigned, Does, Finishes, second, RowWalk, Changes}
+use Rattle.core_actions.proofs.Pieces.{done-change, done-set-row, SameBound, same-change, same-set}
 use Rattle.core_actions.proofs.Acting.{acts-same}
+use Rattle.core_actions.proofs.ReadActions.{action-high, no-other, let-cases, set-cases, delete-cases, subsume-cases, union-cases, panic-cases, expression-cases}
 
-module _ (sig : Sig) (bound ws : List ℕ) (at to sp lg : ℕ) (c : Scope) (s cs s′ cs′ : List ℕ) (r : Acted) (w : ℕ) (none : r .names ≡ 0) (sr : ScopeRoom (length ws) at to sp c) (sc : Scoped sig bound s c) where
-  by-piece : (x : Res Done) (more : ℕ) (y : ChangeAt sig ws more at) (code : ℕ) → SameBound sig bound x → w ≡ code
-      → donePiece x ≡ changed sig bound code more (at + 1) (headOf (getD ws (at + 1) 0)) (y .exprs .value) cs
-      → Walked 0 (Gave r) (changed sig bound w more (at + 1) (headOf (getD ws (at + 1) 0)) (y .exprs .value) cs) (2 + y .exprs .size) at to sp lg s cs s′ cs′ (r .walk)
-      → Acts x sig c (2 + y .exprs .size) at to sp lg s cs s′ cs′ r
-  by-piece x more y code same e is walk =
-      let i = y .exprs .inside in
-      let to-code = subst (λ (u : ℕ). Walked 0 (Gave r) (changed sig bound u more (at + 1) (headOf (getD ws (at + 1) 0)) (y .exprs .value) cs) (2 + y .exprs .size) at to sp lg s cs s′ cs′ (r .walk)) e walk in
-      acts-same sig bound c (length ws) x same none sr (omega arith) sc
-      (subst (λ (p : Res Piece). Walked 0 (Gave r) p (2 + y .exprs .size) at to sp lg s cs s′ cs′ (r .walk)) (sym is) to-code)
+-- what the contract says of an answer
+abbrev pub Answers : Given → List ℕ → List ℕ → Acted → Type 0
+Answers k s′ cs′ r =
+    (sig : Sig) (x : ActionAt sig (k .ws) (k .at)) (bound : List ℕ) → Counted sig (k .cs) → Scoped sig bound (k .s) (k .scope) → Signed sig (k .gs)
+    → Does k sig (lowerAction sig bound (x .value) (k .cs)) (x .size) s′ cs′ r
 
-  pub set-acts : (y : ChangeAt sig ws 1 at) (es : Exprs) (e : Expr) → y .exprs .value ≡ snoc es e → w ≡ actionWord 2
-      → Walked 0 (Gave r) (changed sig bound w 1 (at + 1) (headOf (getD ws (at + 1) 0)) (y .exprs .value) cs) (2 + y .exprs .size) at to sp lg s cs s′ cs′ (r .walk)
-      → Acts (lowerAction sig bound (set′ (at + 1) (headOf (getD ws (at + 1) 0)) es e) cs) sig c (2 + y .exprs .size) at to sp lg s cs s′ cs′ r
-  set-acts y es e row code walk =
-      by-piece (lowerSet sig bound (at + 1) (headOf (getD ws (at + 1) 0)) es e cs) 1 y (actionWord 2) (same-set sig bound (at + 1) (headOf (getD ws (at + 1) 0)) es e cs) code
-      (done-set-row sig bound (at + 1) (headOf (getD ws (at + 1) 0)) es e cs ∙ (λ i. changed sig bound (actionWord 2) 1 (at + 1) (headOf (getD ws (at + 1) 0)) (sym row i) cs)) walk
+-- ---- the action's word is read: w
 
-  change-acts : (C : ℕ → List ℕ → CoreAction) (code : ℕ) → ((h : ℕ) (ts : List ℕ) → actionWords (C h ts) ≡ code ∷ headWord h (length ts) ∷ ts) → (y : ChangeAt sig ws 0 at) → w ≡ code
-      → Walked 0 (Gave r) (changed sig bound w 0 (at + 1) (headOf (getD ws (at + 1) 0)) (y .exprs .value) cs) (2 + y .exprs .size) at to sp lg s cs s′ cs′ (r .walk)
-      → Acts (lowerChange sig bound C (at + 1) (headOf (getD ws (at + 1) 0)) (y .exprs .value) cs) sig c (2 + y .exprs .size) at to sp lg s cs s′ cs′ r
-  change-acts C code is y e walk =
-      by-piece (lowerChange sig bound C (at + 1) (headOf (getD ws (at + 1) 0)) (y .exprs .value) cs) 0 y code (same-change sig bound C (at + 1) (headOf (getD ws (at + 1) 0)) (y .exprs .value) cs) e
-      (done-change sig bound C code is (at + 1) (headOf (getD ws (at + 1) 0)) (y .exprs .value) cs) walk
+pub record Coded (k : Given) (w : ℕ) : Type 0 where
+  pub known : StandingSigned k (λ sig. ActionAt sig (k .ws) (k .at))
+  pub room : RoomFor k
+  pub scopeRoom : ScopeRoomFor k
+  pub top : k .scope .first + k .scope .names ≡ k .sp
+  pub is : w ≡ getD (k .ws) (k .at) 0
+  pub high : actionBase ≤ w
 
-  pub delete-acts : (y : ChangeAt sig ws 0 at) → w ≡ actionWord 3
-      → Walked 0 (Gave r) (changed sig bound w 0 (at + 1) (headOf (getD ws (at + 1) 0)) (y .exprs .value) cs) (2 + y .exprs .size) at to sp lg s cs s′ cs′ (r .walk)
-      → Acts (lowerAction sig bound (delete′ (at + 1) (headOf (getD ws (at + 1) 0)) (y .exprs .value)) cs) sig c (2 + y .exprs .size) at to sp lg s cs s′ cs′ r
-  delete-acts y e walk = change-acts Delete (actionWord 3) (λ h ts. refl) y e walk
+pub coded : {k : Given} {w : ℕ} → StandingSigned k (λ sig. ActionAt sig (k .ws) (k .at)) → RoomFor k → ScopeRoomFor k → k .scope .first + k .scope .names ≡ k .sp
+    → w ≡ getD (k .ws) (k .at) 0 → Coded k w
+coded {k} q room sr top is =
+    record { known = q; room = room; scopeRoom = sr; top = top; is = is; high = omega (arith, action-high (q .sig) (k .ws) (k .at) (q .known .0)) }
 
-  pub subsume-acts : (y : ChangeAt sig ws 0 at) → w ≡ actionWord 4
-      → Walked 0 (Gave r) (changed sig bound w 0 (at + 1) (headOf (getD ws (at + 1) 0)) (y .exprs .value) cs) (2 + y .exprs .size) at to sp lg s cs s′ cs′ (r .walk)
-      → Acts (lowerAction sig bound (subsume′ (at + 1) (headOf (getD ws (at + 1) 0)) (y .exprs .value)) cs) sig c (2 + y .exprs .size) at to sp lg s cs s′ cs′ r
-  subsume-acts y e walk = change-acts Subsume (actionWord 4) (λ h ts. refl) y e walk
+module _ {k : Given} {w : ℕ} (g : Coded k w) where
+  word : (code : ℕ) → w - actionBase ≡ code → getD (k .ws) (k .at) 0 ≡ actionWord code
+  word code e = omega (arith, g .is, g .high)
+
+  asks : {A : Sig → Type 0} → ((sig : Sig) → ActionAt sig (k .ws) (k .at) → A sig) → Standing k A
+  asks at = let q = g .known in record { sig = q .sig; known = (at (q .sig) (q .known .0), q .known .1, q .known .2) }
+
+  -- ---- let
+
+  pub let-asks : w - actionBase ≡ 1 → Standing k (λ sig. LetAt sig (k .ws) (k .at))
+  let-asks e = asks (λ sig x. let-cases sig (k .ws) (k .at) x (λ y n. LetAt sig (k .ws) (k .at)) (word 1 e) (λ y. y))
+
+  pub let-done : {s′ cs′ : List ℕ} {r : Acted} → w - actionBase ≡ 1
+      → Finishes k (λ sig. LetAt sig (k .ws) (k .at)) (λ sig bound y. lowerLet (elem (second k) bound) sig bound (k .at) (second k) (y .expr .value) (k .cs)) (λ sig y. 2 + y .expr .size) s′ cs′ r
+      → Answers k s′ cs′ r
+  let-done {s′} {cs′} {r} e does sig x bound n sc sg =
+      let-cases sig (k .ws) (k .at) x (λ y i. Does k sig (lowerAction sig bound y (k .cs)) i s′ cs′ r) (word 1 e) (λ y. does sig y bound n sc)
+
+  -- ---- set, delete and subsume: the row that is walked is the action's
+
+  module _ {s′ cs′ : List ℕ} {r : Acted} where
+    row-does : (sig : Sig) (bound : List ℕ) (x : Res Done) (more code : ℕ) (y : ChangeAt sig (k .ws) more (k .at)) → Scoped sig bound (k .s) (k .scope) → r .names ≡ 0
+        → SameBound sig bound x → w ≡ code → donePiece x ≡ changed sig bound code more (k .at + 1) (headOf (second k)) (y .exprs .value) (k .cs) → RowWalk k sig bound w more y s′ cs′ r
+        → Does k sig x (2 + y .exprs .size) s′ cs′ r
+    row-does sig bound x more code y sc none same e is walk =
+        let i = y .exprs .inside in
+        acts-same sig bound (k .scope) (length (k .ws)) x same none (g .scopeRoom) (omega arith) sc
+        (subst (λ (p : Res Piece). Walked 0 (Gave r) p (2 + y .exprs .size) (k .at) (k .to) (k .sp) (k .lg) (k .s) (k .cs) s′ cs′ (r .walk)) (sym is)
+        (subst (λ (u : ℕ). RowWalk k sig bound u more y s′ cs′ r) e walk))
+
+    pub set-done : w - actionBase ≡ 2 → Changes k w 1 s′ cs′ r → Answers k s′ cs′ r
+    set-done e does sig x bound n sc sg =
+        set-cases sig (k .ws) (k .at) x (λ y i. Does k sig (lowerAction sig bound y (k .cs)) i s′ cs′ r) (word 2 e)
+        (λ y es v row. row-does sig bound (lowerSet sig bound (k .at + 1) (headOf (second k)) es v (k .cs)) 1 (actionWord 2) y sc (does .0)
+        (same-set sig bound (k .at + 1) (headOf (second k)) es v (k .cs)) (g .is ∙ word 2 e)
+        (done-set-row sig bound (k .at + 1) (headOf (second k)) es v (k .cs) ∙ (λ i. changed sig bound (actionWord 2) 1 (k .at + 1) (headOf (second k)) (sym row i) (k .cs)))
+        (does .1 sig y bound n sc))
+
+    change-does : (C : ℕ → List ℕ → CoreAction) (code : ℕ) → ((h : ℕ) (ts : List ℕ) → actionWords (C h ts) ≡ code ∷ headWord h (length ts) ∷ ts)
+        → getD (k .ws) (k .at) 0 ≡ code → Changes k w 0 s′ cs′ r
+        → Finishes k (λ sig. ChangeAt sig (k .ws) 0 (k .at)) (λ sig bound y. lowerChange sig bound C (k .at + 1) (headOf (second k)) (y .exprs .value) (k .cs)) (λ sig y. 2 + y .exprs .size) s′ cs′ r
+    change-does C code is e does sig y bound n sc =
+        row-does sig bound (lowerChange sig bound C (k .at + 1) (headOf (second k)) (y .exprs .value) (k .cs)) 0 code y sc (does .0)
+        (same-change sig bound C (k .at + 1) (headOf (second k)) (y .exprs .value) (k .cs)) (g .is ∙ e)
+        (done-change sig bound C code is (k .at + 1) (headOf (second k)) (y .exprs .value) (k .cs)) (does .1 sig y bound n sc)
+
+    pub delete-done : w - actionBase ≡ 3 → Changes k w 0 s′ cs′ r → Answers k s′ cs′ r
+    delete-done e does sig x bound n sc sg =
+        delete-cases sig (k .ws) (k .at) x (λ y i. Does k sig (lowerAction sig bound y (k .cs)) i s′ cs′ r) (word 3 e)
+        (λ y. change-does Delete (actionWord 3) (λ h ts. refl) (word 3 e) does sig y bound n sc)
+
+    pub subsume-done : w - actionBase ≡ 4 → Changes k w 0 s′ cs′ r → Answers k s′ cs′ r
+    subsume-done e does sig x bound n sc sg =
+        subsume-cases sig (k .ws) (k .at) x (λ y i. Does k sig (lowerAction sig bound y (k .cs)) i s′ cs′ r) (word 4 e)
+        (λ y. change-does Subsume (actionWord 4) (λ h ts. refl) (word 4 e) does sig y bound n sc)
+
+  pub set-asks : w - actionBase ≡ 2 → Standing k (λ sig. ChangeAt sig (k .ws) 1 (k .at))
+  set-asks e = asks (λ sig x. set-cases sig (k .ws) (k .at) x (λ y n. ChangeAt sig (k .ws) 1 (k .at)) (word 2 e) (λ y es v row. y))
+
+  pub delete-asks : w - actionBase ≡ 3 → Standing k (λ sig. ChangeAt sig (k .ws) 0 (k .at))
+  delete-asks e = asks (λ sig x. delete-cases sig (k .ws) (k .at) x (λ y n. ChangeAt sig (k .ws) 0 (k .at)) (word 3 e) (λ y. y))
+
+  pub subsume-asks : w - actionBase ≡ 4 → Standing k (λ sig. ChangeAt sig (k .ws) 0 (k .at))
+  subsume-asks e = asks (λ sig x. subsume-cases sig (k .ws) (k .at) x (λ y n. ChangeAt sig (k .ws) 0 (k .at)) (word 4 e) (λ y. y))
+
+  -- ---- union
+
+  pub union-asks : w - actionBase ≡ 5 → StandingSigned k (λ sig. PairAt sig (k .ws) (k .at))
+  union-asks e =
+      let q = g .known in
+      record {
+        sig = q .sig;
+        known = (union-cases (q .sig) (k .ws) (k .at) (q .known .0) (λ y n. PairAt (q .sig) (k .ws) (k .at)) (word 5 e) (λ y. y), q .known .1, q .known .2, q .known .3);
+      }
+
+  pub union-done : {s′ cs′ : List ℕ} {r : Acted} → w - actionBase ≡ 5
+      → ((sig : Sig) (y : PairAt sig (k .ws) (k .at)) (bound : List ℕ) → Counted sig (k .cs) → Scoped sig bound (k .s) (k .scope) → Signed sig (k .gs)
+      → Does k sig (lowerUnion sig bound (unionAsSet sig (y .left .value) (y .right .value)) (y .left .value) (y .right .value) (k .cs)) (1 + (y .left .size + y .right .size)) s′ cs′ r)
+      → Answers k s′ cs′ r
+  union-done {s′} {cs′} {r} e does sig x bound n sc sg =
+      union-cases sig (k .ws) (k .at) x (λ y i. Does k sig (lowerAction sig bound y (k .cs)) i s′ cs′ r) (word 5 e) (λ y. does sig y bound n sc sg)
+
+  -- ---- panic and an expression
+
+  pub panic-asks : w - actionBase ≡ 6 → k .at + 1 < length (k .ws)
+  panic-asks e = let q = g .known in panic-cases (q .sig) (k .ws) (k .at) (q .known .0) (λ y n. k .at + 1 < length (k .ws)) (word 6 e) (λ i. i)
+
+  pub panic-done : {s′ cs′ : List ℕ} {r : Acted} → w - actionBase ≡ 6
+      → ((sig : Sig) (bound : List ℕ) → Scoped sig bound (k .s) (k .scope) → Does k sig (lowerAction sig bound (panic′ (second k)) (k .cs)) 2 s′ cs′ r) → Answers k s′ cs′ r
+  panic-done {s′} {cs′} {r} e does sig x bound n sc sg =
+      panic-cases sig (k .ws) (k .at) x (λ y i. Does k sig (lowerAction sig bound y (k .cs)) i s′ cs′ r) (word 6 e) (λ i. does sig bound sc)
+
+  pub expression-asks : w - actionBase ≡ 8 → Standing k (λ sig. ExprAt sig (k .ws) maxDepth (k .at + 1))
+  expression-asks e = asks (λ sig x. expression-cases sig (k .ws) (k .at) x (λ y n. ExprAt sig (k .ws) maxDepth (k .at + 1)) (word 8 e) (λ y. y))
+
+  pub expression-done : {s′ cs′ : List ℕ} {r : Acted} → w - actionBase ≡ 8
+      → Finishes k (λ sig. ExprAt sig (k .ws) maxDepth (k .at + 1)) (λ sig bound y. lowerAction sig bound (expr′ (y .value)) (k .cs)) (λ sig y. 1 + y .size) s′ cs′ r → Answers k s′ cs′ r
+  expression-done {s′} {cs′} {r} e does sig x bound n sc sg =
+      expression-cases sig (k .ws) (k .at) x (λ y i. Does k sig (lowerAction sig bound y (k .cs)) i s′ cs′ r) (word 8 e) (λ y. does sig y bound n sc)
+
+  -- ---- no other word is an action's
+
+  abbrev Not : ℕ → Type 0
+  Not code = w - actionBase ≡ code → ⊥
+
+  not-word : (code : ℕ) → Not code → w ≡ actionWord code → ⊥
+  not-word code no′ e = no′ (omega arith)
+
+  pub no-code : {s′ cs′ : List ℕ} {r : Acted} → Not 1 → Not 2 → Not 3 → Not 4 → Not 5 → Not 6 → Not 8 → Answers k s′ cs′ r
+  no-code n1 n2 n3 n4 n5 n6 n8 sig x bound n sc sg =
+      absurd (no-other sig (k .ws) (k .at) x w (g .is) (not-word 1 n1) (not-word 2 n2) (not-word 3 n3) (not-word 4 n4) (not-word 5 n5) (not-word 6 n6) (not-word 8 n8))

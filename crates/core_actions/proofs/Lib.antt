@@ -1,5 +1,6 @@
 -- Laws that the proofs of this crate share with those above it, in reading order.
 pub mod Scopes
+pub mod Given
 pub mod Body
 pub mod Pieces
 pub mod Expressions

@@ -14,13 +14,13 @@ use Rattle.rules.specs.Signature.{Sig, heads, isConstructor, isName}
 use Rattle.rules.specs.Written.{Expr, Exprs, leaf, call, end, Shape, isLeaf, isCall, isBad, shapeAt, Read, Reader, readShape, readExpr, readMany}
 use Rattle.rules.specs.ToCoreActions.{Done, AsSet, optional, unionAsSet, lowerUnion, lowerSet}
 use Rattle.meaning.proofs.Results.{bind-ok, ok-inj, refuse-ok}
-use Rattle.walks.specs.Steps.{Piece, Walked, ExprAt, ExprsAt}
+use Rattle.walks.specs.Steps.{Piece, Walked, Counted, ExprAt, ExprsAt}
 use Rattle.walks.proofs.Read.{moved, expr-some, leaf-cases, call-cases, first-cases, none-cases}
 use Rattle.walks.proofs.Asks.{expr-inside}
-use Rattle.core_actions.specs.Acts.{ChangeAt, PairAt, NameCallAt, arityOf, setMode, changed, Gave, Acts}
-use Rattle.core_actions.specs.Scopes.{Scoped, ScopeRoom}
-use Rattle.core_actions.specs.declared.scope.Scope.{Scope}
+use Rattle.core_actions.specs.Acts.{ChangeAt, PairAt, NameCallAt, Signed, arityOf, setMode, changed, Gave}
+use Rattle.core_actions.specs.Scopes.{Scoped}
 use Rattle.core_actions.specs.declared.actions.Acted.{Acted}
+use Rattle.core_actions.proofs.Given.{Given, RoomFor, ScopeRoomFor, Standing, StandingSigned, Does, Finishes, Changes}
 use Rattle.core_actions.proofs.Acting.{acts-same}
 use Rattle.core_actions.specs.Lowered.{donePiece}
 use Rattle.core_actions.proofs.Pieces.{snoc, done-set-row, SameBound, same-set}
@@ -97,6 +97,10 @@ module _ (sig : Sig) (ws : List ℕ) where
         go false t = omega (arith, ltb-false w literalBase t)
 
 -- ---- which unions become sets
+
+-- this is what the contract says of an answer
+abbrev pub Modes : List ℕ → List ℕ → ℕ → ℕ → Type 0
+Modes gs ws at r = (sig : Sig) (x : PairAt sig ws at) → heads sig ≤ limit12 → Signed sig gs → r ≡ setMode sig (x .left .value) (x .right .value)
 
 flag-off : (a b : Bool) (n : ℕ) → cond (a && false && b) n 0 ≡ 0
 flag-off true b n = refl
@@ -193,7 +197,7 @@ module _ (sig : Sig) (ws : List ℕ) (few : heads sig ≤ limit12) (at : ℕ) (x
 -- ---- what they are then
 
 -- a union that stays one
-pub stays : (sig : Sig) (a b : Expr) (r : ℕ) → r ≡ setMode sig a b → (r ≡ 1 → ⊥) → (r ≡ 2 → ⊥) → unionAsSet sig a b ≡ none
+stays : (sig : Sig) (a b : Expr) (r : ℕ) → r ≡ setMode sig a b → (r ≡ 1 → ⊥) → (r ≡ 2 → ⊥) → unionAsSet sig a b ≡ none
 stays sig (leaf p w) (leaf q v) r e one two = refl
 stays sig (leaf p w) (call q h es) r e one two = go (isName w && sig .flag && isConstructor sig h) e
   where
@@ -259,7 +263,7 @@ cond-true false n r h e = absurd (omega arith)
 
 module _ (sig : Sig) (ws : List ℕ) (few : heads sig ≤ limit12) (at : ℕ) (x : PairAt sig ws at) where
   -- with the call on the left: the name stands behind its arguments
-  pub record LeftSet : Type 0 where
+  record LeftSet : Type 0 where
     pub change : ChangeAt sig ws 1 at
     pub size : 2 + change .exprs .size ≡ 1 + (x .left .size + x .right .size)
     pub piece : (bound cs : List ℕ)
@@ -267,7 +271,7 @@ module _ (sig : Sig) (ws : List ℕ) (few : heads sig ≤ limit12) (at : ℕ) (x
         ≡ changed sig bound (actionWord 2) 1 (at + 1) (headOf (getD ws (at + 1) 0)) (change .exprs .value) cs
     pub same : (bound cs : List ℕ) → SameBound sig bound (lowerUnion sig bound (unionAsSet sig (x .left .value) (x .right .value)) (x .left .value) (x .right .value) cs)
 
-  pub left-is : 1 ≡ setMode sig (x .left .value) (x .right .value) → LeftSet
+  left-is : 1 ≡ setMode sig (x .left .value) (x .right .value) → LeftSet
   left-is e = go (ltb w literalBase) refl
     where
       w : ℕ
@@ -339,14 +343,14 @@ module _ (sig : Sig) (ws : List ℕ) (few : heads sig ≤ limit12) (at : ℕ) (x
               tested false k = let z : _≡_ {A = ℕ} 1 0 = k in omega arith
 
   -- with the call on the right: it stands behind the name
-  pub record RightSet : Type 0 where
+  record RightSet : Type 0 where
     pub named : NameCallAt sig ws at
     pub size : 3 + named .exprs .size ≡ 1 + (x .left .size + x .right .size)
     pub is : (bound cs : List ℕ)
         → lowerUnion sig bound (unionAsSet sig (x .left .value) (x .right .value)) (x .left .value) (x .right .value) cs
         ≡ lowerSet sig bound (at + 2) (headOf (getD ws (at + 2) 0)) (named .exprs .value) (leaf (at + 1) (getD ws (at + 1) 0)) cs
 
-  pub right-is : 2 ≡ setMode sig (x .left .value) (x .right .value) → RightSet
+  right-is : 2 ≡ setMode sig (x .left .value) (x .right .value) → RightSet
   right-is e = go (ltb w literalBase) refl
     where
       w : ℕ
@@ -402,29 +406,67 @@ module _ (sig : Sig) (ws : List ℕ) (few : heads sig ≤ limit12) (at : ℕ) (x
               tested true k = let z : _≡_ {A = ℕ} 2 1 = k in omega arith
               tested false k = let z : _≡_ {A = ℕ} 2 0 = k in omega arith
 
--- ---- and what is left of the scratch
+-- ---- lowering a union, of which it is known whether it becomes a set
 
-module _ (sig : Sig) (bound ws : List ℕ) (few : heads sig ≤ limit12) (at to sp lg : ℕ) (c : Scope) (s cs s′ cs′ : List ℕ) (x : PairAt sig ws at) (r : Acted) where
-  abbrev UnionActs : Type 0
-  UnionActs = Acts (lowerUnion sig bound (unionAsSet sig (x .left .value) (x .right .value)) (x .left .value) (x .right .value) cs) sig c (1 + (x .left .size + x .right .size)) at to sp lg s cs s′ cs′ r
+-- what the contract says of an answer
+abbrev pub Answers : Given → List ℕ → List ℕ → Acted → Type 0
+Answers k s′ cs′ r =
+    (sig : Sig) (x : PairAt sig (k .ws) (k .at)) (bound : List ℕ) → Counted sig (k .cs) → Scoped sig bound (k .s) (k .scope) → Signed sig (k .gs)
+    → Does k sig (lowerUnion sig bound (unionAsSet sig (x .left .value) (x .right .value)) (x .left .value) (x .right .value) (k .cs)) (1 + (x .left .size + x .right .size)) s′ cs′ r
 
-  pub left-acts : (l : LeftSet sig ws few at x) → r .names ≡ 0 → ScopeRoom (length ws) at to sp c → Scoped sig bound s c
-      → Walked 0 (Gave r) (changed sig bound (actionWord 2) 1 (at + 1) (headOf (getD ws (at + 1) 0)) (l .change .exprs .value) cs) (2 + l .change .exprs .size) at to sp lg s cs s′ cs′ (r .walk) → UnionActs
-  left-acts l en sr sc w =
-      let u = lowerUnion sig bound (unionAsSet sig (x .left .value) (x .right .value)) (x .left .value) (x .right .value) cs in
-      let i = x .right .inside in
-      acts-same sig bound c (length ws) u (l .same bound cs) en sr (omega arith) sc
-      (subst (λ (k : ℕ). Walked 0 (Gave r) (donePiece u) k at to sp lg s cs s′ cs′ (r .walk)) (l .size)
-      (subst (λ (p : Res Piece). Walked 0 (Gave r) p (2 + l .change .exprs .size) at to sp lg s cs s′ cs′ (r .walk)) (sym (l .piece bound cs)) w))
+pub record Moded (k : Given) (mode : ℕ) : Type 0 where
+  pub known : StandingSigned k (λ sig. PairAt sig (k .ws) (k .at))
+  pub room : RoomFor k
+  pub scopeRoom : ScopeRoomFor k
+  pub is : Modes (k .gs) (k .ws) (k .at) mode
 
-  pub right-acts : (l : RightSet sig ws few at x)
-      → Acts (lowerSet sig bound (at + 2) (headOf (getD ws (at + 2) 0)) (l .named .exprs .value) (leaf (at + 1) (getD ws (at + 1) 0)) cs) sig c (3 + l .named .exprs .size) at to sp lg s cs s′ cs′ r → UnionActs
-  right-acts l w =
-      let u = lowerUnion sig bound (unionAsSet sig (x .left .value) (x .right .value)) (x .left .value) (x .right .value) cs in
-      subst (λ (k : ℕ). Acts u sig c k at to sp lg s cs s′ cs′ r) (l .size)
-      (subst (λ (d : Res Done). Acts d sig c (3 + l .named .exprs .size) at to sp lg s cs s′ cs′ r) (sym (l .is bound cs)) w)
+module _ {k : Given} {mode : ℕ} (g : Moded k mode) where
+  asks : {A : Sig → Type 0} → ((sig : Sig) (x : PairAt sig (k .ws) (k .at)) → heads sig ≤ limit12 → Signed sig (k .gs) → A sig) → Standing k A
+  asks at = let q = g .known in record { sig = q .sig; known = (at (q .sig) (q .known .0) (q .known .1 .few) (q .known .3), q .known .1, q .known .2) }
 
-  pub none-acts : unionAsSet sig (x .left .value) (x .right .value) ≡ none
-      → Acts (lowerUnion sig bound none (x .left .value) (x .right .value) cs) sig c (1 + (x .left .size + x .right .size)) at to sp lg s cs s′ cs′ r → UnionActs
-  none-acts e =
-      subst (λ (o : Option AsSet). Acts (lowerUnion sig bound o (x .left .value) (x .right .value) cs) sig c (1 + (x .left .size + x .right .size)) at to sp lg s cs s′ cs′ r) (sym e)
+  -- its left side is the call
+  module _ (e : mode ≡ 1) where
+    left : (sig : Sig) (x : PairAt sig (k .ws) (k .at)) (few : heads sig ≤ limit12) → Signed sig (k .gs) → LeftSet sig (k .ws) few (k .at) x
+    left sig x few sg = left-is sig (k .ws) few (k .at) x (sym e ∙ g .is sig x few sg)
+
+    pub left-asks : Standing k (λ sig. ChangeAt sig (k .ws) 1 (k .at))
+    left-asks = asks (λ sig x few sg. left sig x few sg .change)
+
+    pub left-done : {s′ cs′ : List ℕ} {r : Acted} → Changes k (actionWord 2) 1 s′ cs′ r → Answers k s′ cs′ r
+    left-done {s′} {cs′} {r} does sig x bound n sc sg =
+        let l = left sig x (n .few) sg in
+        let u = lowerUnion sig bound (unionAsSet sig (x .left .value) (x .right .value)) (x .left .value) (x .right .value) (k .cs) in
+        let i = x .right .inside in
+        acts-same sig bound (k .scope) (length (k .ws)) u (l .same bound (k .cs)) (does .0) (g .scopeRoom) (omega arith) sc
+        (subst (λ (n : ℕ). Walked 0 (Gave r) (donePiece u) n (k .at) (k .to) (k .sp) (k .lg) (k .s) (k .cs) s′ cs′ (r .walk)) (l .size)
+        (subst (λ (p : Res Piece). Walked 0 (Gave r) p (2 + l .change .exprs .size) (k .at) (k .to) (k .sp) (k .lg) (k .s) (k .cs) s′ cs′ (r .walk)) (sym (l .piece bound (k .cs)))
+        (does .1 sig (l .change) bound n sc)))
+
+  -- its right side is
+  module _ (e : mode ≡ 2) where
+    right : (sig : Sig) (x : PairAt sig (k .ws) (k .at)) (few : heads sig ≤ limit12) → Signed sig (k .gs) → RightSet sig (k .ws) few (k .at) x
+    right sig x few sg = right-is sig (k .ws) few (k .at) x (sym e ∙ g .is sig x few sg)
+
+    pub right-asks : Standing k (λ sig. NameCallAt sig (k .ws) (k .at))
+    right-asks = asks (λ sig x few sg. right sig x few sg .named)
+
+    pub right-done : {s′ cs′ : List ℕ} {r : Acted}
+        → Finishes k (λ sig. NameCallAt sig (k .ws) (k .at))
+        (λ sig bound y. lowerSet sig bound (k .at + 2) (headOf (getD (k .ws) (k .at + 2) 0)) (y .exprs .value) (leaf (k .at + 1) (getD (k .ws) (k .at + 1) 0)) (k .cs))
+        (λ sig y. 3 + y .exprs .size) s′ cs′ r → Answers k s′ cs′ r
+    right-done {s′} {cs′} {r} does sig x bound n sc sg =
+        let l = right sig x (n .few) sg in
+        let u = lowerUnion sig bound (unionAsSet sig (x .left .value) (x .right .value)) (x .left .value) (x .right .value) (k .cs) in
+        subst (λ (n : ℕ). Does k sig u n s′ cs′ r) (l .size)
+        (subst (λ (d : Res Done). Does k sig d (3 + l .named .exprs .size) s′ cs′ r) (sym (l .is bound (k .cs))) (does sig (l .named) bound n sc))
+
+  -- it stays a union
+  pub stays-asks : Standing k (λ sig. PairAt sig (k .ws) (k .at))
+  stays-asks = asks (λ sig x few sg. x)
+
+  pub stays-done : {s′ cs′ : List ℕ} {r : Acted} → (mode ≡ 1 → ⊥) → (mode ≡ 2 → ⊥)
+      → Finishes k (λ sig. PairAt sig (k .ws) (k .at)) (λ sig bound y. lowerUnion sig bound none (y .left .value) (y .right .value) (k .cs))
+      (λ sig y. 1 + (y .left .size + y .right .size)) s′ cs′ r → Answers k s′ cs′ r
+  stays-done {s′} {cs′} {r} one two does sig x bound n sc sg =
+      subst (λ (o : Option AsSet). Does k sig (lowerUnion sig bound o (x .left .value) (x .right .value) (k .cs)) (1 + (x .left .size + x .right .size)) s′ cs′ r)
+      (sym (stays sig (x .left .value) (x .right .value) mode (g .is sig x (n .few) sg) one two)) (does sig x bound n sc)

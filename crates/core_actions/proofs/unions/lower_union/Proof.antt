@@ -1,39 +1,35 @@
-use mathlib.Core.Path.{sym, _∙_}
+-- Lowering a union: where `as_set` says that it becomes a set, the walk over that set is the union's, and else it is walked as a union.
+-- Assumes nothing.
 use native.Mathlib.Omega.{arith}
 use Rattle.octets.specs.Words.{words}
-use Rattle.core_actions.proofs.UnionAsSet.{stays, left-is, right-is, left-acts, right-acts, none-acts}
+use Rattle.core_actions.proofs.Given.{Given, gives}
+use Rattle.core_actions.proofs.UnionAsSet.{Moded, left-asks, left-done, right-asks, right-done, stays-asks, stays-done}
 use borrow.Author.Needs.{needs}
 use Rattle.core_actions.proofs.unions.lower_union.Statement.{statement}
 use Rattle.core_actions.proofs.unions.lower_union.Tie as tie
-use Rattle.core_actions.proofs.unions.lower_union.Reads as reads
-use Rattle.core_actions.proofs.unions.lower_union.Lts as lts
-use Rattle.core_actions.proofs.actions.lower_change.Reads as lower-change-reads
-use Rattle.core_actions.proofs.actions.set_name.Reads as set-name-reads
-use Rattle.core_actions.proofs.actions.unite.Reads as unite-reads
-use Rattle.core_actions.proofs.unions.as_set.Reads as as-set-reads
+
+abbrev given : tie.Start → Given
+given c =
+    let a = c .args in
+    gives (words (a .signature .now)) (words (a .rule .now)) (words (a .scratch .now)) (words (a .counters .now)) (a .at) (a .to) (a .sp) (a .log) (a .scope)
+
+abbrev start : tie.After-as-set → tie.Start
+start c = c .before .before .before .before .before
+
+-- it is known whether it becomes a set
+at-mode : (c : tie.After-as-set) → Moded (given (start c)) (c .as-set .result)
+at-mode c = let p = start c .pre in record { known = p .0; room = p .1 .0; scopeRoom = p .1 .1; is = c .as-set .ensures }
 
 as-set-requires : tie.Need-as-set-requires
-as-set-requires c κs =
-    let a = c .before .before .before .before .args in
-    let ws = words (a .rule .now) in
-    let cs = words (a .counters .now) in
-    let s = words (a .scratch .now) in
-    let q = c .before .before .before .before .pre .0 in
-    let room = c .before .before .before .before .pre .1 .0 in
-    let sr = c .before .before .before .before .pre .1 .1 in
-    record { sig = q .sig; known = (q .known .0, q .known .1 .few, q .known .3) }
+as-set-requires c κs = let q = c .before .before .before .before .pre .0 in record { sig = q .sig; known = (q .known .0, q .known .1 .few, q .known .3) }
+
+-- ---- its left side is the call
 
 lower-change-requires : tie.Need-lower-change-requires
 lower-change-requires c κs =
-    let a = c .before .before .before .before .before .before .before .before .args in
-    let ws = words (a .rule .now) in
-    let cs = words (a .counters .now) in
-    let s = words (a .scratch .now) in
-    let q = c .before .before .before .before .before .before .before .before .pre .0 in
-    let room = c .before .before .before .before .before .before .before .before .pre .1 .0 in
-    let sr = c .before .before .before .before .before .before .before .before .pre .1 .1 in
-    let m = c .before .before .before .as-set in
-    (record { sig = q .sig; known = ((left-is (q .sig) ws ((q .known .1) .few) (a .at) (q .known .0) (sym (c .before .before .if1 .taken) ∙ (m .ensures (q .sig) (q .known .0) ((q .known .1) .few) (q .known .3)))) .change, q .known .1, q .known .2) }, (room, (sr, omega arith)))
+    let t = c .before .before in
+    let g = at-mode (t .before) in
+    (left-asks g (t .if1 .taken), (g .room, (g .scopeRoom, omega arith)))
 
 same-length : tie.Need-same-length
 same-length c = search needs
@@ -43,28 +39,17 @@ same-length-2 c = search needs
 
 returns : tie.Need-returns
 returns c =
-    let a = c .before .before .before .before .before .before .before .before .before .before .before .before .before .args in
-    let ws = words (a .rule .now) in
-    let cs = words (a .counters .now) in
-    let s = words (a .scratch .now) in
-    let q = c .before .before .before .before .before .before .before .before .before .before .before .before .before .pre .0 in
-    let room = c .before .before .before .before .before .before .before .before .before .before .before .before .before .pre .1 .0 in
-    let sr = c .before .before .before .before .before .before .before .before .before .before .before .before .before .pre .1 .1 in
-    let m = c .before .before .before .before .before .before .before .before .as-set in
-    let k = c .before .before .before .before .lower-change in
-    λ sig x bound n sc sg. let l = (left-is sig ws (n .few) (a .at) x (sym (c .before .before .before .before .before .before .before .if1 .taken) ∙ (m .ensures sig x (n .few) sg))) in left-acts sig bound ws (n .few) (a .at) (a .to) (a .sp) (a .log) (a .scope) s cs (words (k .last .1 .1 .1 .1 .1 .1 .0)) (words (k .last .1 .1 .1 .1 .1 .0)) x (k .result) l (k .ensures .0) sr sc (k .ensures .1 sig (l .change) bound n sc)
+    let l = c .before .before .before .before in
+    let t = l .before .before .before in
+    left-done (at-mode (t .before)) (t .if1 .taken) (l .lower-change .ensures)
+
+-- ---- its right side is
 
 set-name-requires : tie.Need-set-name-requires
 set-name-requires c κs =
-    let a = c .before .before .before .before .before .before .before .before .before .args in
-    let ws = words (a .rule .now) in
-    let cs = words (a .counters .now) in
-    let s = words (a .scratch .now) in
-    let q = c .before .before .before .before .before .before .before .before .before .pre .0 in
-    let room = c .before .before .before .before .before .before .before .before .before .pre .1 .0 in
-    let sr = c .before .before .before .before .before .before .before .before .before .pre .1 .1 in
-    let m = c .before .before .before .before .as-set in
-    (record { sig = q .sig; known = ((right-is (q .sig) ws ((q .known .1) .few) (a .at) (q .known .0) (sym (c .before .before .if2 .taken) ∙ (m .ensures (q .sig) (q .known .0) ((q .known .1) .few) (q .known .3)))) .named, q .known .1, q .known .2) }, (room, sr))
+    let t = c .before .before in
+    let g = at-mode (t .before .before) in
+    (right-asks g (t .if2 .taken), (g .room, g .scopeRoom))
 
 same-length-3 : tie.Need-same-length-3
 same-length-3 c = search needs
@@ -74,28 +59,14 @@ same-length-4 c = search needs
 
 returns-2 : tie.Need-returns-2
 returns-2 c =
-    let a = c .before .before .before .before .before .before .before .before .before .before .before .before .before .before .args in
-    let ws = words (a .rule .now) in
-    let cs = words (a .counters .now) in
-    let s = words (a .scratch .now) in
-    let q = c .before .before .before .before .before .before .before .before .before .before .before .before .before .before .pre .0 in
-    let room = c .before .before .before .before .before .before .before .before .before .before .before .before .before .before .pre .1 .0 in
-    let sr = c .before .before .before .before .before .before .before .before .before .before .before .before .before .before .pre .1 .1 in
-    let m = c .before .before .before .before .before .before .before .before .before .as-set in
-    let k = c .before .before .before .before .set-name in
-    λ sig x bound n sc sg. let l = (right-is sig ws (n .few) (a .at) x (sym (c .before .before .before .before .before .before .before .if2 .taken) ∙ (m .ensures sig x (n .few) sg))) in right-acts sig bound ws (n .few) (a .at) (a .to) (a .sp) (a .log) (a .scope) s cs (words (k .last .1 .1 .1 .1 .0)) (words (k .last .1 .1 .1 .0)) x (k .result) l (k .ensures sig (l .named) bound n sc)
+    let l = c .before .before .before .before in
+    let t = l .before .before .before in
+    right-done (at-mode (t .before .before)) (t .if2 .taken) (l .set-name .ensures)
+
+-- ---- it stays a union
 
 unite-requires : tie.Need-unite-requires
-unite-requires c κs =
-    let a = c .before .before .before .before .before .before .before .before .before .args in
-    let ws = words (a .rule .now) in
-    let cs = words (a .counters .now) in
-    let s = words (a .scratch .now) in
-    let q = c .before .before .before .before .before .before .before .before .before .pre .0 in
-    let room = c .before .before .before .before .before .before .before .before .before .pre .1 .0 in
-    let sr = c .before .before .before .before .before .before .before .before .before .pre .1 .1 in
-    let m = c .before .before .before .before .as-set in
-    (record { sig = q .sig; known = (q .known .0, q .known .1, q .known .2) }, (room, sr))
+unite-requires c κs = let g = at-mode (c .before .before .before .before) in (stays-asks g, (g .room, g .scopeRoom))
 
 same-length-5 : tie.Need-same-length-5
 same-length-5 c = search needs
@@ -105,16 +76,9 @@ same-length-6 c = search needs
 
 returns-3 : tie.Need-returns-3
 returns-3 c =
-    let a = c .before .before .before .before .before .before .before .before .before .before .before .before .before .before .args in
-    let ws = words (a .rule .now) in
-    let cs = words (a .counters .now) in
-    let s = words (a .scratch .now) in
-    let q = c .before .before .before .before .before .before .before .before .before .before .before .before .before .before .pre .0 in
-    let room = c .before .before .before .before .before .before .before .before .before .before .before .before .before .before .pre .1 .0 in
-    let sr = c .before .before .before .before .before .before .before .before .before .before .before .before .before .before .pre .1 .1 in
-    let m = c .before .before .before .before .before .before .before .before .before .as-set in
-    let k = c .before .before .before .before .unite in
-    λ sig x bound n sc sg. none-acts sig bound ws (n .few) (a .at) (a .to) (a .sp) (a .log) (a .scope) s cs (words (k .last .1 .1 .1 .1 .0)) (words (k .last .1 .1 .1 .0)) x (k .result) (stays sig (x .left .value) (x .right .value) (m .result) (m .ensures sig x (n .few) sg) (c .before .before .before .before .before .before .before .before .if1 .left) (c .before .before .before .before .before .before .before .if2 .left)) (k .ensures sig x bound n sc)
+    let l = c .before .before .before .before in
+    let e = l .before .before .before in
+    stays-done (at-mode (e .before .before)) (e .before .if1 .left) (e .if2 .left) (l .unite .ensures)
 
 pub lower-union-spec : {M : Type 1} → statement M
 lower-union-spec =
