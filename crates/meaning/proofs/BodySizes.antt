@@ -11,7 +11,7 @@ use Rattle.rules.specs.Written.{Expr, Exprs, leaf, call, end, _then_, Fact, hol
 use Rattle.rules.specs.Flat.{Tab, Atom, eqn, tab, tabWords, atomWords, wordsOf}
 use Rattle.rules.specs.ToQuery.{fresh, Flat, Flats, flatten, flattenAll, Query, flattenFact, toQuery}
 use Rattle.meaning.specs.Weight.{weight}
-use Rattle.meaning.specs.Sizes.{exprSize, exprsSize, factSize, total}
+use Rattle.meaning.proofs.Sizes.{exprSize, exprsSize, factSize, total}
 use Rattle.meaning.proofs.Lists.{length-words-append}
 use Rattle.meaning.proofs.Results.{ok-inj, bind-ok}
 use Rattle.meaning.proofs.WordLaws.{length-tab}

@@ -13,7 +13,7 @@ use Rattle.rules.specs.Written.{Expr, Exprs, leaf, call, end, _then_, Action, l
 use Rattle.rules.specs.Flat.{CoreAction, Let, Set, Delete, Subsume, Union, Call, actionWords, wordsOf}
 use Rattle.rules.specs.ToQuery.{fresh}
 use Rattle.rules.specs.ToCoreActions.{readable, Low, Lows, lowerExpr, lowerExprs, Done, lowerSet, lowerChange, AsSet, optional, unionAsSet, lowerUnion, lowerLet, lowerAction, toCoreActions}
-use Rattle.meaning.specs.Sizes.{exprSize, exprsSize, actionSize, total}
+use Rattle.meaning.proofs.Sizes.{exprSize, exprsSize, actionSize, total}
 use Rattle.meaning.proofs.Lists.{length-words-append}
 use Rattle.meaning.proofs.Results.{refuse-ok, ok-inj, bind-ok, demand-ok}
 

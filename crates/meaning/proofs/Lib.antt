@@ -21,6 +21,7 @@ pub mod Replacements
 pub mod SettledTerms
 -- The sizes of what is read, lowered and settled
 pub mod WordLaws
+pub mod Sizes
 pub mod Room
 pub mod SmallAtoms
 pub mod SmallAtomsMerged

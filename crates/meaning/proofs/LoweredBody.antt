@@ -19,7 +19,7 @@ use Rattle.rules.specs.ToCoreActions.{CoreRule, toCoreActions, toCoreRule}
 use Rattle.rules.specs.RemoveDupVars.{settle}
 use Rattle.meaning.specs.Meaning.{All}
 use Rattle.meaning.specs.FreshVars.{Distinct, madeByAtoms, madeByActions}
-use Rattle.meaning.specs.Sizes.{factSize, total}
+use Rattle.meaning.proofs.Sizes.{factSize, total}
 use Rattle.meaning.specs.Weight.{unlike, weight}
 use Rattle.meaning.proofs.Lists.{or-left, all-left, all-map}
 use Rattle.meaning.proofs.Results.{ok-inj, bind-ok}

@@ -12,7 +12,7 @@ use Rattle.rules.specs.Words.{maxDepth, equalityWord, isNameWord, isLiteralWord
 use Rattle.rules.specs.Refusals.{ok, refuse, unfit, tooDeep}
 use Rattle.rules.specs.Signature.{Sig, heads}
 use Rattle.rules.specs.Written.{Expr, Exprs, Action, Rule, Read, Reader, readWord, readRow, readMany, Shape, isLeaf, isCall, isBad, shape, readShape, readExpr, Target, readTarget, readEqual, readHolds, readFact, readCode, codeAt, readAction, readWritten}
-use Rattle.meaning.specs.Sizes.{exprSize, exprsSize, factSize, actionSize, total, ruleSize}
+use Rattle.meaning.proofs.Sizes.{exprSize, exprsSize, factSize, actionSize, total, ruleSize}
 use Rattle.meaning.proofs.Lists.{and-left}
 use Rattle.meaning.proofs.Results.{refuse-ok, ok-inj, bind-ok, demand-ok}
 

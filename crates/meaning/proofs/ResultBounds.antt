@@ -18,7 +18,7 @@ use Rattle.rules.specs.Canonicalize.{bindings}
 use Rattle.rules.specs.RemoveDupVars.{settle}
 use Rattle.rules.specs.Calls.{Result, settledResult, lowerRule, scratchFits, lengthFits, lowerWords, settleWords}
 use Rattle.meaning.specs.Bounds.{LoweredSize, LoweredHeader, SettledSize, SettledHeader}
-use Rattle.meaning.specs.Sizes.{actionSize, total}
+use Rattle.meaning.proofs.Sizes.{actionSize, total}
 use Rattle.meaning.proofs.Lists.{and-right, length-words, length-words-append}
 use Rattle.meaning.proofs.Results.{ok-inj, bind-ok, demand-ok}
 use Rattle.meaning.proofs.Encoded.{within-is}
