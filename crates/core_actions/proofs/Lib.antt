@@ -9,6 +9,8 @@ pub mod Calls
 pub mod Plain
 pub mod Acting
 pub mod NameSets
+pub mod Forests
+pub mod SetModes
 pub mod UnionAsSet
 pub mod ReadActions
 pub mod ByCode

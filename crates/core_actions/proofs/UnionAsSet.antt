@@ -1,4 +1,4 @@
--- Unions that become sets: passing over an expression, which unions these are, and what they are then. Assumes nothing.
+-- What a union that becomes a set is then, and lowering it from what `as_set` says. Assumes nothing.
 use mathlib.Core.Path.{_≡_, refl, sym, ap, _∙_, subst}
 use mathlib.Core.Bool.{Bool, true, false, cond, _&&_}
 use mathlib.Core.List.{List}
@@ -7,194 +7,23 @@ use Prim.Native.Nat.{ℕ, zero, suc, _+_, _-_, _≤_, _<_}
 use native.Mathlib.Omega.{arith}
 use lib.Dec.{ltb}
 use lib.ListN.{length, getD}
-use borrow.Author.Tests.{ltb-true, ltb-false, le-leb, lt-leb}
-use Rattle.rules.specs.Words.{limit12, maxDepth, nameBase, literalBase, headBase, freshBase, actionWord, headOf, countOf}
+use borrow.Author.Tests.{ltb-true, ltb-false}
+use Rattle.rules.specs.Words.{limit12, maxDepth, literalBase, headBase, freshBase, actionWord, headOf, countOf}
 use Rattle.rules.specs.Refusals.{Res, ok, refuse, _>>=_, unfit, tooDeep}
 use Rattle.rules.specs.Signature.{Sig, heads, isConstructor, isName}
 use Rattle.rules.specs.Written.{Expr, Exprs, leaf, call, end, Shape, isLeaf, isCall, isBad, shapeAt, Read, Reader, readShape, readExpr, readMany}
 use Rattle.rules.specs.ToCoreActions.{Done, AsSet, optional, unionAsSet, lowerUnion, lowerSet}
 use Rattle.meaning.proofs.Results.{bind-ok, ok-inj, refuse-ok}
 use Rattle.walks.specs.Steps.{Piece, Walked, Counted, ExprAt, ExprsAt}
-use Rattle.walks.proofs.Read.{moved, expr-some, leaf-cases, call-cases, first-cases, none-cases}
-use Rattle.walks.proofs.Asks.{expr-inside}
-use Rattle.core_actions.specs.Acts.{ChangeAt, PairAt, NameCallAt, Signed, arityOf, setMode, changed, Gave}
+use Rattle.walks.proofs.Read.{moved, leaf-cases, call-cases}
+use Rattle.core_actions.specs.Acts.{ChangeAt, PairAt, NameCallAt, Signed, setMode, changed, Gave}
 use Rattle.core_actions.specs.Scopes.{Scoped}
 use Rattle.core_actions.specs.declared.actions.Acted.{Acted}
 use Rattle.core_actions.proofs.Given.{Given, RoomFor, ScopeRoomFor, Standing, StandingSigned, Does, Finishes, Changes}
 use Rattle.core_actions.proofs.Acting.{acts-same}
 use Rattle.core_actions.specs.Lowered.{donePiece}
 use Rattle.core_actions.proofs.Pieces.{snoc, done-set-row, SameBound, same-set}
-
--- ---- passing over an expression
-
-module _ (sig : Sig) (ws : List ℕ) where
-  -- n expressions from `at` on, which end at e
-  abbrev pub Forest : ℕ → ℕ → ℕ → Type 0
-  Forest zero at e = at ≡ e
-  Forest (suc n) at e = (d : ℕ) × (x : ExprAt sig ws d at) × Forest n (at + x .size) e
-
-  pub forest-in : (n at e : ℕ) → Forest n at e → at + n ≤ e
-  forest-in zero at e f = omega arith
-  forest-in (suc n) at e f = omega (arith, expr-some sig ws (f .0) at (f .1), forest-in n (at + f .1 .size) e (f .2))
-
-  pub forest-none : (n at e : ℕ) → Forest n at e → n ≡ 0 → at ≡ e
-  forest-none zero at e f z = f
-  forest-none (suc n) at e f z = absurd (omega arith)
-
-  -- expressions in front of others
-  front : (d n m at e : ℕ) (x : ExprsAt sig ws d n at) → Forest m (at + x .size) e → Forest (n + m) at e
-  front d zero m at e x f =
-      let same : m ≡ 0 + m = omega arith in
-      subst (λ (k : ℕ). Forest k at e) same (none-cases sig ws (λ es k. Forest m (at + k) e → Forest m at e) d zero at x refl (λ g. here g) f)
-    where
-      here : Forest m (at + 0) e → Forest m at e
-      here = let z : at + 0 ≡ at = omega arith in subst (λ (k : ℕ). Forest m k e) z
-  front d (suc n) m at e x f =
-      let same : suc (n + m) ≡ suc n + m = omega arith in
-      subst (λ (k : ℕ). Forest k at e) same
-      (first-cases sig ws (λ es k. Forest m (at + k) e → Forest (suc (n + m)) at e) d (suc n) at x (omega arith) (λ y ys g. next (λ a z h. front d n m a e z h) y ys g) f)
-    where
-      next : ((a : ℕ) (z : ExprsAt sig ws d n a) → Forest m (a + z .size) e → Forest (n + m) a e) → (y : ExprAt sig ws d at) (ys : ExprsAt sig ws d (suc n - 1) (at + y .size)) → Forest m (at + (y .size + ys .size)) e → Forest (suc (n + m)) at e
-      next again y ys g =
-          let less : suc n - 1 ≡ n = omega arith in
-          let there : at + (y .size + ys .size) ≡ at + y .size + ys .size = omega arith in
-          let zs : ExprsAt sig ws d n (at + y .size) =
-          record {
-            value = ys .value;
-            size = ys .size;
-            reads = subst (λ (k : ℕ). readMany (readExpr sig ws d) k (at + y .size) ≡ ok (record { value = ys .value; at = at + y .size + ys .size })) less (ys .reads);
-            inside = ys .inside;
-          } in
-          (d, y, again (at + y .size) zs (subst (λ (k : ℕ). Forest m k e) there g))
-
-  module _ (few : heads sig ≤ limit12) where
-    -- the first word of the next expression is passed
-    pub forest-step : (left at e w : ℕ) → Forest left at e → 0 < left → w ≡ getD ws at 0 → Forest (left - 1 + arityOf w) (at + 1) e
-    forest-step zero at e w f h is = absurd (omega arith)
-    forest-step (suc n) at e w f h is = go (ltb w literalBase) refl
-      where
-        go : (b : Bool) → ltb w literalBase ≡ b → Forest (suc n - 1 + cond b (countOf w) 0) (at + 1) e
-        go true t =
-            let count : countOf w + n ≡ suc n - 1 + countOf w = omega arith in
-            subst (λ (k : ℕ). Forest k (at + 1) e) count
-            (call-cases sig ws few (λ t k. Forest n (at + k) e → Forest (countOf w + n) (at + 1) e) (f .0) at w (f .1) is (ltb-true w literalBase t)
-            (λ es deep high hd g. inner es g) (f .2))
-          where
-            inner : (es : ExprsAt sig ws (f .0 - 1) (countOf w) (at + 1)) → Forest n (at + (1 + es .size)) e → Forest (countOf w + n) (at + 1) e
-            inner es g = let there : at + (1 + es .size) ≡ at + 1 + es .size = omega arith in front (f .0 - 1) (countOf w) n (at + 1) e es (subst (λ (k : ℕ). Forest n k e) there g)
-        go false t =
-            let count : n ≡ suc n - 1 + 0 = omega arith in
-            subst (λ (k : ℕ). Forest k (at + 1) e) count
-            (leaf-cases sig ws few (λ t k. Forest n (at + k) e → Forest n (at + 1) e) (f .0) at w (f .1) is (ltb-false w literalBase t) (λ i o g. g) (f .2))
-
-    -- where a word is wanted, there is one, and it begins an expression
-    pub forest-here : (left at e w : ℕ) → Forest left at e → 0 < left → w ≡ getD ws at 0 → (at < length ws) × (headBase ≤ w)
-    forest-here zero at e w f h is = absurd (omega arith)
-    forest-here (suc n) at e w f h is = (expr-inside sig ws (f .0) at (f .1), go (ltb w literalBase) refl)
-      where
-        go : (b : Bool) → ltb w literalBase ≡ b → headBase ≤ w
-        go true t = call-cases sig ws few (λ t k. headBase ≤ w) (f .0) at w (f .1) is (ltb-true w literalBase t) (λ es deep high hd. high)
-        go false t = omega (arith, ltb-false w literalBase t)
-
--- ---- which unions become sets
-
--- this is what the contract says of an answer
-abbrev pub Modes : List ℕ → List ℕ → ℕ → ℕ → Type 0
-Modes gs ws at r = (sig : Sig) (x : PairAt sig ws at) → heads sig ≤ limit12 → Signed sig gs → r ≡ setMode sig (x .left .value) (x .right .value)
-
-flag-off : (a b : Bool) (n : ℕ) → cond (a && false && b) n 0 ≡ 0
-flag-off true b n = refl
-flag-off false b n = refl
-
-kind-off : (a b : Bool) (n : ℕ) → cond (a && b && false) n 0 ≡ 0
-kind-off true true n = refl
-kind-off true false n = refl
-kind-off false b n = refl
-
-pub mode-off : (sig : Sig) (a b : Expr) → sig .flag ≡ false → 0 ≡ setMode sig a b
-mode-off sig (leaf p w) (leaf q v) off = refl
-mode-off sig (leaf p w) (call q h es) off = sym (rw off (flag-off (isName w) (isConstructor sig h) 2))
-mode-off sig (call q h es) (leaf p w) off = sym (rw off (flag-off (isName w) (isConstructor sig h) 1))
-mode-off sig (call p h es) (call q g fs) off = refl
-
-module _ (sig : Sig) (ws : List ℕ) (few : heads sig ≤ limit12) (at : ℕ) (x : PairAt sig ws at) (w : ℕ) (is : w ≡ getD ws (at + 1) 0) where
-  abbrev Mode : ℕ → Type 0
-  Mode r = r ≡ setMode sig (x .left .value) (x .right .value)
-
-  -- the left side is a call
-  module _ (low : w < literalBase) where
-    pub left-high : headBase ≤ w
-    left-high = call-cases sig ws few (λ t k. headBase ≤ w) maxDepth (at + 1) w (x .left) is low (λ es deep high h. high)
-
-    pub left-head : headOf w < heads sig
-    left-head = call-cases sig ws few (λ t k. headOf w < heads sig) maxDepth (at + 1) w (x .left) is low (λ es deep high h. h)
-
-    pub left-no : isConstructor sig (headOf w) ≡ false → Mode 0
-    left-no no′ = call-cases sig ws few (λ t k. 0 ≡ setMode sig t (x .right .value)) maxDepth (at + 1) w (x .left) is low (λ es deep high h. go (es .value) (x .right .value))
-      where
-        go : (es : Exprs) (b : Expr) → 0 ≡ setMode sig (call (at + 1) (headOf w) es) b
-        go es (leaf p v) = sym (rw no′ (kind-off (isName v) (sig .flag) 1))
-        go es (call p h fs) = refl
-
-    module _ (v : ℕ) (isv : v ≡ getD ws (at + 1 + x .left .size) 0) where
-      -- what follows is no name
-      pub left-low : v < nameBase → Mode 0
-      left-low small = call-cases sig ws few (λ t k. 0 ≡ setMode sig t (x .right .value)) maxDepth (at + 1) w (x .left) is low (λ es deep high h. right (es .value) (ltb v literalBase) refl)
-        where
-          right : (es : Exprs) (b : Bool) → ltb v literalBase ≡ b → 0 ≡ setMode sig (call (at + 1) (headOf w) es) (x .right .value)
-          right es true t =
-              call-cases sig ws few (λ t k. 0 ≡ setMode sig (call (at + 1) (headOf w) es) t) maxDepth (at + 1 + x .left .size) v (x .right) isv (ltb-true v literalBase t) (λ fs deep high h. refl)
-          right es false t =
-              leaf-cases sig ws few (λ t k. 0 ≡ setMode sig (call (at + 1) (headOf w) es) t) maxDepth (at + 1 + x .left .size) v (x .right) isv (ltb-false v literalBase t)
-              (λ i o. sym (rw (lt-leb nameBase v small)))
-
-      pub left-set : sig .flag ≡ true → isConstructor sig (headOf w) ≡ true → nameBase ≤ v → Mode 1
-      left-set on yes′ name =
-          call-cases sig ws few (λ t k. 1 ≡ setMode sig t (x .right .value)) maxDepth (at + 1) w (x .left) is low
-          (λ es deep high h. leaf-cases sig ws few (λ t k. 1 ≡ setMode sig (call (at + 1) (headOf w) (es .value)) t) maxDepth (at + 1 + x .left .size) v (x .right) isv (omega arith)
-          (λ i o. sym (rw (le-leb nameBase v name, on, yes′))))
-
-  -- the left side is a leaf
-  module _ (high : literalBase ≤ w) where
-    pub right-at : at + 1 + x .left .size ≡ at + 2
-    right-at = leaf-cases sig ws few (λ t k. at + 1 + k ≡ at + 2) maxDepth (at + 1) w (x .left) is high (λ i o. omega arith)
-
-    pub right-low : w < nameBase → Mode 0
-    right-low small = leaf-cases sig ws few (λ t k. 0 ≡ setMode sig t (x .right .value)) maxDepth (at + 1) w (x .left) is high (λ i o. go (x .right .value))
-      where
-        go : (b : Expr) → 0 ≡ setMode sig (leaf (at + 1) w) b
-        go (leaf p v) = refl
-        go (call p h es) = sym (rw (lt-leb nameBase w small))
-
-    module _ (v : ℕ) (isv : v ≡ getD ws (at + 2) 0) where
-      there : v ≡ getD ws (at + 1 + x .left .size) 0
-      there = isv ∙ ap (λ (i : ℕ). getD ws i 0) (sym right-at)
-
-      pub right-leaf : literalBase ≤ v → Mode 0
-      right-leaf big =
-          leaf-cases sig ws few (λ t k. 0 ≡ setMode sig t (x .right .value)) maxDepth (at + 1) w (x .left) is high
-          (λ i o. leaf-cases sig ws few (λ t k. 0 ≡ setMode sig (leaf (at + 1) w) t) maxDepth (at + 1 + x .left .size) v (x .right) there big (λ j u. refl))
-
-      module _ (small : v < literalBase) where
-        pub right-high : headBase ≤ v
-        right-high = call-cases sig ws few (λ t k. headBase ≤ v) maxDepth (at + 1 + x .left .size) v (x .right) there small (λ es deep high h. high)
-
-        pub right-head : headOf v < heads sig
-        right-head = call-cases sig ws few (λ t k. headOf v < heads sig) maxDepth (at + 1 + x .left .size) v (x .right) there small (λ es deep high h. h)
-
-        pub right-no : isConstructor sig (headOf v) ≡ false → Mode 0
-        right-no no′ =
-            leaf-cases sig ws few (λ t k. 0 ≡ setMode sig t (x .right .value)) maxDepth (at + 1) w (x .left) is high
-            (λ i o. call-cases sig ws few (λ t k. 0 ≡ setMode sig (leaf (at + 1) w) t) maxDepth (at + 1 + x .left .size) v (x .right) there small
-            (λ es deep high h. sym (rw no′ (kind-off (isName w) (sig .flag) 2))))
-
-        pub right-set : sig .flag ≡ true → isConstructor sig (headOf v) ≡ true → nameBase ≤ w → Mode 2
-        right-set on yes′ name =
-            leaf-cases sig ws few (λ t k. 2 ≡ setMode sig t (x .right .value)) maxDepth (at + 1) w (x .left) is high
-            (λ i o. call-cases sig ws few (λ t k. 2 ≡ setMode sig (leaf (at + 1) w) t) maxDepth (at + 1 + x .left .size) v (x .right) there small
-            (λ es deep high h. sym (rw (le-leb nameBase w name, on, yes′))))
-
--- ---- what they are then
+use Rattle.core_actions.proofs.SetModes.{Modes}
 
 -- a union that stays one
 stays : (sig : Sig) (a b : Expr) (r : ℕ) → r ≡ setMode sig a b → (r ≡ 1 → ⊥) → (r ≡ 2 → ⊥) → unionAsSet sig a b ≡ none
@@ -438,7 +267,7 @@ module _ {k : Given} {mode : ℕ} (g : Moded k mode) where
         let u = lowerUnion sig bound (unionAsSet sig (x .left .value) (x .right .value)) (x .left .value) (x .right .value) (k .cs) in
         let i = x .right .inside in
         acts-same sig bound (k .scope) (length (k .ws)) u (l .same bound (k .cs)) (does .0) (g .scopeRoom) (omega arith) sc
-        (subst (λ (n : ℕ). Walked 0 (Gave r) (donePiece u) n (k .at) (k .to) (k .sp) (k .lg) (k .s) (k .cs) s′ cs′ (r .walk)) (l .size)
+        (subst (λ (size : ℕ). Walked 0 (Gave r) (donePiece u) size (k .at) (k .to) (k .sp) (k .lg) (k .s) (k .cs) s′ cs′ (r .walk)) (l .size)
         (subst (λ (p : Res Piece). Walked 0 (Gave r) p (2 + l .change .exprs .size) (k .at) (k .to) (k .sp) (k .lg) (k .s) (k .cs) s′ cs′ (r .walk)) (sym (l .piece bound (k .cs)))
         (does .1 sig (l .change) bound n sc)))
 
@@ -457,7 +286,7 @@ module _ {k : Given} {mode : ℕ} (g : Moded k mode) where
     right-done {s′} {cs′} {r} does sig x bound n sc sg =
         let l = right sig x (n .few) sg in
         let u = lowerUnion sig bound (unionAsSet sig (x .left .value) (x .right .value)) (x .left .value) (x .right .value) (k .cs) in
-        subst (λ (n : ℕ). Does k sig u n s′ cs′ r) (l .size)
+        subst (λ (size : ℕ). Does k sig u size s′ cs′ r) (l .size)
         (subst (λ (d : Res Done). Does k sig d (3 + l .named .exprs .size) s′ cs′ r) (sym (l .is bound (k .cs))) (does sig (l .named) bound n sc))
 
   -- it stays a union
