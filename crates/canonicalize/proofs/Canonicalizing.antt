@@ -1,7 +1,7 @@
 -- The steps of `canonicalize` make the whole: equalities in front, all replacements in what is left, and what becomes of it. Assumes nothing.
 use mathlib.Core.List.{List, [], _++_, _∷_, append-assoc}
 use mathlib.Core.Path.{_∙_, _≡_, ap, ap₂, refl, subst, sym}
-use Prim.Native.Nat.{_*_, _+_, _-_, _<_, _≤_, suc, ℕ}
+use Prim.Native.Nat.{_*_, _+_, _-_, _^_, _<_, _≤_, suc, ℕ}
 use native.Mathlib.Omega.{arith}
 use lib.ListN.{getD, length, length-append}
 use Rattle.octets.proofs.Places.{at-after, at-first, at-join, at-nil, only-then, only-wide}
@@ -17,7 +17,7 @@ use Rattle.meaning.proofs.WordLaws.{bindings-words}
 use Rattle.meaning.specs.Meaning.{All}
 use Rattle.meaning.specs.Weight.{weight}
 use Rattle.bodies.specs.Standing.{AtomsAt, Bare, TabsAt, atomsIn}
-use Rattle.bodies.proofs.Standing.{First, atoms-before, atoms-is, atoms-join, atoms-read, equality-size, first-atom, tabs-before, tabs-join}
+use Rattle.bodies.proofs.Standing.{First, atoms-before, atoms-is, atoms-join, atoms-read, first-atom, tabs-before, tabs-join}
 use Rattle.canonicalize.specs.declared.Canonical.{Canonical}
 use Rattle.canonicalize.specs.Canonicalize.{CanonicalAt, CanonicalizeAsks, FrontAsks, Fronted, Leads, ReplaceAsks, Replaced, ResolveAsks, Resolved, bindingWords}
 use Rattle.canonicalize.specs.Spans.{Built, Spanned}
@@ -36,7 +36,7 @@ pub record Leading (l : List ℕ) (at n i : ℕ) : Type 0 where
   pub whole : atomsIn l at n ≡ eqs ++ todo
   pub inside : i ≤ n
 
-module _ (l : List ℕ) (at n : ℕ) (c : AtomsAt (atomsIn l at n) l at n) where
+module _ {l : List ℕ} {at n : ℕ} (c : AtomsAt (atomsIn l at n) l at n) where
   pub leading-start : Leading l at n 0
   leading-start =
       record {
@@ -55,13 +55,8 @@ module _ (l : List ℕ) (at n : ℕ) (c : AtomsAt (atomsIn l at n) l at n) where
       minus : (p : ℕ) → p ≡ p - 0
       minus p = omega arith
 
-  pub leading-inside : (i : ℕ) → Leading l at n i → i < n → getD l (at + i) 0 ≡ equalityWord → i + 3 ≤ n
-  leading-inside i w h e =
-      let t = first-atom (w .todo) l (at + i) (n - i) (w .others) (omega arith) in
-      omega (arith, t .size, t .inside, equality-size l (at + i) e)
-
-  pub leading-next : (i : ℕ) → Leading l at n i → i < n → getD l (at + i) 0 ≡ equalityWord → Leading l at n (i + 3)
-  leading-next i w h e = go (t .atom) refl
+  pub leading-next : {i : ℕ} → Leading l at n i → i < n → getD l (at + i) 0 ≡ equalityWord → Leading l at n (i + 3)
+  leading-next {i} w h e = go (t .atom) refl
     where
       t : First (w .todo) l (at + i) (n - i)
       t = first-atom (w .todo) l (at + i) (n - i) (w .others) (omega arith)
@@ -89,8 +84,8 @@ module _ (l : List ℕ) (at n : ℕ) (c : AtomsAt (atomsIn l at n) l at n) where
             inside = omega (arith, t .inside, three);
           }
 
-  pub leads : (i : ℕ) → Leading l at n i → Leads l at n i
-  leads i w =
+  pub leads : {i : ℕ} → Leading l at n i → Leads l at n i
+  leads {i} w =
       let a = atoms-is l at i (w .eqs) (w .passed) in
       let b = atoms-is l (at + i) (n - i) (w .todo) (w .others) in
       record {
@@ -111,7 +106,7 @@ pub record Tabled (l : List ℕ) (at n to d table buckets : ℕ) : Type 0 where
   pub room : to + weight (atomsIn l at n) + 3 * length (atomsIn l at n) + 3 ≤ d
   pub top : d ≤ length l
 
-module _ (s : Sig) (l : List ℕ) (at n to d : ℕ) (c : CanonicalizeAsks l at n to d) (m : List ℕ) (buckets : ℕ) (b : Built l m at n (at + n) buckets) where
+module _ {l : List ℕ} {at n to d : ℕ} (c : CanonicalizeAsks l at n to d) {m : List ℕ} {buckets : ℕ} (b : Built l m at n (at + n) buckets) where
   made-table : Only l m (at + n) (at + n + 2 * buckets)
   made-table = built-only b (omega (arith, c .clear, c .room, c .top, b .few))
 
@@ -132,13 +127,25 @@ module _ (s : Sig) (l : List ℕ) (at n to d : ℕ) (c : CanonicalizeAsks l at n
       }
 
   -- as if there were no table
-  pub untabled : (m₂ : List ℕ) (r : Canonical) → CanonicalAt s (atomsIn m at n) m m₂ at to d r → CanonicalAt s (atomsIn l at n) l m₂ at to d r
-  untabled m₂ r k =
+  pub untabled : {s : Sig} {m₂ : List ℕ} {r : Canonical} → CanonicalAt s (atomsIn m at n) m m₂ at to d r → CanonicalAt s (atomsIn l at n) l m₂ at to d r
+  untabled {s} {m₂} {r} k =
       let o : Only l m at d = only-wide at d made-table (omega arith) (omega (arith, c .clear, c .room, b .few)) in
       subst (λ (us : List Atom). CanonicalAt s us l m₂ at to d r) same
       (record { tabs = k .tabs; binds = k .binds; count = k .count; only = only-then o (k .only) })
 
-module _ (s : Sig) (l : List ℕ) (at n to d table buckets : ℕ) (c : Tabled l at n to d table buckets) (e : ℕ) (z : Leads l at n e) where
+-- the equalities in front have e words
+pub record Led (l : List ℕ) (at n to d table buckets e : ℕ) : Type 0 where
+  pub tabled : Tabled l at n to d table buckets
+  pub leads : Leads l at n e
+  pub fits : length l < 2 ^ 64
+
+module _ {l : List ℕ} {at n to d table buckets e : ℕ} (g : Led l at n to d table buckets e) where
+  abbrev c : Tabled l at n to d table buckets
+  c = g .tabled
+
+  abbrev z : Leads l at n e
+  z = g .leads
+
   pub leads-asks : FrontAsks l at e (n - e) to d table buckets
   leads-asks =
       record {
@@ -151,7 +158,7 @@ module _ (s : Sig) (l : List ℕ) (at n to d table buckets : ℕ) (c : Tabled l 
         top = c .top;
       }
 
-  module _ (m : List ℕ) (t : Canonical) (f : Fronted s (atomsIn l at e) (atomsIn l (at + e) (n - e)) l m at e (n - e) to d table buckets t) where
+  module _ {s : Sig} {m : List ℕ} {t : Canonical} (f : Fronted s (atomsIn l at e) (atomsIn l (at + e) (n - e)) l m at e (n - e) to d table buckets t) where
     rest-is : atomsIn m (at + e) (n - e) ≡ f .rest
     rest-is = atoms-is m (at + e) (n - e) (f .rest) (f .others)
 
@@ -164,7 +171,7 @@ module _ (s : Sig) (l : List ℕ) (at n to d table buckets : ℕ) (c : Tabled l 
           top = omega (arith, f .binds .within);
         }
 
-    module _ (m₂ : List ℕ) (r : ℕ) (k : Replaced s m m₂ (at + e) (n - e) (t .binds) table buckets r) where
+    module _ {m₂ : List ℕ} {r : ℕ} (k : Replaced s m m₂ (at + e) (n - e) (t .binds) table buckets r) where
       is : atomsIn m₂ (at + e) (n - e) ≡ replaceAll s (f .rest) [] .atoms
       is = atoms-is m₂ (at + e) (n - e) (replaceAll s (atomsIn m (at + e) (n - e)) [] .atoms) (k .atoms) ∙ ap (λ (us : List Atom). replaceAll s us [] .atoms) rest-is
 
@@ -183,16 +190,19 @@ module _ (s : Sig) (l : List ℕ) (at n to d table buckets : ℕ) (c : Tabled l 
                 (omega (arith, ends, count, f .binds .within, k .only .size));
           }
 
-      -- the written words end before the bindings
-      pub resolved-room : (m₃ : List ℕ) (w : ℕ) → Resolved s m₂ m₃ (at + e) (n - e) (to + t .words) w → to + t .words + w ≤ length l
-      resolved-room m₃ w y =
-          let tabs : TabsAt (canonicalize s (f .rest) [] .tabs) m₃ (to + t .words) w = subst (λ (us : List Atom). TabsAt (resolve s us) m₃ (to + t .words) w) is (y .tabs) in
-          omega (arith, ends, tabs .size, count, f .count, c .top)
+      -- what the resolving writes is what becomes of the rest
+      rest-written : {m₃ : List ℕ} {w : ℕ} → Resolved s m₂ m₃ (at + e) (n - e) (to + t .words) w → TabsAt (canonicalize s (f .rest) [] .tabs) m₃ (to + t .words) w
+      rest-written {m₃} {w} y = subst (λ (us : List Atom). TabsAt (resolve s us) m₃ (to + t .words) w) is (y .tabs)
 
-      pub canonical : (m₃ : List ℕ) (w : ℕ) → Resolved s m₂ m₃ (at + e) (n - e) (to + t .words) w
+      -- the written words end before the bindings
+      pub resolved-room : {m₃ : List ℕ} {w : ℕ} → Resolved s m₂ m₃ (at + e) (n - e) (to + t .words) w → to + t .words + w ≤ length l
+      resolved-room {m₃} {w} y =
+          omega (arith, ends, rest-written y .size, count, f .count, c .top)
+
+      pub canonical : {m₃ : List ℕ} {w : ℕ} → Resolved s m₂ m₃ (at + e) (n - e) (to + t .words) w
           → CanonicalAt s (atomsIn l at n) l m₃ at to d (record { words = t .words + w; binds = r })
-      canonical m₃ w y =
-          let more : TabsAt (canonicalize s (f .rest) [] .tabs) m₃ (to + t .words) w = subst (λ (us : List Atom). TabsAt (resolve s us) m₃ (to + t .words) w) is (y .tabs) in
+      canonical {m₃} {w} y =
+          let more : TabsAt (canonicalize s (f .rest) [] .tabs) m₃ (to + t .words) w = rest-written y in
           let end : to + t .words + w ≤ r = omega (arith, ends, more .size) in
           let o₂ : Only m m₂ (at + e) (t .binds) = k .only in
           let first : TabsAt (f .written) m₂ to (t .words) = kept-between (f .tabs) in
@@ -210,8 +220,17 @@ module _ (s : Sig) (l : List ℕ) (at n to d table buckets : ℕ) (c : Tabled l 
             binds = subst (λ (rs : List Replacement). At (bindingWords rs) m₃ r) (sym repls) (at-after (y .only) all end);
             count = subst (λ (rs : List Replacement). r + 3 * length rs ≡ d) (sym repls)
                 (omega (arith, count, f .count, length-append (canonicalize s (f .rest) [] .repls) (f .rs)));
-            only = only-then (f .only) (only-then (only-wide at d o₂ (omega arith) (omega (arith, f .count))) (only-wide at d (y .only) (omega (arith, c .clear, c .spanned .beyond)) (omega (arith, f .count, count))));
+            only = only-then (f .only)
+                (only-then (only-wide at d o₂ (omega arith) (omega (arith, f .count)))
+                (only-wide at d (y .only) (omega (arith, c .clear, c .spanned .beyond)) (omega (arith, f .count, count))));
           }
         where
           kept-between : TabsAt (f .written) m to (t .words) → TabsAt (f .written) m₂ to (t .words)
-          kept-between x = record { fits = x .fits; bare = x .bare; size = x .size; at = k .between (wordsOf tabWords (f .written)) to (x .at) (c .clear) (omega (arith, x .size, ends)); within = omega (arith, x .within, k .only .size) }
+          kept-between x =
+              record {
+                fits = x .fits;
+                bare = x .bare;
+                size = x .size;
+                at = k .between (wordsOf tabWords (f .written)) to (x .at) (c .clear) (omega (arith, x .size, ends));
+                within = omega (arith, x .within, k .only .size);
+              }
