@@ -113,27 +113,34 @@ module _ (t : ℕ) where
   all-get-requires c κs = at-turn c .inside
 
   -- the word is a name or a literal
-  abbrev leaf-turn : all-lts.Then1 (all-calls t) (all-at t) all.Post Inv-loop μ-loop → AllTurn
+  abbrev AllLeaf : Type 0
+  AllLeaf = all-lts.Then1 (all-calls t) (all-at t) all.Post Inv-loop μ-loop
+
+  abbrev leaf-turn : AllLeaf → AllTurn
   leaf-turn c = c .before .before
+
+  -- and is pushed
+  abbrev leaf-pushed : all-lts.After-slice-known3 (all-calls t) (all-at t) all.Post Inv-loop μ-loop → AllLeaf
+  leaf-pushed c = c .before .before .before .before
 
   all-put-requires : all-lts.Need-put-requires (all-calls t) (all-at t) all.Post Inv-loop μ-loop
   all-put-requires c κs = omega (arith, at-turn (leaf-turn (c .before)))
 
   all-add-next : all-lts.Need-add-next (all-calls t) (all-at t) all.Post Inv-loop μ-loop
-  all-add-next c = let u = leaf-turn (c .before .before .before .before) in omega (arith, at-turn u, u .before .loop .inv .2 .held)
+  all-add-next c = let u = leaf-turn (leaf-pushed c) in omega (arith, at-turn u, u .before .loop .inv .2 .held)
 
   all-add-top : all-lts.Need-add-top (all-calls t) (all-at t) all.Post Inv-loop μ-loop
-  all-add-top c = let u = leaf-turn (c .before .before .before .before) in omega (arith, at-turn u, u .before .loop .inv .2 .held)
+  all-add-top c = let u = leaf-turn (leaf-pushed c) in omega (arith, at-turn u, u .before .loop .inv .2 .held)
 
   all-sub-left : all-lts.Need-sub-left (all-calls t) (all-at t) all.Post Inv-loop μ-loop
-  all-sub-left c = at-turn (leaf-turn (c .before .before .before .before)) .some
+  all-sub-left c = at-turn (leaf-turn (leaf-pushed c)) .some
 
   all-loop-less : all-lts.Need-loop-less (all-calls t) (all-at t) all.Post Inv-loop μ-loop
-  all-loop-less c = let some = at-turn (leaf-turn (c .before .before .before .before)) .some in omega arith
+  all-loop-less c = let some = at-turn (leaf-turn (leaf-pushed c)) .some in omega arith
 
   all-loop-again : all-lts.Need-loop-again (all-calls t) (all-at t) all.Post Inv-loop μ-loop
   all-loop-again c =
-      let h : all-lts.Then1 (all-calls t) (all-at t) all.Post Inv-loop μ-loop = c .before .before .before .before in
+      let h = leaf-pushed c in
       let u = leaf-turn h in
       let l = u .before .loop in
       let p = c .before .before .put in
@@ -172,11 +179,18 @@ module _ (t : ℕ) where
   all-returns c = let u = call-turn (stopped c) in row-stop (u .before .loop .inv .2) (at-turn u) _ _ _ (stopped c .flatten-call .ensures) (c .if2 .taken)
 
   -- it is flattened
-  abbrev passed : all-lts.Else2 (all-calls t) (all-at t) all.Post Inv-loop μ-loop → AllWalked
+  abbrev AllFine : Type 0
+  AllFine = all-lts.Else2 (all-calls t) (all-at t) all.Post Inv-loop μ-loop
+
+  abbrev passed : AllFine → AllWalked
   passed c = c .before .before .before .before .before .before
 
-  abbrev passed-turn : all-lts.Else2 (all-calls t) (all-at t) all.Post Inv-loop μ-loop → AllTurn
+  abbrev passed-turn : AllFine → AllTurn
   passed-turn c = call-turn (passed c)
+
+  -- and its variable is pushed
+  abbrev call-pushed : all-lts.After-slice-known6 (all-calls t) (all-at t) all.Post Inv-loop μ-loop → AllFine
+  call-pushed c = c .before .before .before .before
 
   all-put-requires-2 : all-lts.Need-put-requires-2 (all-calls t) (all-at t) all.Post Inv-loop μ-loop
   all-put-requires-2 c κs =
@@ -185,17 +199,17 @@ module _ (t : ℕ) where
       omega (arith, at-turn u, length-words-kept (k .last .1 .1 .1 .1 .1 .0) (u .before .loop .scratch) (k .kept .1 .1 .1 .1 .1 .0))
 
   all-add-top-2 : all-lts.Need-add-top-2 (all-calls t) (all-at t) all.Post Inv-loop μ-loop
-  all-add-top-2 c = let u = passed-turn (c .before .before .before .before) in omega (arith, at-turn u, u .before .loop .inv .2 .held)
+  all-add-top-2 c = let u = passed-turn (call-pushed c) in omega (arith, at-turn u, u .before .loop .inv .2 .held)
 
   all-sub-left-2 : all-lts.Need-sub-left-2 (all-calls t) (all-at t) all.Post Inv-loop μ-loop
-  all-sub-left-2 c = at-turn (passed-turn (c .before .before .before .before)) .some
+  all-sub-left-2 c = at-turn (passed-turn (call-pushed c)) .some
 
   all-loop-less-2 : all-lts.Need-loop-less-2 (all-calls t) (all-at t) all.Post Inv-loop μ-loop
-  all-loop-less-2 c = let some = at-turn (passed-turn (c .before .before .before .before)) .some in omega arith
+  all-loop-less-2 c = let some = at-turn (passed-turn (call-pushed c)) .some in omega arith
 
   all-loop-again-2 : all-lts.Need-loop-again-2 (all-calls t) (all-at t) all.Post Inv-loop μ-loop
   all-loop-again-2 c =
-      let h : all-lts.Else2 (all-calls t) (all-at t) all.Post Inv-loop μ-loop = c .before .before .before .before in
+      let h = call-pushed c in
       let u = passed-turn h in
       let p = c .before .before .put2 in
       let row = row-next (u .before .loop .inv .2) (at-turn u) _ _ _ (passed h .flatten-call .ensures) _ (h .if2 .left) (p .ensures) in
@@ -300,10 +314,13 @@ module _ (t : ℕ) where
   call-cast-if2 c = search needs
 
   -- they are all
-  abbrev whole : call-lts.Then2 (call-calls t) (call-at t) call.Post → CallFronted
+  abbrev CallWhole : Type 0
+  CallWhole = call-lts.Then2 (call-calls t) (call-at t) call.Post
+
+  abbrev whole : CallWhole → CallFronted
   whole c = c .before .before .before
 
-  abbrev whole-start : call-lts.Then2 (call-calls t) (call-at t) call.Post → CallStart
+  abbrev whole-start : CallWhole → CallStart
   whole-start c = named-start (named (whole c))
 
   call-add-put-around : call-lts.Need-add-put-around (call-calls t) (call-at t) call.Post
@@ -315,26 +332,29 @@ module _ (t : ℕ) where
   call-put-around-requires : call-lts.Need-put-around-requires (call-calls t) (call-at t) call.Post
   call-put-around-requires c κs = around-room (at-leaves (whole (c .before)))
 
+  -- and the atom is put around them
+  abbrev around : call-lts.After-slice-known6 (call-calls t) (call-at t) call.Post → CallWhole
+  around c = c .before .before .before .before
+
   call-add-t31 : call-lts.Need-add-t31 (call-calls t) (call-at t) call.Post
-  call-add-t31 c = omega (arith, at-start (whole-start (c .before .before .before .before)))
+  call-add-t31 c = omega (arith, at-start (whole-start (around c)))
 
   call-add-t32 : call-lts.Need-add-t32 (call-calls t) (call-at t) call.Post
-  call-add-t32 c = let h = c .before .before .before .before in omega (arith, at-start (whole-start h), h .if2 .taken)
+  call-add-t32 c = omega (arith, at-start (whole-start (around c)), around c .if2 .taken)
 
   call-add-t33 : call-lts.Need-add-t33 (call-calls t) (call-at t) call.Post
-  call-add-t33 c = omega (arith, at-start (whole-start (c .before .before .before .before)))
+  call-add-t33 c = omega (arith, at-start (whole-start (around c)))
 
   call-same-length-3 : call-lts.Need-same-length-3 (call-calls t) (call-at t) call.Post
-  call-same-length-3 c = took (named (whole (c .before .before .before .before))) .take .kept .0
+  call-same-length-3 c = took (named (whole (around c))) .take .kept .0
 
   call-same-length-4 : call-lts.Need-same-length-4 (call-calls t) (call-at t) call.Post
-  call-same-length-4 c = c .before .before .put-around .kept .0 ∙ leaves-kept (whole (c .before .before .before .before))
+  call-same-length-4 c = c .before .before .put-around .kept .0 ∙ leaves-kept (whole (around c))
 
   call-returns-2 : call-lts.Need-returns-2 (call-calls t) (call-at t) call.Post
   call-returns-2 c =
-      let h = c .before .before .before .before in
       let p = c .before .before .put-around in
-      leaves-answer (at-leaves (whole h)) _ _ (h .if2 .taken) (p .ensures .0) (p .ensures .1)
+      leaves-answer (at-leaves (whole (around c))) _ _ (around c .if2 .taken) (p .ensures .0) (p .ensures .1)
 
   -- a call stands among the arguments
   abbrev mixed : call-lts.Else2 (call-calls t) (call-at t) call.Post → CallFronted
@@ -401,17 +421,20 @@ module _ (t : ℕ) where
   call-put-atom-requires : call-lts.Need-put-atom-requires (call-calls t) (call-at t) call.Post
   call-put-atom-requires c κs = atom-asks (at-args (argued (c .before))) (c .before .if3 .left)
 
+  -- and the atom is put behind theirs
+  abbrev behind : call-lts.After-slice-known9 (call-calls t) (call-at t) call.Post → call-lts.Else3 (call-calls t) (call-at t) call.Post
+  behind c = c .before .before .before .before
+
   call-same-length-7 : call-lts.Need-same-length-7 (call-calls t) (call-at t) call.Post
-  call-same-length-7 c = call-counters-kept (argued (c .before .before .before .before))
+  call-same-length-7 c = call-counters-kept (argued (behind c))
 
   call-same-length-8 : call-lts.Need-same-length-8 (call-calls t) (call-at t) call.Post
-  call-same-length-8 c = c .before .before .put-atom .kept .0 ∙ call-scratch-kept (argued (c .before .before .before .before))
+  call-same-length-8 c = c .before .before .put-atom .kept .0 ∙ call-scratch-kept (argued (behind c))
 
   call-returns-4 : call-lts.Need-returns-4 (call-calls t) (call-at t) call.Post
   call-returns-4 c =
-      let h = c .before .before .before .before in
       let p = c .before .before .put-atom in
-      call-answer (at-args (argued h)) _ _ (h .if3 .left) (p .ensures .0) (p .ensures .1)
+      call-answer (at-args (argued (behind c))) _ _ (behind c .if3 .left) (p .ensures .0) (p .ensures .1)
 
 pub +flatten-all+flatten-call-spec : {M : Type 1} → statement M
 +flatten-all+flatten-call-spec = close μ-all μ-call (λ t. all-lts.spec (all-calls t)
