@@ -6,8 +6,10 @@ pub mod Pieces
 pub mod Expressions
 pub mod Arguments
 pub mod Calls
+pub mod Sites
 pub mod Plain
 pub mod Acting
+pub mod Changes
 pub mod NameSets
 pub mod Forests
 pub mod SetModes

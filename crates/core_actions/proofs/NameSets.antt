@@ -1,246 +1,224 @@
--- A union of a name and a call that becomes a set: what is known at each step of `set_name`, as records over the call that is walked and the words
--- that each step leaves. The laws of each say what the next step asks, and each way out. Assumes nothing.
-use mathlib.Core.Path.{_≡_, refl, sym, _∙_, subst}
+-- A union of a name and a call that becomes a set. The call's arguments are those of an action with a head (`Changes`), and the name is one more
+-- term behind them. What is known at each step of `set_name`, and each way out. Assumes nothing.
+use mathlib.Core.Path.{_≡_, refl, sym, ap, subst}
 use mathlib.Core.Bool.{Bool, true, false}
 use mathlib.Core.List.{List, _∷_}
-use Prim.Native.Nat.{ℕ, _+_, _-_, _^_, _≤_, _<_}
+use Prim.Native.Nat.{ℕ, _+_, _-_, _*_, _≤_, _<_}
 use native.Mathlib.Omega.{arith}
 use lib.ListN.{length, getD, set}
 use Rattle.octets.specs.Regions.{splice, part}
-use Rattle.rules.specs.Words.{maxDepth, limit12, headBase, freshBase, actionWord, headOf, countOf}
-use Rattle.rules.specs.Refusals.{unbound, usedUp}
+use Rattle.rules.specs.Words.{maxDepth, headBase, freshBase, actionWord, headOf, countOf}
+use Rattle.rules.specs.Refusals.{Res, ok, _>>=_, unbound, usedUp}
 use Rattle.rules.specs.Signature.{Sig, heads}
 use Rattle.rules.specs.Written.{leaf}
-use Rattle.rules.specs.ToQuery.{fresh}
-use Rattle.rules.specs.ToCoreActions.{readable, lowerSet}
-use Rattle.walks.specs.Log.{Taken}
-use Rattle.walks.specs.Steps.{Walked, OnStack, Room, Under, Counted, ExprsAt}
+use Rattle.rules.specs.ToCoreActions.{readable, Done, lowerSet}
+use Rattle.walks.specs.Steps.{Piece, both, andThen, Walked, InAnswer, OnStack, Counted}
 use Rattle.walks.specs.declared.Walk.{Walk}
-use Rattle.core_actions.specs.Scopes.{Scoped, ScopeRoom, ScopeFits, Names, plainFront}
-use Rattle.core_actions.specs.Lowered.{loweredAll}
-use Rattle.core_actions.specs.Acts.{NameCallAt, Acts}
-use Rattle.core_actions.specs.declared.scope.Scope.{Scope}
+use Rattle.walks.proofs.Frames.{kept-none}
+use Rattle.walks.proofs.Steps.{went, stop, walk-then, placed, pushed, stacked}
+use Rattle.walks.proofs.Read.{exprs-many, recount}
+use Rattle.core_actions.specs.Scopes.{Scoped, ScopeFits}
+use Rattle.core_actions.specs.Lowered.{lowered, loweredAll}
+use Rattle.core_actions.specs.Acts.{NameCallAt, Gave, Acts}
 use Rattle.core_actions.specs.declared.actions.Acted.{Acted}
 use Rattle.core_actions.proofs.Scopes.{scope-fits}
-use Rattle.core_actions.proofs.Plain.{plain-room, plain-most, plain-asks, plain-walk}
-use Rattle.core_actions.proofs.Acting.{args-of, name-stop, name-room, name-scope, name-unbound, name-full, name-done}
+use Rattle.core_actions.proofs.Pieces.{lowered-leaf, done-set, same-set}
+use Rattle.core_actions.proofs.Sites.{Site, Tree, tree, tree-as, Given}
+use Rattle.core_actions.proofs.Acting.{acts-stop, acts-same, scope-after}
+use Rattle.core_actions.proofs.Changes.{Headed, Argued, Fine, ended, Used, Termed, closing, closed-full, closed}
 
--- the call that is walked: the words, where it stands and where its walk writes, the name's word v and the call's word w
-pub record Call : Type 0 where
-  pub ws : List ℕ
-  pub s : List ℕ
-  pub cs : List ℕ
-  pub at : ℕ
-  pub to : ℕ
-  pub sp : ℕ
-  pub lg : ℕ
-  pub scope : Scope
-  pub v : ℕ
-  pub w : ℕ
+-- ---- both words are read: the name as v, and the call's kind 3 word as w
 
--- a signature under which it is one
-pub record Tree (k : Call) : Type 0 where
-  pub sig : Sig
-  pub bound : List ℕ
-  pub call : NameCallAt sig (k .ws) (k .at)
-  pub counted : Counted sig (k .cs)
-  pub scoped : Scoped sig bound (k .s) (k .scope)
+-- the call
+abbrev pub Call : Site → ℕ → Sig → Type 0
+Call k w = Headed k 3 (maxDepth - 1) (countOf w) w
+
+pub record NameCall (k : Site) (v w : ℕ) (sig : Sig) : Type 0 where
+  pub old : v < freshBase
+  pub call : Call k w sig
+
+abbrev pub name-call-at : {k : Site} {v w : ℕ} → v ≡ getD (k .ws) (k .at + 1) 0 → w ≡ getD (k .ws) (k .at + 2) 0 → (sig : Sig)
+    → NameCallAt sig (k .ws) (k .at) → NameCall k v w sig
+name-call-at {k} {v} {w} isv isw sig x =
+    record {
+      old = subst (λ (u : ℕ). u < freshBase) (sym isv) (x .old);
+      call =
+          record {
+            high = subst (λ (u : ℕ). headBase ≤ u) (sym isw) (x .high);
+            head = subst (λ (u : ℕ). headOf u < heads sig) (sym isw) (x .head);
+            exprs = recount sig (k .ws) (maxDepth - 1) (countOf (getD (k .ws) (k .at + 2) 0)) (countOf w) (k .at + 3) (ap countOf (sym isw)) (x .exprs);
+          };
+    }
+
+pub record Naming (k : Site) (v w : ℕ) : Type 0 where
+  pub given : Given k (Call k w)
+  pub isv : v ≡ getD (k .ws) (k .at + 1) 0
+  pub isw : w ≡ getD (k .ws) (k .at + 2) 0
 
 -- what the contract says of an answer
-abbrev pub Answers : Call → List ℕ → List ℕ → Acted → Type 0
+abbrev pub Answers : Site → List ℕ → List ℕ → Acted → Type 0
 Answers k s′ cs′ r =
     (sig : Sig) (x : NameCallAt sig (k .ws) (k .at)) (bound : List ℕ) → Counted sig (k .cs) → Scoped sig bound (k .s) (k .scope)
     → Acts (lowerSet sig bound (k .at + 2) (headOf (getD (k .ws) (k .at + 2) 0)) (x .exprs .value) (leaf (k .at + 1) (getD (k .ws) (k .at + 1) 0)) (k .cs))
     sig (k .scope) (3 + x .exprs .size) (k .at) (k .to) (k .sp) (k .lg) (k .s) (k .cs) s′ cs′ r
 
--- ---- both words are read
+-- ---- what the definition makes of it
 
-pub record Begun (k : Call) : Type 0 where
-  pub tree : Tree k
-  pub isv : k .v ≡ getD (k .ws) (k .at + 1) 0
-  pub isw : k .w ≡ getD (k .ws) (k .at + 2) 0
-  pub room : Room (length (k .ws)) (k .at) (k .to) (k .sp) (k .lg) (length (k .s))
-  pub scopeRoom : ScopeRoom (length (k .ws)) (k .at) (k .to) (k .sp) (k .scope)
-  pub ruleFits : length (k .ws) < 2 ^ 64
-  pub scratchFits : length (k .s) < 2 ^ 64
-  pub high : headBase ≤ k .w
-  pub inside : k .at + 3 ≤ length (k .ws)
+module _ {k : Site} {v w : ℕ} (h : Naming k v w) where
+  abbrev lowering : Tree k (NameCall k v w) → Res Done
+  lowering t = lowerSet (t .sig) (t .bound) (k .at + 2) (headOf w) (t .it .call .exprs .value) (leaf (k .at + 1) v) (k .cs)
 
-pub begun : {k : Call} → Tree k → Room (length (k .ws)) (k .at) (k .to) (k .sp) (k .lg) (length (k .s)) → ScopeRoom (length (k .ws)) (k .at) (k .to) (k .sp) (k .scope)
-    → length (k .ws) < 2 ^ 64 → length (k .s) < 2 ^ 64 → k .v ≡ getD (k .ws) (k .at + 1) 0 → k .w ≡ getD (k .ws) (k .at + 2) 0 → Begun k
-begun t room sr fr fs isv isw =
-    let i = t .call .exprs .inside in
-    let h = t .call .high in
-    record {
-      tree = t;
-      isv = isv;
-      isw = isw;
-      room = room;
-      scopeRoom = sr;
-      ruleFits = fr;
-      scratchFits = fs;
-      high = omega arith;
-      inside = omega arith;
-    }
+  abbrev Ends : List ℕ → List ℕ → Acted → Tree k (NameCall k v w) → Type 0
+  Ends s′ cs′ r t = Acts (lowering t) (t .sig) (k .scope) (3 + t .it .call .exprs .size) (k .at) (k .to) (k .sp) (k .lg) (k .s) (k .cs) s′ cs′ r
 
-module _ {k : Call} (g : Begun k) where
-  abbrev args : (t : Tree k) → ExprsAt (t .sig) (k .ws) (maxDepth - 1) (countOf (k .w)) (k .at + 3)
-  args t = args-of (t .sig) (t .bound) (k .ws) (k .at) (k .to) (k .sp) (k .lg) (k .scope) (k .s) (k .cs) (t .call) (k .v) (k .w) (g .isv) (g .isw) (g .room)
+  answers : {s′ cs′ : List ℕ} {r : Acted} → ((t : Tree k (NameCall k v w)) → Ends s′ cs′ r t) → Answers k s′ cs′ r
+  answers {s′} {cs′} {r} f sig x bound n sc =
+      subst
+      (λ (u : ℕ). Acts (lowerSet sig bound (k .at + 2) (headOf u) (x .exprs .value) (leaf (k .at + 1) (getD (k .ws) (k .at + 1) 0)) (k .cs)) sig (k .scope) (3 + x .exprs .size)
+      (k .at) (k .to) (k .sp) (k .lg) (k .s) (k .cs) s′ cs′ r) (h .isw)
+      (subst
+      (λ (u : ℕ). Acts (lowerSet sig bound (k .at + 2) (headOf w) (x .exprs .value) (leaf (k .at + 1) u) (k .cs)) sig (k .scope) (3 + x .exprs .size)
+      (k .at) (k .to) (k .sp) (k .lg) (k .s) (k .cs) s′ cs′ r) (h .isv) (f (tree sig (name-call-at (h .isv) (h .isw) sig x) bound n sc)))
 
-  -- what putting the plain words onto the stack asks
-  pub front-room : (k .at + 3 + countOf (k .w) ≤ length (k .ws)) × (k .sp + countOf (k .w) ≤ length (k .s)) × (k .scope .globals ≤ limit12)
-  front-room =
-      let t = g .tree in
-      plain-room (t .sig) (t .bound) (k .ws) (maxDepth - 1) (countOf (k .w)) (k .at) 3 (k .to) (k .sp) (k .lg) (k .scope) (k .s) (k .cs) (args t) (t .counted) (t .scoped) (g .room)
-      (g .scopeRoom) (length (k .s)) refl
+  -- the arguments, then the name, then the set
+  abbrev args : Tree k (NameCall k v w) → Res Piece
+  args t = loweredAll (t .sig) (t .bound) (t .it .call .exprs .value) (k .cs)
 
--- ---- i plain words are on the stack, which leaves s0
+  abbrev name : Tree k (NameCall k v w) → List ℕ → Res Piece
+  name t = lowered (t .sig) (t .bound) (leaf (k .at + 1) v)
 
-pub record Fronted {k : Call} (g : Begun k) (i : ℕ) (s0 : List ℕ) : Type 0 where
-  pub front : i ≡ plainFront (k .scope .globals) (part (k .ws) (k .at + 3) (countOf (k .w)))
-  pub put : s0 ≡ splice (k .s) (k .sp) (part (k .ws) (k .at + 3) i)
-  pub size : length s0 ≡ length (k .s)
-  pub most : i ≤ countOf (k .w)
-  pub inside : k .at + 3 + countOf (k .w) ≤ length (k .ws)
-  pub stack : k .sp + countOf (k .w) ≤ length (k .s)
+  abbrev Walks : List ℕ → List ℕ → Acted → Tree k (NameCall k v w) → Type 0
+  Walks s′ cs′ r t =
+      Walked 0 (Gave r) (_>>=_ (andThen (args t) (name t)) (closing (actionWord 2) 1 (k .at + 2) (headOf w))) (3 + t .it .call .exprs .size)
+      (k .at) (k .to) (k .sp) (k .lg) (k .s) (k .cs) s′ cs′ (r .walk)
 
-pub fronted : {k : Call} (g : Begun k) {i : ℕ} {s0 : List ℕ} → length s0 ≡ length (k .s) → i ≡ plainFront (k .scope .globals) (part (k .ws) (k .at + 3) (countOf (k .w)))
-    → s0 ≡ splice (k .s) (k .sp) (part (k .ws) (k .at + 3) i) → Fronted g i s0
-fronted {k} g {i} size front put =
-    let t = g .tree in
-    let r = front-room g in
-    record {
-      front = front;
-      put = put;
-      size = size;
-      most =
-          plain-most (t .sig) (t .bound) (k .ws) (maxDepth - 1) (countOf (k .w)) (k .at) 3 (k .to) (k .sp) (k .lg) (k .scope) (k .s) (k .cs) (args g t) (t .counted) (t .scoped) (g .room) i front;
-      inside = r .0;
-      stack = r .1;
-    }
+  refused : {s′ cs′ : List ℕ} {r : Acted} (t : Tree k (NameCall k v w)) → Walks s′ cs′ r t → (r .walk .refused ≡ 0 → ⊥) → Ends s′ cs′ r t
+  refused t walk bad =
+      acts-stop (lowering t) (rw (done-set (t .sig) (t .bound) (k .at + 2) (headOf w) (t .it .call .exprs .value) (leaf (k .at + 1) v) (k .cs)) walk) bad
 
-module _ {k : Call} {g : Begun k} {i : ℕ} {s0 : List ℕ} (f : Fronted g i s0) where
-  -- what the walk over the others asks
-  pub args-ask : Under (λ sig. ExprsAt sig (k .ws) (maxDepth - 1) (countOf (k .w) - i) (k .at + 3 + i) × Counted sig (k .cs) × Names sig s0 (k .scope))
-      × (Room (length (k .ws)) (k .at + 3 + i) (k .to) (k .sp + i) (k .lg) (length s0) × ScopeRoom (length (k .ws)) (k .at + 3 + i) (k .to) (k .sp + i) (k .scope))
-  args-ask =
-      let t = g .tree in
-      plain-asks (t .sig) (t .bound) (k .ws) (maxDepth - 1) (countOf (k .w)) (k .at) 3 (k .to) (k .sp) (k .lg) (k .scope) (k .s) (k .cs) (args g t) (t .counted) (t .scoped) (g .room) i (f .front)
-      (g .scopeRoom) s0 (f .put) (length s0) (f .size)
+  done : {s′ cs′ : List ℕ} {r : Acted} (t : Tree k (NameCall k v w)) → Walks s′ cs′ r t → r .names ≡ 0 → Ends s′ cs′ r t
+  done t walk none =
+      let x = t .it .call .exprs in
+      let i = x .inside in
+      acts-same (t .sig) (t .bound) (k .scope) (length (k .ws)) (lowering t)
+      (same-set (t .sig) (t .bound) (k .at + 2) (headOf w) (x .value) (leaf (k .at + 1) v) (k .cs)) none (h .given .scopeRoom) (omega arith) (t .scoped)
+      (rw (done-set (t .sig) (t .bound) (k .at + 2) (headOf w) (x .value) (leaf (k .at + 1) v) (k .cs)) walk)
 
-  -- what that walk ensures
-  abbrev pub RestWalk : List ℕ → List ℕ → Walk → Type 0
-  RestWalk s1 cs1 a =
-      (sig : Sig) (y : ExprsAt sig (k .ws) (maxDepth - 1) (countOf (k .w) - i) (k .at + 3 + i)) (bound : List ℕ) → Counted sig (k .cs) → Scoped sig bound s0 (k .scope)
-      → Walked (countOf (k .w) - i) (OnStack (k .sp + i) (countOf (k .w) - i) (k .lg) s1 a) (loweredAll sig bound (y .value) (k .cs)) (y .size)
-      (k .at + 3 + i) (k .to) (k .sp + i) (k .lg) s0 (k .cs) s1 cs1 a
+  -- ---- the arguments are lowered: a, with s1 and cs1 left behind
 
--- ---- the arguments are lowered: a, with s1 and cs1 left behind
+  module _ {s1 cs1 : List ℕ} {a : Walk} (m : Argued k 3 (maxDepth - 1) (countOf w) w s1 cs1 a) where
+    abbrev walk : (t : Tree k (NameCall k v w))
+        → Walked (countOf w) (OnStack (k .sp) (countOf w) (k .lg) s1 a) (args t) (t .it .call .exprs .size)
+        (k .at + 3) (k .to) (k .sp) (k .lg) (k .s) (k .cs) s1 cs1 a
+    walk t = m .walk (tree-as t (λ sig x. x .call))
 
-pub record Argued {k : Call} (g : Begun k) (s1 cs1 : List ℕ) (a : Walk) : Type 0 where
-  pub walk : (t : Tree k)
-      → Walked (countOf (k .w)) (OnStack (k .sp) (countOf (k .w)) (k .lg) s1 a) (loweredAll (t .sig) (t .bound) (t .call .exprs .value) (k .cs)) (t .call .exprs .size)
-      (k .at + 3) (k .to) (k .sp) (k .lg) (k .s) (k .cs) s1 cs1 a
-  pub size : length s1 ≡ length (k .s)
-  pub counters : length cs1 ≡ length (k .cs)
+    pub args-refused : (a .refused ≡ 0 → ⊥) → Answers k s1 cs1 (ended a)
+    args-refused bad = answers (λ t. refused t (stopped t) bad)
+      where
+        stopped : (t : Tree k (NameCall k v w)) → Walks s1 cs1 (ended a) t
+        stopped t =
+            let n = 3 + t .it .call .exprs .size in
+            let one : Walked 0 (Gave (ended a)) (andThen (args t) (name t)) n (k .at) (k .to) (k .sp) (k .lg) (k .s) (k .cs) s1 cs1 a =
+            stop n (k .at) (args t) (λ p. _>>=_ (name t (p .next)) (λ q. ok (both p q))) (walk t) bad (omega arith) in
+            stop n (k .at) (andThen (args t) (name t)) (closing (actionWord 2) 1 (k .at + 2) (headOf w)) one bad (omega arith)
 
-pub argued : {k : Call} {g : Begun k} {i : ℕ} {s0 : List ℕ} (f : Fronted g i s0) {s1 cs1 : List ℕ} {a : Walk} → length s1 ≡ length s0 → length cs1 ≡ length (k .cs)
-    → RestWalk f s1 cs1 a → Argued g s1 cs1 a
-argued {k} {g} {i} {s0} f {s1} {cs1} {a} es ec rest =
-    record {
-      walk =
-          λ t. plain-walk (t .sig) (t .bound) (k .ws) (maxDepth - 1) (countOf (k .w)) (k .at) 3 (k .to) (k .sp) (k .lg) (k .scope) (k .s) (k .cs) (args g t) (t .counted) (t .scoped) (g .room) i
-          (f .front) (g .scopeRoom) s0 (f .put) s1 cs1 a (λ y sc. rest (t .sig) y (t .bound) (t .counted) sc);
-      size = es ∙ f .size;
-      counters = ec;
-    }
+    -- ---- they are fine: the ways out, by whether the name may be read, b
 
--- an answer that is a refusal
-abbrev pub ended : Walk → Acted
-ended a = record { walk = a; names = 0; count = 0 }
+    module _ (f : Fine m) where
+      -- what the test asks
+      pub name-asks : ScopeFits s1 (k .scope)
+      name-asks =
+          let x = h .given .tree .it .exprs .inside in
+          let e = m .size in
+          let fits : ScopeFits (k .s) (k .scope) = scope-fits (h .given .scopeRoom) (h .given .room) (omega arith) in
+          record { few = fits .few; body = omega (arith, fits .body); names = omega (arith, fits .names) }
 
-module _ {k : Call} {g : Begun k} {s1 cs1 : List ℕ} {a : Walk} (m : Argued g s1 cs1 a) where
-  pub args-refused : (a .refused ≡ 0 → ⊥) → Answers k s1 cs1 (ended a)
-  args-refused bad sig x bound n sc =
-      name-stop sig bound (k .ws) (k .at) (k .to) (k .sp) (k .lg) (k .scope) (k .s) (k .cs) x (k .v) (k .w) (g .isv) (g .isw) (g .room) s1 cs1 a
-      (m .walk (record { sig = sig; bound = bound; call = x; counted = n; scoped = sc })) (ended a) refl bad
+      -- the arguments as if they started one word earlier, so that the name can be read behind them
+      abbrev early : Tree k (NameCall k v w) → Walk
+      early t = record { next = k .at + 2 + t .it .call .exprs .size; to = a .to; log = a .log; term = a .term; refused = 0 }
 
--- ---- they are fine: what writing behind them asks
+      first : (t : Tree k (NameCall k v w))
+          → Walked (countOf w) (OnStack (k .sp) (countOf w) (k .lg) s1 (early t)) (args t) (t .it .call .exprs .size)
+          (k .at + 2) (k .to) (k .sp) (k .lg) (k .s) (k .cs) s1 cs1 (early t)
+      first t = placed (k .at + 2) (early t) (args t) (walk t) (f .fine) refl refl refl refl (λ p u. record { size = u .size; terms = u .terms; uses = u .uses })
 
-pub record Fine {k : Call} {g : Begun k} {s1 cs1 : List ℕ} {a : Walk} (m : Argued g s1 cs1 a) : Type 0 where
-  pub fine : a .refused ≡ 0
-  pub logged : k .lg ≤ a .log
-  pub log : a .log < length s1
-  pub words : a .to + 2 ≤ k .sp
-  pub top : k .sp + countOf (k .w) < length s1
-  pub scratchFits : length s1 < 2 ^ 64
-  pub next : k .at + 2 < 2 ^ 64
-  pub scope : ScopeFits s1 (k .scope)
-  pub head : headOf (k .w) < limit12
-  pub counter : headOf (k .w) < length cs1
+      module _ {b : Bool} (test : (sig : Sig) (bound : List ℕ) → Scoped sig bound s1 (k .scope) → v < freshBase → b ≡ readable sig bound v) where
+        tested : (t : Tree k (NameCall k v w)) → b ≡ readable (t .sig) (t .bound) v
+        tested t =
+            let x = t .it .call .exprs in
+            let i = x .inside in
+            test (t .sig) (t .bound) (scope-after (length (k .ws)) (x .size) (h .given .scopeRoom) (omega arith) (walk t .kept) (t .scoped)) (t .it .old)
 
-pub is-fine : {k : Call} {g : Begun k} {s1 cs1 : List ℕ} {a : Walk} (m : Argued g s1 cs1 a) → a .refused ≡ 0 → Fine m
-is-fine {k} {g} {s1} {cs1} {a} m fine =
-    let t = g .tree in
-    let r =
-    name-room (t .sig) (t .bound) (k .ws) (k .at) (k .to) (k .sp) (k .lg) (k .scope) (k .s) (k .cs) (t .call) (k .v) (k .w) (g .isv) (g .isw) (g .room) s1 cs1 a (m .walk t) fine
-    (length s1) (m .size) in
-    let fits : ScopeFits (k .s) (k .scope) = scope-fits (g .scopeRoom) (g .room) (omega (arith, g .inside)) in
-    let h : headOf (k .w) < heads (t .sig) = subst (λ (u : ℕ). headOf u < heads (t .sig)) (sym (g .isw)) (t .call .head) in
-    record {
-      fine = fine;
-      logged = r .logged;
-      log = r .log;
-      words = r .words;
-      top = r .top;
-      scratchFits = omega (arith, g .scratchFits, m .size);
-      next = omega (arith, g .inside, g .ruleFits);
-      scope = record { few = fits .few; body = omega (arith, fits .body, m .size); names = omega (arith, fits .names, m .size) };
-      head = omega (arith, t .counted .few);
-      counter = omega (arith, t .counted .fits, m .counters);
-    }
+        pub name-refused : b ≡ false → Answers k s1 cs1 (ended (record { next = k .at + 1; to = a .to; log = a .log; term = 0; refused = unbound }))
+        name-refused not = answers (λ t. refused t (stopped t) (λ z. omega arith))
+          where
+            ans : Walk
+            ans = record { next = k .at + 1; to = a .to; log = a .log; term = 0; refused = unbound }
 
--- ---- the name is put behind them, and a fresh variable u is taken, which leaves s3 and cs2
+            second : (t : Tree k (NameCall k v w)) → Walked 1 (λ p. ⊥) (name t cs1) 1 (early t .next) (a .to) (k .sp + countOf w) (a .log) s1 cs1 s1 cs1 ans
+            second t =
+                rw (lowered-leaf (t .sig) (t .bound) (k .at + 1) v cs1, sym (tested t), not)
+                (record {
+                  kept = kept-none (a .to) (a .to + 4 * 1) (k .sp + countOf w) (k .sp + countOf w + 1) (a .log) (a .log + 1) s1 cs1 (omega arith);
+                  ended = record { number = refl; place = refl; some = omega arith };
+                })
 
-pub record Used {k : Call} {g : Begun k} {s1 cs1 : List ℕ} {a : Walk} (m : Argued g s1 cs1 a) (s3 cs2 : List ℕ) (u : ℕ) : Type 0 where
-  pub s2 : List ℕ
-  pub push : s2 ≡ set s1 (k .sp + countOf (k .w)) (k .v)
-  pub taken : (p : ℕ) → Taken (fresh p (headOf (k .w)) cs1) p (a .log) s2 cs1 s3 cs2 u
-  pub size : length s3 ≡ length s1
-  pub counters : length cs2 ≡ length cs1
+            stopped : (t : Tree k (NameCall k v w)) → Walks s1 cs1 (ended ans) t
+            stopped t =
+                let x = t .it .call .exprs in
+                let i = x .inside in
+                let many = exprs-many (t .sig) (k .ws) (maxDepth - 1) (countOf w) (k .at + 3) x in
+                let halted : Walked (countOf w + 1) (λ p. ⊥) (andThen (args t) (name t)) (x .size + 1) (k .at + 2) (k .to) (k .sp) (k .lg) (k .s) (k .cs) s1 cs1 ans =
+                walk-then (x .size) 1 (k .at + 2) (k .to) (k .sp) (k .sp + countOf w) (k .lg) (k .s) (k .cs) s1 cs1 s1 cs1 (early t) ans
+                (omega (arith, h .given .room .stack)) (omega arith) (omega arith) (countOf w + 1) (λ p. ⊥) (args t) (name t) (omega arith) (first t) refl (second t) (λ p q t u. u) in
+                stop (3 + x .size) (k .at) (andThen (args t) (name t)) (closing (actionWord 2) 1 (k .at + 2) (headOf w)) halted (λ z. omega arith) (omega arith)
 
--- ---- the ways out, by whether the name may be read, b
+        -- ---- the name is put behind them, which leaves s2, and a fresh variable u is taken
 
--- what the test ensures
-abbrev pub Test : Call → List ℕ → Bool → Type 0
-Test k s1 b = (sig : Sig) (bound : List ℕ) → Scoped sig bound s1 (k .scope) → k .v < freshBase → b ≡ readable sig bound (k .v)
+        module _ (may : b ≡ true) {s2 : List ℕ} (push : s2 ≡ set s1 (k .sp + countOf w) v) where
+          -- the answer as it is when the name is read, too
+          abbrev late : Walk
+          late = record { next = a .next; to = a .to; log = a .log; term = v; refused = 0 }
 
-module _ {k : Call} {g : Begun k} {s1 cs1 : List ℕ} {a : Walk} {m : Argued g s1 cs1 a} (f : Fine m) {b : Bool} (test : Test k s1 b) where
-  tested : (t : Tree k) → k .v < freshBase → b ≡ readable (t .sig) (t .bound) (k .v)
-  tested t =
-      test (t .sig) (t .bound)
-      (name-scope (t .sig) (t .bound) (k .ws) (k .at) (k .to) (k .sp) (k .lg) (k .scope) (k .s) (k .cs) (t .call) (k .v) (k .w) (g .isv) (g .isw) (g .room) s1 cs1 a (m .walk t) (f .fine)
-      (g .scopeRoom) (t .scoped))
+          termed : (t : Tree k (NameCall k v w)) → Termed k (3 + t .it .call .exprs .size) (countOf w + 1) (andThen (args t) (name t)) s2 cs1 late
+          termed t =
+              let x = t .it .call .exprs in
+              let i = x .inside in
+              let many = exprs-many (t .sig) (k .ws) (maxDepth - 1) (countOf w) (k .at + 3) x in
+              let o = went (args t) (walk t) (f .fine) in
+              let nx = o .next in
+              let up = o .upTo in
+              let lf = o .logFrom in
+              let lu = o .logUpTo in
+              let z = m .size in
+              let r = h .given .room in
+              let r1 : k .to + 4 * (3 + x .size) ≤ k .sp = omega (arith, r .words) in
+              let r2 : k .sp + (3 + x .size) ≤ k .lg = omega (arith, r .stack) in
+              let r3 : k .lg + (3 + x .size) ≤ length (k .s) = omega (arith, r .log) in
+              let second : Walked 1 (InAnswer (a .log) late) (name t cs1) 1 (early t .next) (a .to) (k .sp + countOf w) (a .log) s1 cs1 s1 cs1 late =
+              rw (lowered-leaf (t .sig) (t .bound) (k .at + 1) v cs1, sym (tested t), may)
+              (record {
+                kept = kept-none (a .to) (a .to + 4 * 1) (k .sp + countOf w) (k .sp + countOf w + 1) (a .log) (a .log + 1) s1 cs1 (omega arith);
+                ended = (
+                  record { fine = refl; next = omega arith; to = omega arith; counters = refl; written = refl; fits = omega arith },
+                  record { term = refl; uses = omega arith },
+                );
+              }) in
+              let there = pushed (name t cs1) second refl push (omega arith) (omega arith) (omega arith) (omega arith) in
+              let all : Walked (countOf w + 1) (OnStack (k .sp) (countOf w + 1) (k .lg) s2 late) (andThen (args t) (name t)) (x .size + 1)
+              (k .at + 2) (k .to) (k .sp) (k .lg) (k .s) (k .cs) s2 cs1 late =
+              walk-then (x .size) 1 (k .at + 2) (k .to) (k .sp) (k .sp + countOf w) (k .lg) (k .s) (k .cs) s1 cs1 s2 cs1 (early t) late
+              (omega arith) (omega arith) (omega arith) (countOf w + 1) (OnStack (k .sp) (countOf w + 1) (k .lg) s2 late) (args t) (name t) (omega arith) (first t) refl there
+              (λ p q y u. stacked p q (countOf w + 1) refl (omega arith) refl (there .kept) y u) in
+              record { behind = x .size + 1; whole = omega arith; walk = all; fine = refl; many = omega arith; inside = omega arith; room = r }
 
-  pub name-refused : b ≡ false → Answers k s1 cs1 (ended (record { next = k .at + 1; to = a .to; log = a .log; term = 0; refused = unbound }))
-  name-refused none sig x bound n sc =
-      let t : Tree k = record { sig = sig; bound = bound; call = x; counted = n; scoped = sc } in
-      name-unbound sig bound (k .ws) (k .at) (k .to) (k .sp) (k .lg) (k .scope) (k .s) (k .cs) x (k .v) (k .w) (g .isv) (g .isw) (g .room) s1 cs1 a (m .walk t) (f .fine) b (tested t)
-      (ended (record { next = k .at + 1; to = a .to; log = a .log; term = 0; refused = unbound })) none refl
+          module _ {s3 cs2 : List ℕ} {u : ℕ} (o : Used w (a .log) s2 cs1 s3 cs2 u) where
+            pub used-up : u ≡ 0 → Answers k s3 cs2 (ended (record { next = k .at + 2; to = a .to; log = a .log; term = 0; refused = usedUp }))
+            used-up z = answers (λ t. refused t (closed-full (termed t) (actionWord 2) 1 (k .at + 2) o 0 z) (λ y. omega arith))
 
-  -- the name is read, and a fresh variable u is taken
-  module _ (may : b ≡ true) {s3 cs2 : List ℕ} {u : ℕ} (o : Used m s3 cs2 u) where
-    pub used-up : u ≡ 0 → Answers k s3 cs2 (ended (record { next = k .at + 2; to = a .to; log = a .log; term = 0; refused = usedUp }))
-    used-up z sig x bound n sc =
-        let t : Tree k = record { sig = sig; bound = bound; call = x; counted = n; scoped = sc } in
-        name-full sig bound (k .ws) (k .at) (k .to) (k .sp) (k .lg) (k .scope) (k .s) (k .cs) x (k .v) (k .w) (g .isv) (g .isw) (g .room) s1 cs1 a (m .walk t) (f .fine) b (tested t)
-        may (o .s2) (o .push) u s3 cs2 (o .taken) (ended (record { next = k .at + 2; to = a .to; log = a .log; term = 0; refused = usedUp })) z refl
-
-    -- the set is written, up to e, which leaves s4
-    pub set-done : {s4 : List ℕ} {e : ℕ} → (u ≡ 0 → ⊥)
-        → (e ≡ a .to + 2 + (countOf (k .w) + 1)) × (s4 ≡ splice s3 (a .to) (actionWord 2 ∷ k .w ∷ part s3 (k .sp) (countOf (k .w) + 1)))
-        → Answers k s4 cs2 (record { walk = record { next = a .next; to = e; log = a .log + 1; term = 0; refused = 0 }; names = 0; count = a .log - k .lg + 1 })
-    set-done {s4} {e} some put sig x bound n sc =
-        let t : Tree k = record { sig = sig; bound = bound; call = x; counted = n; scoped = sc } in
-        name-done sig bound (k .ws) (k .at) (k .to) (k .sp) (k .lg) (k .scope) (k .s) (k .cs) x (k .v) (k .w) (g .isv) (g .isw) (g .room) s1 cs1 a (m .walk t) (f .fine) b (tested t)
-        may (o .s2) (o .push) u s3 cs2 (o .taken) (g .scopeRoom) sc _ s4 e some (o .counters) (o .size ∙ m .size) (put .0) (put .1) refl refl refl
+            -- the set is written, up to e, which leaves s4
+            pub set-done : {s4 : List ℕ} {e : ℕ} → (u ≡ 0 → ⊥)
+                → (e ≡ a .to + 2 + (countOf w + 1)) × (s4 ≡ splice s3 (a .to) (actionWord 2 ∷ w ∷ part s3 (k .sp) (countOf w + 1)))
+                → Answers k s4 cs2
+                (record { walk = record { next = a .next; to = e; log = a .log + 1; term = 0; refused = 0 }; names = 0; count = a .log - k .lg + 1 })
+            set-done some put = answers (λ t. done t (closed (termed t) (actionWord 2) 1 (k .at + 2) o (t .it .call .high) refl some put) refl)

@@ -24,6 +24,7 @@ use Rattle.core_actions.specs.declared.scope.Scope.{Scope}
 use Rattle.core_actions.proofs.Scopes.{scoped-kept, reads-low}
 use Rattle.core_actions.proofs.Pieces.{lowered-row}
 use Rattle.core_actions.proofs.Expressions.{standing, read-way}
+use Rattle.core_actions.proofs.Sites.{Site, Tree, Given}
 
 -- ---- how many they are
 
@@ -95,7 +96,7 @@ front-most g (w ∷ ws) = go (isPlain g w) refl (front-most g ws)
     go false e h = omega (arith, front-no-more g w ws e)
 
 -- a word that may be read whatever is bound
-record PlainWord (g w : ℕ) : Type 0 where
+pub record PlainWord (g w : ℕ) : Type 0 where
   pub low : literalBase ≤ w
   pub high : w < nameBase + g
 
@@ -135,90 +136,124 @@ kept-stack to te sp se lg le xs s cs s′ a b r h e =
       above = λ i x y. at i ∙ getD-splice-after s sp xs i in′ (omega arith);
     }
 
--- the row stands j words behind what the room was asked for
-module _ (sig : Sig) (bound ws : List ℕ) (d n at j to sp lg : ℕ) (c : Scope) (s cs : List ℕ) (x : ExprsAt sig ws d n (at + j)) (counted : Counted sig cs) (scoped : Scoped sig bound s c)
-    (room : Room (length ws) at to sp lg (length s)) where
-  inside : at + j + n ≤ length ws
-  inside = omega (arith, exprs-many sig ws d n (at + j) x, x .inside)
+-- the row of n expressions, at most d deep, that stands at a site
+pub record Row (k : Site) (d n : ℕ) (sig : Sig) : Type 0 where
+  pub exprs : ExprsAt sig (k .ws) d n (k .at)
 
+module _ {k : Site} {d n : ℕ} (g : Given k (Row k d n)) where
   -- what putting them onto the stack asks
-  pub plain-room : ScopeRoom (length ws) at to sp c → (len : ℕ) → len ≡ length s → (at + j + n ≤ length ws) × (sp + n ≤ len) × (c .globals ≤ limit12)
-  plain-room sr len e = let i = inside in (i, omega (arith, room .stack, room .log), sr .few)
+  pub front-room : (k .at + n ≤ length (k .ws)) × (k .sp + n ≤ length (k .s)) × (k .scope .globals ≤ limit12)
+  front-room =
+      let x = g .tree .it .exprs in
+      let i : k .at + n ≤ length (k .ws) = omega (arith, exprs-many (g .tree .sig) (k .ws) d n (k .at) x, x .inside) in
+      (i, omega (arith, g .room .stack, g .room .log), g .scopeRoom .few)
 
-  abbrev Rest : (left top : ℕ) → List ℕ → Walk → Type 0
-  Rest left top s1 w = Left (lowered sig bound) (loweredAll sig bound) (lowered-row sig bound) sig ws d n (at + j) to sp lg s cs x left top s1 cs w
+-- the first i of them are on the stack, which leaves s0
+pub record Stacked {k : Site} {d n : ℕ} (g : Given k (Row k d n)) (i : ℕ) (s0 : List ℕ) : Type 0 where
+  pub plain : (j : ℕ) → j < i → PlainWord (k .scope .globals) (getD (k .ws) (k .at + j) 0)
+  pub put : s0 ≡ splice (k .s) (k .sp) (part (k .ws) (k .at) i)
+  pub size : length s0 ≡ length (k .s)
+  pub most : i ≤ n
+  pub inside : k .at + n ≤ length (k .ws)
+  pub stack : k .sp + n ≤ length (k .s)
 
-  rest-is : (left left′ top top′ p p′ t : ℕ) (s1 s1′ : List ℕ) → left ≡ left′ → top ≡ top′ → p ≡ p′ → s1 ≡ s1′
-      → Rest left top s1 (record { next = p; to = to; log = lg; term = t; refused = 0 }) → Rest left′ top′ s1′ (standing p′ to lg)
-  rest-is left left′ top top′ p p′ t s1 s1′ a b e f l =
-      subst (λ (i : ℕ). Rest i top′ s1′ (standing p′ to lg)) a
-      (subst (λ (i : ℕ). Rest left i s1′ (standing p′ to lg)) b
-      (subst (λ (i : ℕ). Rest left top s1′ (standing i to lg)) e
-      (subst (λ (m : List ℕ). Rest left top m (standing p to lg)) f (record { rest = l .rest; whole = l .whole }))))
+pub stacked : {k : Site} {d n : ℕ} (g : Given k (Row k d n)) {i : ℕ} {s0 : List ℕ} → length s0 ≡ length (k .s)
+    → (i ≡ plainFront (k .scope .globals) (part (k .ws) (k .at) n)) × (s0 ≡ splice (k .s) (k .sp) (part (k .ws) (k .at) i)) → Stacked g i s0
+stacked {k} {d} {n} g {i} size e =
+    let r = front-room g in
+    record { plain = plain; put = e .1; size = size; most = most; inside = r .0; stack = r .1 }
+  where
+    xs : List ℕ
+    xs = part (k .ws) (k .at) n
 
-  -- each is read as an expression of its own: one turn for each
-  turns : (k : ℕ) (s1 : List ℕ) → k ≤ n → ((i : ℕ) → i < k → PlainWord (c .globals) (getD ws (at + j + i) 0)) → s1 ≡ splice s sp (part ws (at + j) k)
-      → Rest (n - k) (sp + k) s1 (standing (at + j + k) to lg)
-  turns zero s1 h p e =
-      rest-is n (n - 0) sp (sp + 0) (at + j) (at + j + 0) 0 s s1 (omega arith) (omega arith) (omega arith) (sym (splice-nil s sp) ∙ sym e)
-      (left-all (lowered sig bound) (loweredAll sig bound) (lowered-row sig bound) sig ws d n (at + j) to sp lg s cs x 0)
-  turns (suc k) s1 h p e =
-      let fits = inside in
-      let w : ℕ = getD ws (at + j + k) 0 in
-      let sk : List ℕ = splice s sp (part ws (at + j) k) in
-      let len : length (part ws (at + j) k) ≡ k = length-part ws (at + j) k (omega arith) in
-      let stack = room .stack in
-      let log = room .log in
-      let size : length sk ≡ length s = length-splice s sp (part ws (at + j) k) (omega arith) in
-      let now : Room (length ws) (at + j + k) to (sp + k) lg (length sk) = record { words = omega (arith, room .words); stack = omega arith; log = omega arith } in
-      let plain = p k (omega arith) in
-      let there : part ws (at + j) (suc k) ≡ part ws (at + j) k ++ (w ∷ []) = ap (part ws (at + j)) (sym (add-one k)) ∙ part-more ws (at + j) k (omega arith) in
-      let put : s1 ≡ set sk (sp + k) w = e ∙ ap (splice s sp) there ∙ sym (splice-snoc s sp (part ws (at + j) k) (sp + k) w (omega arith) (omega arith)) in
-      rest-is (n - k - 1) (n - suc k) (sp + k + 1) (sp + suc k) (at + j + k + 1) (at + j + suc k) w s1 s1 (omega arith) (omega arith) (omega arith) refl
-      (left-next (lowered sig bound) (loweredAll sig bound) (lowered-row sig bound) sig ws d n (at + j) to sp lg s cs x (n - k) (sp + k) sk cs (standing (at + j + k) to lg)
-      (turns k sk (omega arith) (λ i h. p i (omega arith)) refl) (omega arith) now sk cs (record { next = at + j + k + 1; to = to; log = lg; term = w; refused = 0 })
-      (λ y. read-way sig bound ws d (at + j + k) to (sp + k) lg sk cs y counted w refl (plain .low) true (λ old. reads-low sig bound s c w scoped (plain .high)) refl)
-      s1 refl put)
+    most : i ≤ n
+    most = omega (arith, e .0, front-most (k .scope .globals) xs, length-part (k .ws) (k .at) n (front-room g .0))
 
-  module _ (k : ℕ) (front : k ≡ plainFront (c .globals) (part ws (at + j) n)) where
-    pub plain-most : k ≤ n
-    plain-most = omega (arith, front-most (c .globals) (part ws (at + j) n), length-part ws (at + j) n inside)
+    plain : (j : ℕ) → j < i → PlainWord (k .scope .globals) (getD (k .ws) (k .at + j) 0)
+    plain j h =
+        subst (PlainWord (k .scope .globals)) (getD-part (k .ws) (k .at) n j (omega (arith, most))) (front-plain (k .scope .globals) xs j (omega (arith, e .0)))
 
-    module _ (sr : ScopeRoom (length ws) at to sp c) (s1 : List ℕ) (put : s1 ≡ splice s sp (part ws (at + j) k)) where
-      plain-left : Rest (n - k) (sp + k) s1 (standing (at + j + k) to lg)
-      plain-left =
-          turns k s1 plain-most
-          (λ i h. subst (PlainWord (c .globals)) (getD-part ws (at + j) n i (less i h)) (front-plain (c .globals) (part ws (at + j) n) i (below i h))) put
-        where
-          less : (i : ℕ) → i < k → i < n
-          less i h = omega (arith, plain-most)
+module _ {k : Site} {d n : ℕ} {g : Given k (Row k d n)} {i : ℕ} {s0 : List ℕ} (f : Stacked g i s0) where
+  module _ (t : Tree k (Row k d n)) where
+    abbrev Rest : (left top : ℕ) → List ℕ → Walk → Type 0
+    Rest left top s1 w =
+        Left (lowered (t .sig) (t .bound)) (loweredAll (t .sig) (t .bound)) (lowered-row (t .sig) (t .bound)) (t .sig) (k .ws) d n
+        (k .at) (k .to) (k .sp) (k .lg) (k .s) (k .cs) (t .it .exprs) left top s1 (k .cs) w
 
-          below : (i : ℕ) → i < k → i < plainFront (c .globals) (part ws (at + j) n)
-          below i h = omega (arith, front)
+    rest-is : (left left′ top top′ p p′ u : ℕ) (s1 s1′ : List ℕ) → left ≡ left′ → top ≡ top′ → p ≡ p′ → s1 ≡ s1′
+        → Rest left top s1 (record { next = p; to = k .to; log = k .lg; term = u; refused = 0 }) → Rest left′ top′ s1′ (standing p′ (k .to) (k .lg))
+    rest-is left left′ top top′ p p′ u s1 s1′ a b e f l =
+        subst (λ (i : ℕ). Rest i top′ s1′ (standing p′ (k .to) (k .lg))) a
+        (subst (λ (i : ℕ). Rest left i s1′ (standing p′ (k .to) (k .lg))) b
+        (subst (λ (i : ℕ). Rest left top s1′ (standing i (k .to) (k .lg))) e
+        (subst (λ (m : List ℕ). Rest left top m (standing p (k .to) (k .lg))) f (record { rest = l .rest; whole = l .whole }))))
 
-      plain-scoped : Scoped sig bound s1 c
-      plain-scoped =
-          let m = plain-most in
-          let i = inside in
-          let len : length (part ws (at + j) k) ≡ k = length-part ws (at + j) k (omega arith) in
-          scoped-kept (kept-stack to to sp (sp + k) lg lg (part ws (at + j) k) s cs s1 (omega (arith, room .words)) (omega arith) (omega (arith, room .stack, room .log)) (omega arith) put)
-          (sr .body) (omega (arith, sr .names)) (sr .top) scoped
+    -- j of them are read, each as an expression of its own
+    turns : (j : ℕ) (s1 : List ℕ) → j ≤ i → s1 ≡ splice (k .s) (k .sp) (part (k .ws) (k .at) j)
+        → Rest (n - j) (k .sp + j) s1 (standing (k .at + j) (k .to) (k .lg))
+    turns zero s1 h e =
+        rest-is n (n - 0) (k .sp) (k .sp + 0) (k .at) (k .at + 0) 0 (k .s) s1 (omega arith) (omega arith) (omega arith) (sym (splice-nil (k .s) (k .sp)) ∙ sym e)
+        (left-all (lowered (t .sig) (t .bound)) (loweredAll (t .sig) (t .bound)) (lowered-row (t .sig) (t .bound)) (t .sig) (k .ws) d n (k .at) (k .to) (k .sp) (k .lg) (k .s) (k .cs) (t .it .exprs) 0)
+    turns (suc j) s1 h e =
+        let fits = f .inside in
+        let most = f .most in
+        let at : ℕ = k .at + j in
+        let w : ℕ = getD (k .ws) at 0 in
+        let xs : List ℕ = part (k .ws) (k .at) j in
+        let sj : List ℕ = splice (k .s) (k .sp) xs in
+        let len : length xs ≡ j = length-part (k .ws) (k .at) j (omega arith) in
+        let stack = g .room .stack in
+        let log = g .room .log in
+        let size : length sj ≡ length (k .s) = length-splice (k .s) (k .sp) xs (omega arith) in
+        let now : Room (length (k .ws)) at (k .to) (k .sp + j) (k .lg) (length sj) =
+        record { words = omega (arith, g .room .words); stack = omega arith; log = omega arith } in
+        let plain = f .plain j (omega arith) in
+        let there : part (k .ws) (k .at) (suc j) ≡ xs ++ (w ∷ []) = ap (part (k .ws) (k .at)) (sym (add-one j)) ∙ part-more (k .ws) (k .at) j (omega arith) in
+        let put : s1 ≡ set sj (k .sp + j) w = e ∙ ap (splice (k .s) (k .sp)) there ∙ sym (splice-snoc (k .s) (k .sp) xs (k .sp + j) w (omega arith) (omega arith)) in
+        rest-is (n - j - 1) (n - suc j) (k .sp + j + 1) (k .sp + suc j) (at + 1) (k .at + suc j) w s1 s1 (omega arith) (omega arith) (omega arith) refl
+        (left-next (lowered (t .sig) (t .bound)) (loweredAll (t .sig) (t .bound)) (lowered-row (t .sig) (t .bound)) (t .sig) (k .ws) d n (k .at) (k .to) (k .sp) (k .lg) (k .s) (k .cs) (t .it .exprs)
+        (n - j) (k .sp + j) sj (k .cs) (standing at (k .to) (k .lg)) (turns j sj (omega arith) refl) (omega arith) now
+        sj (k .cs) (record { next = at + 1; to = k .to; log = k .lg; term = w; refused = 0 })
+        (λ y. read-way (t .sig) (t .bound) (k .ws) d at (k .to) (k .sp + j) (k .lg) sj (k .cs) y (t .counted) w refl (plain .low) true
+        (λ old. reads-low (t .sig) (t .bound) (k .s) (k .scope) w (t .scoped) (plain .high)) refl)
+        s1 refl put)
 
-      -- what the walk over the others asks
-      pub plain-asks : (len : ℕ) → len ≡ length s
-          → Under (λ sig. ExprsAt sig ws d (n - k) (at + j + k) × Counted sig cs × Names sig s1 c)
-          × (Room (length ws) (at + j + k) to (sp + k) lg len × ScopeRoom (length ws) (at + j + k) to (sp + k) c)
-      plain-asks len e = (
-        record { sig = sig; known = (plain-left .rest, counted, record { bound = bound; scoped = plain-scoped }) },
+    front-left : Rest (n - i) (k .sp + i) s0 (standing (k .at + i) (k .to) (k .lg))
+    front-left = turns i s0 (omega arith) (f .put)
+
+    front-scoped : Scoped (t .sig) (t .bound) s0 (k .scope)
+    front-scoped =
+        let m = f .most in
+        let x = f .inside in
+        let r = g .room in
+        let sr = g .scopeRoom in
+        let len : length (part (k .ws) (k .at) i) ≡ i = length-part (k .ws) (k .at) i (omega arith) in
+        scoped-kept
+        (kept-stack (k .to) (k .to) (k .sp) (k .sp + i) (k .lg) (k .lg) (part (k .ws) (k .at) i) (k .s) (k .cs) s0
+        (omega (arith, r .words)) (omega arith) (omega (arith, r .stack, r .log)) (omega arith) (f .put))
+        (sr .body) (omega (arith, sr .names)) (sr .top) (t .scoped)
+
+  -- what the walk over the others asks
+  pub rest-asks : Under (λ sig. ExprsAt sig (k .ws) d (n - i) (k .at + i) × Counted sig (k .cs) × Names sig s0 (k .scope))
+      × (Room (length (k .ws)) (k .at + i) (k .to) (k .sp + i) (k .lg) (length s0) × ScopeRoom (length (k .ws)) (k .at + i) (k .to) (k .sp + i) (k .scope))
+  rest-asks =
+      let t = g .tree in
+      let r = g .room in
+      let sr = g .scopeRoom in
+      let size = f .size in (
+        record { sig = t .sig; known = (front-left t .rest, t .counted, record { bound = t .bound; scoped = front-scoped t }) },
         (
-          record { words = omega (arith, room .words); stack = omega (arith, room .stack); log = omega (arith, room .log) },
+          record { words = omega (arith, r .words); stack = omega (arith, r .stack); log = omega (arith, r .log) },
           record { few = sr .few; body = sr .body; names = omega (arith, sr .names); top = omega (arith, sr .top) },
         ),
       )
 
-      -- and what it leaves is what walking the whole leaves
-      pub plain-walk : (s2 cs2 : List ℕ) (r : Walk)
-          → ((y : ExprsAt sig ws d (n - k) (at + j + k)) → Scoped sig bound s1 c
-          → Walked (n - k) (OnStack (sp + k) (n - k) lg s2 r) (loweredAll sig bound (y .value) cs) (y .size) (at + j + k) to (sp + k) lg s1 cs s2 cs2 r)
-          → Walked n (OnStack sp n lg s2 r) (loweredAll sig bound (x .value) cs) (x .size) (at + j) to sp lg s cs s2 cs2 r
-      plain-walk s2 cs2 r walk = plain-left .whole s2 cs2 r (walk (plain-left .rest) plain-scoped)
+  -- and what it leaves is what walking the whole row leaves
+  pub row-walked : {s1 cs1 : List ℕ} {a : Walk}
+      → ((sig : Sig) (y : ExprsAt sig (k .ws) d (n - i) (k .at + i)) (bound : List ℕ) → Counted sig (k .cs) → Scoped sig bound s0 (k .scope)
+      → Walked (n - i) (OnStack (k .sp + i) (n - i) (k .lg) s1 a) (loweredAll sig bound (y .value) (k .cs)) (y .size)
+      (k .at + i) (k .to) (k .sp + i) (k .lg) s0 (k .cs) s1 cs1 a)
+      → (t : Tree k (Row k d n))
+      → Walked n (OnStack (k .sp) n (k .lg) s1 a) (loweredAll (t .sig) (t .bound) (t .it .exprs .value) (k .cs)) (t .it .exprs .size)
+      (k .at) (k .to) (k .sp) (k .lg) (k .s) (k .cs) s1 cs1 a
+  row-walked {s1} {cs1} {a} walk t = front-left t .whole s1 cs1 a (walk (t .sig) (front-left t .rest) (t .bound) (t .counted) (front-scoped t))

@@ -1,8 +1,7 @@
 // The actions of the head, one by one. The names let so far lie at the bottom of the stack, so that the stack of an action starts where they
 // end. Each call below an action has used one counter and given one flat action, so that the log also counts the actions.
 use crate::exprs::lower;
-use crate::exprs::lower_all;
-use crate::exprs::lower_plain;
+use crate::exprs::lower_arguments;
 use crate::scope::Scope;
 use crate::scope::may_read;
 use crate::scope::taken;
@@ -120,8 +119,7 @@ pub fn lower_let(
 }
 
 // Set, delete and subsume, and a union of a constructor call and a name: the expressions behind the kind 3 word at `at + 1`, `more` of which it
-// does not count, then one count of its head, then the action `code` of their terms. The literals and globals in front need
-// no walk.
+// does not count, then one count of its head, then the action `code` of their terms.
 pub fn lower_change(
     rule: &[u8],
     at: usize,
@@ -144,17 +142,16 @@ pub fn lower_change(
     let w = octets::get(rule, at + 1);
     let h = (w - walks::HEAD) / walks::LIMIT_16;
     let n = ((w - walks::HEAD) % walks::LIMIT_16) as usize + more;
-    let k = lower_plain(rule, at + 2, n, scope.globals, scratch, sp);
-    let args = lower_all(
+    let args = lower_arguments(
         rule,
-        at + 2 + k,
-        n - k,
+        at + 2,
+        n,
         walks::MAX_DEPTH,
         scope,
         counters,
         scratch,
         to,
-        sp + k,
+        sp,
         log,
     );
     if args.refused != 0 {
@@ -347,17 +344,16 @@ pub fn set_name(
     let w = octets::get(rule, at + 2);
     let h = (w - walks::HEAD) / walks::LIMIT_16;
     let n = ((w - walks::HEAD) % walks::LIMIT_16) as usize;
-    let k = lower_plain(rule, at + 3, n, scope.globals, scratch, sp);
-    let args = lower_all(
+    let args = lower_arguments(
         rule,
-        at + 3 + k,
-        n - k,
+        at + 3,
+        n,
         walks::MAX_DEPTH - 1,
         scope,
         counters,
         scratch,
         to,
-        sp + k,
+        sp,
         log,
     );
     if args.refused != 0 {

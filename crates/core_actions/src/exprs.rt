@@ -134,7 +134,7 @@ pub fn lower(
 }
 
 // Lowers the n expressions from `at` on; their terms go onto the stack.
-pub fn lower_all(
+fn lower_all(
     rule: &[u8],
     at: usize,
     n: usize,
@@ -185,7 +185,7 @@ pub fn lower_all(
 
 // Puts the literals and globals that stand in front of the n expressions at `at` onto the stack, without a walk over each: they may always be
 // read, and are their own terms. Returns how many they are.
-pub fn lower_plain(
+fn lower_plain(
     rule: &[u8],
     at: usize,
     n: usize,
@@ -209,4 +209,40 @@ pub fn lower_plain(
         k += 1;
     }
     k
+}
+
+// Lowers the n expressions from `at` on as `lower_all` does. The literals and globals in front need no walk.
+pub fn lower_arguments(
+    rule: &[u8],
+    at: usize,
+    n: usize,
+    depth: u32,
+    scope: Scope,
+    counters: &mut [u8],
+    scratch: &mut [u8],
+    to: usize,
+    sp: usize,
+    log: usize,
+) -> Walk
+    requires { ⌜ Under (λ sig. ExprsAt sig (words (now rule)) depth n at × Counted sig (words (now counters)) × Names sig (words (now scratch)) scope) ⌝ }
+    requires { ⌜ Room (length (words (now rule))) at to sp log (length (words (now scratch))) ⌝ }
+    requires { ⌜ ScopeRoom (length (words (now rule))) at to sp scope ⌝ }
+    ensures { λ r. ⌜ ((sig : Sig) (x : ExprsAt sig (words (now (rule .entry))) depth n at) (bound : List ℕ)
+        → Counted sig (words (now (counters .entry))) → Scoped sig bound (words (now (scratch .entry))) scope
+        → Walked n (OnStack sp n log (words (now (scratch .exit))) r) (loweredAll sig bound (x .value) (words (now (counters .entry)))) (x .size)
+        at to sp log (words (now (scratch .entry))) (words (now (counters .entry))) (words (now (scratch .exit))) (words (now (counters .exit))) r) ⌝ }
+{
+    let k = lower_plain(rule, at, n, scope.globals, scratch, sp);
+    lower_all(
+        rule,
+        at + k,
+        n - k,
+        depth,
+        scope,
+        counters,
+        scratch,
+        to,
+        sp + k,
+        log,
+    )
 }

@@ -1,9 +1,6 @@
 use mathlib.Core.Path.{refl}
-use borrow.Author.Needs.{needs}
 use Rattle.core_actions.proofs.actions.apart.Statement.{statement}
 use Rattle.core_actions.proofs.actions.apart.Tie as tie
-use Rattle.core_actions.proofs.actions.apart.Reads as reads
-use Rattle.core_actions.proofs.actions.apart.Lts as lts
 
 returns : tie.Need-returns
 returns c = refl

@@ -1,202 +1,81 @@
-use Rattle.rules.specs.Refusals.{usedUp}
-use Prim.Native.Nat.{ℕ, _+_, _-_, _<_}
-use mathlib.Core.Path.{_≡_, refl, sym, _∙_}
+-- Set, delete and subsume: the expressions are lowered onto the stack, so that behind one count of the head the action's words are its code, its kind 3
+-- word and the terms that lie there; a refusal of either step is the action's own. Assumes nothing.
+use Prim.Native.Nat.{ℕ, _+_}
+use mathlib.Core.Path.{_≡_, refl, _∙_}
 use native.Mathlib.Omega.{arith}
 use lib.ListN.{length, getD}
 use Rattle.octets.specs.Words.{words}
 use Rattle.octets.proofs.Words.{length-words, length-words-kept}
-use mathlib.Core.Path.{subst}
-use Rattle.rules.specs.Signature.{heads}
-use Rattle.core_actions.proofs.Acting.{exprs-of, change-facts, change-stop, change-room, change-full, change-done}
-use Rattle.rules.specs.Words.{maxDepth, headOf, countOf}
-use Rattle.core_actions.proofs.Plain.{plain-room, plain-most, plain-asks, plain-walk}
+use Rattle.rules.specs.Words.{maxDepth, countOf}
+use Rattle.core_actions.specs.Acts.{ChangeAt}
+use Rattle.core_actions.proofs.Sites.{Site, site-of, given, given-as}
+use Rattle.core_actions.proofs.Changes.{exprs-ask, Argued, argued, Fine, is-fine, Used}
+use Rattle.core_actions.proofs.Changes.{change-at, Changing, change-refused, change-full, change-done}
 use borrow.Author.Needs.{needs}
 use Rattle.core_actions.proofs.actions.lower_change.Statement.{statement}
 use Rattle.core_actions.proofs.actions.lower_change.Tie as tie
-use Rattle.core_actions.proofs.actions.lower_change.Reads as reads
-use Rattle.core_actions.proofs.actions.lower_change.Lts as lts
-use Rattle.core_actions.proofs.exprs.lower_all.Reads as lower-all-reads
-use Rattle.core_actions.proofs.exprs.lower_plain.Reads as lower-plain-reads
-use Rattle.octets.proofs.get.Reads as get-reads
-use Rattle.octets.proofs.rows.put_terms.Reads as put-terms-reads
-use Rattle.walks.proofs.take.Reads as take-reads
+
+-- ---- the kind 3 word
+
+abbrev site : tie.Start → Site
+site c = let a = c .args in site-of (words (a .rule .now)) (words (a .scratch .now)) (words (a .counters .now)) (a .at) (a .to) (a .sp) (a .log) (a .scope)
+
+at-start : (c : tie.Start) (w : ℕ) → w ≡ getD (words (c .args .rule .now)) (c .args .at + 1) 0 → Changing (site c) (c .args .code) (c .args .more) w
+at-start c w is =
+    let k = site c in
+    record {
+      given =
+          given-as
+          (given {X = λ sig. ChangeAt sig (k .ws) (c .args .more) (k .at)} (c .pre .0) (c .pre .1 .0) (c .pre .1 .1 .0)
+          (omega (arith, length-words (c .args .rule .now), c .good)) (omega (arith, length-words (c .args .scratch .now), c .good)))
+          (change-at is);
+      is = is;
+      few = c .pre .1 .1 .1;
+    }
 
 add-get : tie.Need-add-get
-add-get c =
-    let a = c .before .before .before .args in
-    let ws = words (a .rule .now) in
-    let cs = words (a .counters .now) in
-    let s = words (a .scratch .now) in
-    let q = c .before .before .before .pre .0 in
-    let room = c .before .before .before .pre .1 .0 in
-    let sr = c .before .before .before .pre .1 .1 .0 in
-    let x = q .known .0 in
-    let i = x .exprs .inside in
-    omega (arith, length-words (a .rule .now), c .before .before .before .good)
+add-get c = omega (arith, at-start (c .before .before .before) _ refl .given)
 
 get-requires : tie.Need-get-requires
-get-requires c κs =
-    let a = c .before .before .before .args in
-    let ws = words (a .rule .now) in
-    let cs = words (a .counters .now) in
-    let s = words (a .scratch .now) in
-    let q = c .before .before .before .pre .0 in
-    let room = c .before .before .before .pre .1 .0 in
-    let sr = c .before .before .before .pre .1 .1 .0 in
-    let x = q .known .0 in
-    let i = x .exprs .inside in
-    omega arith
+get-requires c κs = omega (arith, at-start (c .before .before .before) _ refl .given)
+
+abbrev start : tie.After-get → tie.Start
+start c = c .before .before .before .before
+
+at-get : (c : tie.After-get) → Changing (site (start c)) (start c .args .code) (start c .args .more) (c .get .result)
+at-get c = at-start (start c) _ (c .get .ensures .is)
 
 sub-h : tie.Need-sub-h
-sub-h c =
-    let a = c .before .before .before .before .args in
-    let ws = words (a .rule .now) in
-    let cs = words (a .counters .now) in
-    let s = words (a .scratch .now) in
-    let q = c .before .before .before .before .pre .0 in
-    let room = c .before .before .before .before .pre .1 .0 in
-    let sr = c .before .before .before .before .pre .1 .1 .0 in
-    let w = c .get .result in
-    let is : w ≡ getD ws (a .at + 1) 0 = c .get .ensures .is in
-    let f = change-facts (q .sig) (q .known .2 .bound) ws (a .code) (a .more) (a .at) (a .to) (a .sp) (a .log) s cs (q .known .0) w is room (length s) refl in
-    omega (arith, f .high)
+sub-h c = at-get c .given .tree .it .high
 
 sub-n : tie.Need-sub-n
-sub-n c =
-    let a = c .before .before .before .before .args in
-    let ws = words (a .rule .now) in
-    let cs = words (a .counters .now) in
-    let s = words (a .scratch .now) in
-    let q = c .before .before .before .before .pre .0 in
-    let room = c .before .before .before .before .pre .1 .0 in
-    let sr = c .before .before .before .before .pre .1 .1 .0 in
-    let w = c .get .result in
-    let is : w ≡ getD ws (a .at + 1) 0 = c .get .ensures .is in
-    let f = change-facts (q .sig) (q .known .2 .bound) ws (a .code) (a .more) (a .at) (a .to) (a .sp) (a .log) s cs (q .known .0) w is room (length s) refl in
-    omega (arith, f .high)
+sub-n c = at-get c .given .tree .it .high
 
 cast-n : tie.Need-cast-n
 cast-n c = search needs
 
 add-n : tie.Need-add-n
-add-n c =
-    let a = c .before .before .before .before .args in
-    let ws = words (a .rule .now) in
-    let cs = words (a .counters .now) in
-    let s = words (a .scratch .now) in
-    let q = c .before .before .before .before .pre .0 in
-    let room = c .before .before .before .before .pre .1 .0 in
-    let sr = c .before .before .before .before .pre .1 .1 .0 in
-    omega (arith, c .before .before .before .before .pre .1 .1 .1)
+add-n c = omega (arith, at-get c .few)
 
-add-lower-plain : tie.Need-add-lower-plain
-add-lower-plain c =
-    let a = c .before .before .before .before .args in
-    let ws = words (a .rule .now) in
-    let cs = words (a .counters .now) in
-    let s = words (a .scratch .now) in
-    let q = c .before .before .before .before .pre .0 in
-    let room = c .before .before .before .before .pre .1 .0 in
-    let sr = c .before .before .before .before .pre .1 .1 .0 in
-    let x = q .known .0 in
-    let i = x .exprs .inside in
-    omega (arith, length-words (a .rule .now), c .before .before .before .before .good)
+add-lower-arguments : tie.Need-add-lower-arguments
+add-lower-arguments c = omega (arith, at-get c .given)
 
-lower-plain-requires : tie.Need-lower-plain-requires
-lower-plain-requires c κs =
-    let a = c .before .before .before .before .before .args in
-    let ws = words (a .rule .now) in
-    let cs = words (a .counters .now) in
-    let s = words (a .scratch .now) in
-    let q = c .before .before .before .before .before .pre .0 in
-    let room = c .before .before .before .before .before .pre .1 .0 in
-    let sr = c .before .before .before .before .before .pre .1 .1 .0 in
-    let w = c .before .get .result in
-    let is : w ≡ getD ws (a .at + 1) 0 = c .before .get .ensures .is in
-    let es = exprs-of (q .sig) (q .known .2 .bound) ws (a .code) (a .more) (a .at) (a .to) (a .sp) (a .log) s cs (q .known .0) w is room in
-    plain-room (q .sig) (q .known .2 .bound) ws maxDepth (countOf w + a .more) (a .at) 2 (a .to) (a .sp) (a .log) (a .scope) s cs es (q .known .1) (q .known .2 .scoped) room sr (length s) refl
+lower-arguments-requires : tie.Need-lower-arguments-requires
+lower-arguments-requires c κs = exprs-ask (at-get (c .before .before) .given)
 
-add-lower-all : tie.Need-add-lower-all
-add-lower-all c =
-    let a = c .before .before .before .before .before .before .before .before .args in
-    let ws = words (a .rule .now) in
-    let cs = words (a .counters .now) in
-    let s = words (a .scratch .now) in
-    let q = c .before .before .before .before .before .before .before .before .pre .0 in
-    let room = c .before .before .before .before .before .before .before .before .pre .1 .0 in
-    let sr = c .before .before .before .before .before .before .before .before .pre .1 .1 .0 in
-    let w = c .before .before .before .before .get .result in
-    let is : w ≡ getD ws (a .at + 1) 0 = c .before .before .before .before .get .ensures .is in
-    let es = exprs-of (q .sig) (q .known .2 .bound) ws (a .code) (a .more) (a .at) (a .to) (a .sp) (a .log) s cs (q .known .0) w is room in
-    let i = plain-room (q .sig) (q .known .2 .bound) ws maxDepth (countOf w + a .more) (a .at) 2 (a .to) (a .sp) (a .log) (a .scope) s cs es (q .known .1) (q .known .2 .scoped) room sr (length s) refl in
-    omega (arith, i .0, length-words (a .rule .now), c .before .before .before .before .before .before .before .before .good)
+-- ---- the expressions
 
-add-lower-all-2 : tie.Need-add-lower-all-2
-add-lower-all-2 c =
-    let a = c .before .before .before .before .before .before .before .before .args in
-    let ws = words (a .rule .now) in
-    let cs = words (a .counters .now) in
-    let s = words (a .scratch .now) in
-    let q = c .before .before .before .before .before .before .before .before .pre .0 in
-    let room = c .before .before .before .before .before .before .before .before .pre .1 .0 in
-    let sr = c .before .before .before .before .before .before .before .before .pre .1 .1 .0 in
-    let w = c .before .before .before .before .get .result in
-    let is : w ≡ getD ws (a .at + 1) 0 = c .before .before .before .before .get .ensures .is in
-    let es = exprs-of (q .sig) (q .known .2 .bound) ws (a .code) (a .more) (a .at) (a .to) (a .sp) (a .log) s cs (q .known .0) w is room in
-    let i = plain-room (q .sig) (q .known .2 .bound) ws maxDepth (countOf w + a .more) (a .at) 2 (a .to) (a .sp) (a .log) (a .scope) s cs es (q .known .1) (q .known .2 .scoped) room sr (length s) refl in
-    let front = c .before .before .lower-plain in
-    let m = plain-most (q .sig) (q .known .2 .bound) ws maxDepth (countOf w + a .more) (a .at) 2 (a .to) (a .sp) (a .log) (a .scope) s cs es (q .known .1) (q .known .2 .scoped) room (front .result) (front .ensures .0) in
-    omega (arith, i .0, length-words (a .rule .now), c .before .before .before .before .before .before .before .before .good)
+abbrev args-get : tie.After-lower-arguments → tie.After-get
+args-get c = c .before .before .before
 
-sub-lower-all : tie.Need-sub-lower-all
-sub-lower-all c =
-    let a = c .before .before .before .before .before .before .before .before .args in
-    let ws = words (a .rule .now) in
-    let cs = words (a .counters .now) in
-    let s = words (a .scratch .now) in
-    let q = c .before .before .before .before .before .before .before .before .pre .0 in
-    let room = c .before .before .before .before .before .before .before .before .pre .1 .0 in
-    let sr = c .before .before .before .before .before .before .before .before .pre .1 .1 .0 in
-    let w = c .before .before .before .before .get .result in
-    let is : w ≡ getD ws (a .at + 1) 0 = c .before .before .before .before .get .ensures .is in
-    let es = exprs-of (q .sig) (q .known .2 .bound) ws (a .code) (a .more) (a .at) (a .to) (a .sp) (a .log) s cs (q .known .0) w is room in
-    let front = c .before .before .lower-plain in
-    let m = plain-most (q .sig) (q .known .2 .bound) ws maxDepth (countOf w + a .more) (a .at) 2 (a .to) (a .sp) (a .log) (a .scope) s cs es (q .known .1) (q .known .2 .scoped) room (front .result) (front .ensures .0) in
-    m
-
-add-lower-all-3 : tie.Need-add-lower-all-3
-add-lower-all-3 c =
-    let a = c .before .before .before .before .before .before .before .before .before .before .args in
-    let ws = words (a .rule .now) in
-    let cs = words (a .counters .now) in
-    let s = words (a .scratch .now) in
-    let q = c .before .before .before .before .before .before .before .before .before .before .pre .0 in
-    let room = c .before .before .before .before .before .before .before .before .before .before .pre .1 .0 in
-    let sr = c .before .before .before .before .before .before .before .before .before .before .pre .1 .1 .0 in
-    let w = c .before .before .before .before .before .before .get .result in
-    let is : w ≡ getD ws (a .at + 1) 0 = c .before .before .before .before .before .before .get .ensures .is in
-    let es = exprs-of (q .sig) (q .known .2 .bound) ws (a .code) (a .more) (a .at) (a .to) (a .sp) (a .log) s cs (q .known .0) w is room in
-    let i = plain-room (q .sig) (q .known .2 .bound) ws maxDepth (countOf w + a .more) (a .at) 2 (a .to) (a .sp) (a .log) (a .scope) s cs es (q .known .1) (q .known .2 .scoped) room sr (length s) refl in
-    let front = c .before .before .before .before .lower-plain in
-    let m = plain-most (q .sig) (q .known .2 .bound) ws maxDepth (countOf w + a .more) (a .at) 2 (a .to) (a .sp) (a .log) (a .scope) s cs es (q .known .1) (q .known .2 .scoped) room (front .result) (front .ensures .0) in
-    omega (arith, i .1, length-words (a .scratch .now), c .before .before .before .before .before .before .before .before .before .before .good)
-
-lower-all-requires : tie.Need-lower-all-requires
-lower-all-requires c κs =
-    let a = c .before .before .before .before .before .before .before .before .before .before .args in
-    let ws = words (a .rule .now) in
-    let cs = words (a .counters .now) in
-    let s = words (a .scratch .now) in
-    let q = c .before .before .before .before .before .before .before .before .before .before .pre .0 in
-    let room = c .before .before .before .before .before .before .before .before .before .before .pre .1 .0 in
-    let sr = c .before .before .before .before .before .before .before .before .before .before .pre .1 .1 .0 in
-    let w = c .before .before .before .before .before .before .get .result in
-    let is : w ≡ getD ws (a .at + 1) 0 = c .before .before .before .before .before .before .get .ensures .is in
-    let es = exprs-of (q .sig) (q .known .2 .bound) ws (a .code) (a .more) (a .at) (a .to) (a .sp) (a .log) s cs (q .known .0) w is room in
-    let front = c .before .before .before .before .lower-plain in
-    let s0 = words (front .last .1 .1 .1 .1 .0) in
-    let hs : length s0 ≡ length s = length-words-kept (front .last .1 .1 .1 .1 .0) (a .scratch .now) (front .kept .1 .1 .1 .1 .0) in
-    plain-asks (q .sig) (q .known .2 .bound) ws maxDepth (countOf w + a .more) (a .at) 2 (a .to) (a .sp) (a .log) (a .scope) s cs es (q .known .1) (q .known .2 .scoped) room (front .result) (front .ensures .0) sr s0 (front .ensures .1) (length s0) hs
+at-args : (c : tie.After-lower-arguments)
+    → let a = c .lower-arguments in
+    let w = args-get c .get .result in
+    Argued (site (start (args-get c))) 2 maxDepth (countOf w + start (args-get c) .args .more) w
+    (words (a .last .1 .1 .1 .1 .1 .1 .0)) (words (a .last .1 .1 .1 .1 .1 .0)) (a .result)
+at-args c =
+    let a = c .lower-arguments in
+    argued (at-get (args-get c) .given) (length-words-kept _ _ (a .kept .1 .1 .1 .1 .1 .1 .0)) (length-words-kept _ _ (a .kept .1 .1 .1 .1 .1 .0)) (a .ensures)
 
 same-length : tie.Need-same-length
 same-length c = search needs
@@ -206,211 +85,95 @@ same-length-2 c = search needs
 
 returns : tie.Need-returns
 returns c =
-    let a = c .before .before .before .before .before .before .before .before .before .before .before .before .before .before .before .before .before .args in
-    let ws = words (a .rule .now) in
-    let cs = words (a .counters .now) in
-    let s = words (a .scratch .now) in
-    let q = c .before .before .before .before .before .before .before .before .before .before .before .before .before .before .before .before .before .pre .0 in
-    let room = c .before .before .before .before .before .before .before .before .before .before .before .before .before .before .before .before .before .pre .1 .0 in
-    let sr = c .before .before .before .before .before .before .before .before .before .before .before .before .before .before .before .before .before .pre .1 .1 .0 in
-    let w = c .before .before .before .before .before .before .before .before .before .before .before .before .before .get .result in
-    let is : w ≡ getD ws (a .at + 1) 0 = c .before .before .before .before .before .before .before .before .before .before .before .before .before .get .ensures .is in
-    let front = c .before .before .before .before .before .before .before .before .before .before .before .lower-plain in
-    let s0 = words (front .last .1 .1 .1 .1 .0) in
-    let k = c .before .before .before .before .before .before .lower-all in
-    let s1 = words (k .last .1 .1 .1 .1 .1 .1 .0) in
-    let cs1 = words (k .last .1 .1 .1 .1 .1 .0) in
-    let hc : length cs1 ≡ length cs = length-words-kept (k .last .1 .1 .1 .1 .1 .0) (a .counters .now) (k .kept .1 .1 .1 .1 .1 .0) in
-    let hs : length s1 ≡ length s = length-words-kept (k .last .1 .1 .1 .1 .1 .1 .0) (a .scratch .now) (k .kept .1 .1 .1 .1 .1 .1 .0 ∙ front .kept .1 .1 .1 .1 .0) in
-    (refl, λ sig x bound n sc. change-stop sig bound ws (a .code) (a .more) (a .at) (a .to) (a .sp) (a .log) s cs x w is room s1 cs1 (k .result) (plain-walk sig bound ws maxDepth (countOf w + a .more) (a .at) 2 (a .to) (a .sp) (a .log) (a .scope) s cs (exprs-of sig bound ws (a .code) (a .more) (a .at) (a .to) (a .sp) (a .log) s cs x w is room) n sc room (front .result) (front .ensures .0) sr s0 (front .ensures .1) s1 cs1 (k .result) (λ y t. k .ensures sig y bound n t)) (record { walk = k .result; names = 0; count = 0 }) refl (c .if1 .taken))
+    let a = c .before .before .before .before .before .before in
+    change-refused (at-get (args-get a)) (at-args a) (c .if1 .taken)
+
+-- ---- they are fine, and a fresh variable is taken
+
+abbrev else-args : tie.Else1 → tie.After-lower-arguments
+else-args c = c .before .before .before .before .before .before
+
+at-else : (c : tie.Else1) → Fine (at-args (else-args c))
+at-else c = is-fine (at-args (else-args c)) (omega arith) (c .if1 .left)
 
 take-requires : tie.Need-take-requires
 take-requires c κs =
-    let a = c .before .before .before .before .before .before .before .before .before .before .before .before .before .before .before .before .before .before .before .args in
-    let ws = words (a .rule .now) in
-    let cs = words (a .counters .now) in
-    let s = words (a .scratch .now) in
-    let q = c .before .before .before .before .before .before .before .before .before .before .before .before .before .before .before .before .before .before .before .pre .0 in
-    let room = c .before .before .before .before .before .before .before .before .before .before .before .before .before .before .before .before .before .before .before .pre .1 .0 in
-    let sr = c .before .before .before .before .before .before .before .before .before .before .before .before .before .before .before .before .before .before .before .pre .1 .1 .0 in
-    let w = c .before .before .before .before .before .before .before .before .before .before .before .before .before .before .before .get .result in
-    let is : w ≡ getD ws (a .at + 1) 0 = c .before .before .before .before .before .before .before .before .before .before .before .before .before .before .before .get .ensures .is in
-    let front = c .before .before .before .before .before .before .before .before .before .before .before .before .before .lower-plain in
-    let s0 = words (front .last .1 .1 .1 .1 .0) in
-    let k = c .before .before .before .before .before .before .before .before .lower-all in
-    let s1 = words (k .last .1 .1 .1 .1 .1 .1 .0) in
-    let cs1 = words (k .last .1 .1 .1 .1 .1 .0) in
-    let hc : length cs1 ≡ length cs = length-words-kept (k .last .1 .1 .1 .1 .1 .0) (a .counters .now) (k .kept .1 .1 .1 .1 .1 .0) in
-    let hs : length s1 ≡ length s = length-words-kept (k .last .1 .1 .1 .1 .1 .1 .0) (a .scratch .now) (k .kept .1 .1 .1 .1 .1 .1 .0 ∙ front .kept .1 .1 .1 .1 .0) in
-    let r = change-room (q .sig) (q .known .2 .bound) ws (a .code) (a .more) (a .at) (a .to) (a .sp) (a .log) s cs (q .known .0) w is room s1 cs1 (k .result) (plain-walk (q .sig) (q .known .2 .bound) ws maxDepth (countOf w + a .more) (a .at) 2 (a .to) (a .sp) (a .log) (a .scope) s cs (exprs-of (q .sig) (q .known .2 .bound) ws (a .code) (a .more) (a .at) (a .to) (a .sp) (a .log) s cs (q .known .0) w is room) (q .known .1) (q .known .2 .scoped) room (front .result) (front .ensures .0) sr s0 (front .ensures .1) s1 cs1 (k .result) (λ y t. k .ensures (q .sig) y (q .known .2 .bound) (q .known .1) t)) (c .before .before .if1 .left) (length s1) hs in
-    let few = q .known .1 .few in
-    let fits = q .known .1 .fits in
-    let h : headOf w < heads (q .sig) = subst (λ (u : ℕ). headOf u < heads (q .sig)) (sym is) (q .known .0 .head) in
-    (omega arith, omega arith, r .1)
+    let f = at-else (c .before .before) in
+    (f .head, f .counter, f .log)
 
-add-t35 : tie.Need-add-t35
-add-t35 c =
-    let a = c .before .before .before .before .before .before .before .before .before .before .before .before .before .before .before .before .before .before .before .before .before .before .before .before .before .args in
-    let ws = words (a .rule .now) in
-    let cs = words (a .counters .now) in
-    let s = words (a .scratch .now) in
-    let q = c .before .before .before .before .before .before .before .before .before .before .before .before .before .before .before .before .before .before .before .before .before .before .before .before .before .pre .0 in
-    let room = c .before .before .before .before .before .before .before .before .before .before .before .before .before .before .before .before .before .before .before .before .before .before .before .before .before .pre .1 .0 in
-    let sr = c .before .before .before .before .before .before .before .before .before .before .before .before .before .before .before .before .before .before .before .before .before .before .before .before .before .pre .1 .1 .0 in
-    let x = q .known .0 in
-    let i = x .exprs .inside in
-    omega (arith, length-words (a .rule .now), c .before .before .before .before .before .before .before .before .before .before .before .before .before .before .before .before .before .before .before .before .before .before .before .before .before .good)
+abbrev take-else : tie.After-take → tie.Else1
+take-else c = c .before .before .before
+
+at-take : (c : tie.After-take)
+    → let a = else-args (take-else c) .lower-arguments in
+    Used (args-get (else-args (take-else c)) .get .result) (a .result .log) (words (a .last .1 .1 .1 .1 .1 .1 .0)) (words (a .last .1 .1 .1 .1 .1 .0))
+    (words (c .take .last .1 .0)) (words (c .take .last .0)) (c .take .result)
+at-take c =
+    let t = c .take in
+    record { taken = t .ensures; size = length-words-kept _ _ (t .kept .1 .0); counters = length-words-kept _ _ (t .kept .0) }
+
+-- both slices are as long as at the start
+counters-kept : (c : tie.After-take) → length (c .take .last .0) ≡ length (start (args-get (else-args (take-else c))) .args .counters .now)
+counters-kept c = c .take .kept .0 ∙ else-args (take-else c) .lower-arguments .kept .1 .1 .1 .1 .1 .0
+
+scratch-kept : (c : tie.After-take) → length (c .take .last .1 .0) ≡ length (start (args-get (else-args (take-else c))) .args .scratch .now)
+scratch-kept c = c .take .kept .1 .0 ∙ else-args (take-else c) .lower-arguments .kept .1 .1 .1 .1 .1 .1 .0
+
+-- ---- none is left
+
+abbrev then-take : tie.Then2 → tie.After-take
+then-take c = c .before .before .before .before .before
+
+add-t29 : tie.Need-add-t29
+add-t29 c = omega (arith, at-else (take-else (then-take c)))
 
 same-length-3 : tie.Need-same-length-3
-same-length-3 c = c .before .before .before .before .before .take .kept .0 ∙ c .before .before .before .before .before .before .before .before .before .before .before .before .before .before .lower-all .kept .1 .1 .1 .1 .1 .0
+same-length-3 c = counters-kept (then-take c)
 
 same-length-4 : tie.Need-same-length-4
-same-length-4 c = c .before .before .before .before .before .take .kept .1 .0 ∙ c .before .before .before .before .before .before .before .before .before .before .before .before .before .before .lower-all .kept .1 .1 .1 .1 .1 .1 .0 ∙ c .before .before .before .before .before .before .before .before .before .before .before .before .before .before .before .before .before .before .before .lower-plain .kept .1 .1 .1 .1 .0
+same-length-4 c = scratch-kept (then-take c)
 
 returns-2 : tie.Need-returns-2
 returns-2 c =
-    let a = c .before .before .before .before .before .before .before .before .before .before .before .before .before .before .before .before .before .before .before .before .before .before .before .before .before .args in
-    let ws = words (a .rule .now) in
-    let cs = words (a .counters .now) in
-    let s = words (a .scratch .now) in
-    let q = c .before .before .before .before .before .before .before .before .before .before .before .before .before .before .before .before .before .before .before .before .before .before .before .before .before .pre .0 in
-    let room = c .before .before .before .before .before .before .before .before .before .before .before .before .before .before .before .before .before .before .before .before .before .before .before .before .before .pre .1 .0 in
-    let sr = c .before .before .before .before .before .before .before .before .before .before .before .before .before .before .before .before .before .before .before .before .before .before .before .before .before .pre .1 .1 .0 in
-    let w = c .before .before .before .before .before .before .before .before .before .before .before .before .before .before .before .before .before .before .before .before .before .get .result in
-    let is : w ≡ getD ws (a .at + 1) 0 = c .before .before .before .before .before .before .before .before .before .before .before .before .before .before .before .before .before .before .before .before .before .get .ensures .is in
-    let front = c .before .before .before .before .before .before .before .before .before .before .before .before .before .before .before .before .before .before .before .lower-plain in
-    let s0 = words (front .last .1 .1 .1 .1 .0) in
-    let k = c .before .before .before .before .before .before .before .before .before .before .before .before .before .before .lower-all in
-    let s1 = words (k .last .1 .1 .1 .1 .1 .1 .0) in
-    let cs1 = words (k .last .1 .1 .1 .1 .1 .0) in
-    let hc : length cs1 ≡ length cs = length-words-kept (k .last .1 .1 .1 .1 .1 .0) (a .counters .now) (k .kept .1 .1 .1 .1 .1 .0) in
-    let hs : length s1 ≡ length s = length-words-kept (k .last .1 .1 .1 .1 .1 .1 .0) (a .scratch .now) (k .kept .1 .1 .1 .1 .1 .1 .0 ∙ front .kept .1 .1 .1 .1 .0) in
-    let t = c .before .before .before .before .before .take in
-    let s2 = words (t .last .1 .0) in
-    let cs2 = words (t .last .0) in
-    let hc2 : length cs2 ≡ length cs1 = length-words-kept (t .last .0) _ (t .kept .0) in
-    let hs2 : length s2 ≡ length s = length-words-kept (t .last .1 .0) _ (t .kept .1 .0) ∙ hs in
-    (refl, λ sig x bound n sc. change-full sig bound ws (a .code) (a .more) (a .at) (a .to) (a .sp) (a .log) s cs x w is room s1 cs1 (k .result) (plain-walk sig bound ws maxDepth (countOf w + a .more) (a .at) 2 (a .to) (a .sp) (a .log) (a .scope) s cs (exprs-of sig bound ws (a .code) (a .more) (a .at) (a .to) (a .sp) (a .log) s cs x w is room) n sc room (front .result) (front .ensures .0) sr s0 (front .ensures .1) s1 cs1 (k .result) (λ y t. k .ensures sig y bound n t)) (c .before .before .before .before .before .before .before .before .if1 .left) (t .result) s2 cs2 (t .ensures) (record { walk = record { next = a .at + 1; to = k .result .to; log = k .result .log; term = 0; refused = usedUp }; names = 0; count = 0 }) (c .if2 .taken) refl)
+    let t = then-take c in
+    let a = else-args (take-else t) in
+    change-full (at-get (args-get a)) (at-args a) (take-else t .if1 .left) (at-take t) (c .if2 .taken)
+
+-- ---- the action is written
+
+abbrev else-take : tie.Else2 → tie.After-take
+else-take c = c .before .before .before .before .before
+
+abbrev put-else : tie.After-put-terms → tie.Else2
+put-else c = c .before .before
 
 put-terms-requires : tie.Need-put-terms-requires
 put-terms-requires c κs =
-    let a = c .before .before .before .before .before .before .before .before .before .before .before .before .before .before .before .before .before .before .before .before .before .before .before .before .before .before .args in
-    let ws = words (a .rule .now) in
-    let cs = words (a .counters .now) in
-    let s = words (a .scratch .now) in
-    let q = c .before .before .before .before .before .before .before .before .before .before .before .before .before .before .before .before .before .before .before .before .before .before .before .before .before .before .pre .0 in
-    let room = c .before .before .before .before .before .before .before .before .before .before .before .before .before .before .before .before .before .before .before .before .before .before .before .before .before .before .pre .1 .0 in
-    let sr = c .before .before .before .before .before .before .before .before .before .before .before .before .before .before .before .before .before .before .before .before .before .before .before .before .before .before .pre .1 .1 .0 in
-    let w = c .before .before .before .before .before .before .before .before .before .before .before .before .before .before .before .before .before .before .before .before .before .before .get .result in
-    let is : w ≡ getD ws (a .at + 1) 0 = c .before .before .before .before .before .before .before .before .before .before .before .before .before .before .before .before .before .before .before .before .before .before .get .ensures .is in
-    let front = c .before .before .before .before .before .before .before .before .before .before .before .before .before .before .before .before .before .before .before .before .lower-plain in
-    let s0 = words (front .last .1 .1 .1 .1 .0) in
-    let k = c .before .before .before .before .before .before .before .before .before .before .before .before .before .before .before .lower-all in
-    let s1 = words (k .last .1 .1 .1 .1 .1 .1 .0) in
-    let cs1 = words (k .last .1 .1 .1 .1 .1 .0) in
-    let hc : length cs1 ≡ length cs = length-words-kept (k .last .1 .1 .1 .1 .1 .0) (a .counters .now) (k .kept .1 .1 .1 .1 .1 .0) in
-    let hs : length s1 ≡ length s = length-words-kept (k .last .1 .1 .1 .1 .1 .1 .0) (a .scratch .now) (k .kept .1 .1 .1 .1 .1 .1 .0 ∙ front .kept .1 .1 .1 .1 .0) in
-    let t = c .before .before .before .before .before .before .take in
-    let s2 = words (t .last .1 .0) in
-    let cs2 = words (t .last .0) in
-    let hc2 : length cs2 ≡ length cs1 = length-words-kept (t .last .0) _ (t .kept .0) in
-    let hs2 : length s2 ≡ length s = length-words-kept (t .last .1 .0) _ (t .kept .1 .0) ∙ hs in
-    let r = change-room (q .sig) (q .known .2 .bound) ws (a .code) (a .more) (a .at) (a .to) (a .sp) (a .log) s cs (q .known .0) w is room s1 cs1 (k .result) (plain-walk (q .sig) (q .known .2 .bound) ws maxDepth (countOf w + a .more) (a .at) 2 (a .to) (a .sp) (a .log) (a .scope) s cs (exprs-of (q .sig) (q .known .2 .bound) ws (a .code) (a .more) (a .at) (a .to) (a .sp) (a .log) s cs (q .known .0) w is room) (q .known .1) (q .known .2 .scoped) room (front .result) (front .ensures .0) sr s0 (front .ensures .1) s1 cs1 (k .result) (λ y t. k .ensures (q .sig) y (q .known .2 .bound) (q .known .1) t)) (c .before .before .before .before .before .before .before .before .before .if1 .left) (length s2) hs2 in
-    (r .2, r .3)
+    let t = else-take (c .before) in
+    let f = at-else (take-else t) in
+    (f .words, omega (arith, f .stack, at-take t .size))
 
-add-t18 : tie.Need-add-t18
-add-t18 c =
-    let a = c .before .before .before .before .before .before .before .before .before .before .before .before .before .before .before .before .before .before .before .before .before .before .before .before .before .before .before .before .before .before .args in
-    let ws = words (a .rule .now) in
-    let cs = words (a .counters .now) in
-    let s = words (a .scratch .now) in
-    let q = c .before .before .before .before .before .before .before .before .before .before .before .before .before .before .before .before .before .before .before .before .before .before .before .before .before .before .before .before .before .before .pre .0 in
-    let room = c .before .before .before .before .before .before .before .before .before .before .before .before .before .before .before .before .before .before .before .before .before .before .before .before .before .before .before .before .before .before .pre .1 .0 in
-    let sr = c .before .before .before .before .before .before .before .before .before .before .before .before .before .before .before .before .before .before .before .before .before .before .before .before .before .before .before .before .before .before .pre .1 .1 .0 in
-    let w = c .before .before .before .before .before .before .before .before .before .before .before .before .before .before .before .before .before .before .before .before .before .before .before .before .before .before .get .result in
-    let is : w ≡ getD ws (a .at + 1) 0 = c .before .before .before .before .before .before .before .before .before .before .before .before .before .before .before .before .before .before .before .before .before .before .before .before .before .before .get .ensures .is in
-    let front = c .before .before .before .before .before .before .before .before .before .before .before .before .before .before .before .before .before .before .before .before .before .before .before .before .lower-plain in
-    let s0 = words (front .last .1 .1 .1 .1 .0) in
-    let k = c .before .before .before .before .before .before .before .before .before .before .before .before .before .before .before .before .before .before .before .lower-all in
-    let s1 = words (k .last .1 .1 .1 .1 .1 .1 .0) in
-    let cs1 = words (k .last .1 .1 .1 .1 .1 .0) in
-    let hc : length cs1 ≡ length cs = length-words-kept (k .last .1 .1 .1 .1 .1 .0) (a .counters .now) (k .kept .1 .1 .1 .1 .1 .0) in
-    let hs : length s1 ≡ length s = length-words-kept (k .last .1 .1 .1 .1 .1 .1 .0) (a .scratch .now) (k .kept .1 .1 .1 .1 .1 .1 .0 ∙ front .kept .1 .1 .1 .1 .0) in
-    let r = change-room (q .sig) (q .known .2 .bound) ws (a .code) (a .more) (a .at) (a .to) (a .sp) (a .log) s cs (q .known .0) w is room s1 cs1 (k .result) (plain-walk (q .sig) (q .known .2 .bound) ws maxDepth (countOf w + a .more) (a .at) 2 (a .to) (a .sp) (a .log) (a .scope) s cs (exprs-of (q .sig) (q .known .2 .bound) ws (a .code) (a .more) (a .at) (a .to) (a .sp) (a .log) s cs (q .known .0) w is room) (q .known .1) (q .known .2 .scoped) room (front .result) (front .ensures .0) sr s0 (front .ensures .1) s1 cs1 (k .result) (λ y t. k .ensures (q .sig) y (q .known .2 .bound) (q .known .1) t)) (c .before .before .before .before .before .before .before .before .before .before .before .before .before .if1 .left) (length s1) hs in
-    omega (arith, r .1, hs, length-words (a .scratch .now), c .before .before .before .before .before .before .before .before .before .before .before .before .before .before .before .before .before .before .before .before .before .before .before .before .before .before .before .before .before .before .good)
+add-t17 : tie.Need-add-t17
+add-t17 c = omega (arith, at-else (take-else (else-take (put-else (c .before .before .before)))))
 
-sub-t23 : tie.Need-sub-t23
-sub-t23 c =
-    let a = c .before .before .before .before .before .before .before .before .before .before .before .before .before .before .before .before .before .before .before .before .before .before .before .before .before .before .before .before .before .before .before .args in
-    let ws = words (a .rule .now) in
-    let cs = words (a .counters .now) in
-    let s = words (a .scratch .now) in
-    let q = c .before .before .before .before .before .before .before .before .before .before .before .before .before .before .before .before .before .before .before .before .before .before .before .before .before .before .before .before .before .before .before .pre .0 in
-    let room = c .before .before .before .before .before .before .before .before .before .before .before .before .before .before .before .before .before .before .before .before .before .before .before .before .before .before .before .before .before .before .before .pre .1 .0 in
-    let sr = c .before .before .before .before .before .before .before .before .before .before .before .before .before .before .before .before .before .before .before .before .before .before .before .before .before .before .before .before .before .before .before .pre .1 .1 .0 in
-    let w = c .before .before .before .before .before .before .before .before .before .before .before .before .before .before .before .before .before .before .before .before .before .before .before .before .before .before .before .get .result in
-    let is : w ≡ getD ws (a .at + 1) 0 = c .before .before .before .before .before .before .before .before .before .before .before .before .before .before .before .before .before .before .before .before .before .before .before .before .before .before .before .get .ensures .is in
-    let front = c .before .before .before .before .before .before .before .before .before .before .before .before .before .before .before .before .before .before .before .before .before .before .before .before .before .lower-plain in
-    let s0 = words (front .last .1 .1 .1 .1 .0) in
-    let k = c .before .before .before .before .before .before .before .before .before .before .before .before .before .before .before .before .before .before .before .before .lower-all in
-    let s1 = words (k .last .1 .1 .1 .1 .1 .1 .0) in
-    let cs1 = words (k .last .1 .1 .1 .1 .1 .0) in
-    let hc : length cs1 ≡ length cs = length-words-kept (k .last .1 .1 .1 .1 .1 .0) (a .counters .now) (k .kept .1 .1 .1 .1 .1 .0) in
-    let hs : length s1 ≡ length s = length-words-kept (k .last .1 .1 .1 .1 .1 .1 .0) (a .scratch .now) (k .kept .1 .1 .1 .1 .1 .1 .0 ∙ front .kept .1 .1 .1 .1 .0) in
-    let r = change-room (q .sig) (q .known .2 .bound) ws (a .code) (a .more) (a .at) (a .to) (a .sp) (a .log) s cs (q .known .0) w is room s1 cs1 (k .result) (plain-walk (q .sig) (q .known .2 .bound) ws maxDepth (countOf w + a .more) (a .at) 2 (a .to) (a .sp) (a .log) (a .scope) s cs (exprs-of (q .sig) (q .known .2 .bound) ws (a .code) (a .more) (a .at) (a .to) (a .sp) (a .log) s cs (q .known .0) w is room) (q .known .1) (q .known .2 .scoped) room (front .result) (front .ensures .0) sr s0 (front .ensures .1) s1 cs1 (k .result) (λ y t. k .ensures (q .sig) y (q .known .2 .bound) (q .known .1) t)) (c .before .before .before .before .before .before .before .before .before .before .before .before .before .before .if1 .left) (length s1) hs in
-    r .0
+sub-t34 : tie.Need-sub-t34
+sub-t34 c = at-else (take-else (else-take (put-else (c .before .before .before .before)))) .logged
 
-add-t24 : tie.Need-add-t24
-add-t24 c =
-    let a = c .before .before .before .before .before .before .before .before .before .before .before .before .before .before .before .before .before .before .before .before .before .before .before .before .before .before .before .before .before .before .before .args in
-    let ws = words (a .rule .now) in
-    let cs = words (a .counters .now) in
-    let s = words (a .scratch .now) in
-    let q = c .before .before .before .before .before .before .before .before .before .before .before .before .before .before .before .before .before .before .before .before .before .before .before .before .before .before .before .before .before .before .before .pre .0 in
-    let room = c .before .before .before .before .before .before .before .before .before .before .before .before .before .before .before .before .before .before .before .before .before .before .before .before .before .before .before .before .before .before .before .pre .1 .0 in
-    let sr = c .before .before .before .before .before .before .before .before .before .before .before .before .before .before .before .before .before .before .before .before .before .before .before .before .before .before .before .before .before .before .before .pre .1 .1 .0 in
-    let w = c .before .before .before .before .before .before .before .before .before .before .before .before .before .before .before .before .before .before .before .before .before .before .before .before .before .before .before .get .result in
-    let is : w ≡ getD ws (a .at + 1) 0 = c .before .before .before .before .before .before .before .before .before .before .before .before .before .before .before .before .before .before .before .before .before .before .before .before .before .before .before .get .ensures .is in
-    let front = c .before .before .before .before .before .before .before .before .before .before .before .before .before .before .before .before .before .before .before .before .before .before .before .before .before .lower-plain in
-    let s0 = words (front .last .1 .1 .1 .1 .0) in
-    let k = c .before .before .before .before .before .before .before .before .before .before .before .before .before .before .before .before .before .before .before .before .lower-all in
-    let s1 = words (k .last .1 .1 .1 .1 .1 .1 .0) in
-    let cs1 = words (k .last .1 .1 .1 .1 .1 .0) in
-    let hc : length cs1 ≡ length cs = length-words-kept (k .last .1 .1 .1 .1 .1 .0) (a .counters .now) (k .kept .1 .1 .1 .1 .1 .0) in
-    let hs : length s1 ≡ length s = length-words-kept (k .last .1 .1 .1 .1 .1 .1 .0) (a .scratch .now) (k .kept .1 .1 .1 .1 .1 .1 .0 ∙ front .kept .1 .1 .1 .1 .0) in
-    let r = change-room (q .sig) (q .known .2 .bound) ws (a .code) (a .more) (a .at) (a .to) (a .sp) (a .log) s cs (q .known .0) w is room s1 cs1 (k .result) (plain-walk (q .sig) (q .known .2 .bound) ws maxDepth (countOf w + a .more) (a .at) 2 (a .to) (a .sp) (a .log) (a .scope) s cs (exprs-of (q .sig) (q .known .2 .bound) ws (a .code) (a .more) (a .at) (a .to) (a .sp) (a .log) s cs (q .known .0) w is room) (q .known .1) (q .known .2 .scoped) room (front .result) (front .ensures .0) sr s0 (front .ensures .1) s1 cs1 (k .result) (λ y t. k .ensures (q .sig) y (q .known .2 .bound) (q .known .1) t)) (c .before .before .before .before .before .before .before .before .before .before .before .before .before .before .if1 .left) (length s1) hs in
-    omega (arith, r .1, hs, length-words (a .scratch .now), c .before .before .before .before .before .before .before .before .before .before .before .before .before .before .before .before .before .before .before .before .before .before .before .before .before .before .before .before .before .before .before .good)
+add-t35 : tie.Need-add-t35
+add-t35 c = omega (arith, at-else (take-else (else-take (put-else (c .before .before .before .before)))))
 
 same-length-5 : tie.Need-same-length-5
-same-length-5 c = c .before .before .before .before .before .before .before .before .before .before .before .take .kept .0 ∙ c .before .before .before .before .before .before .before .before .before .before .before .before .before .before .before .before .before .before .before .before .lower-all .kept .1 .1 .1 .1 .1 .0
+same-length-5 c = counters-kept (else-take (put-else (c .before .before .before .before)))
 
 same-length-6 : tie.Need-same-length-6
-same-length-6 c = c .before .before .before .before .put-terms .kept .0 ∙ c .before .before .before .before .before .before .before .before .before .before .before .take .kept .1 .0 ∙ c .before .before .before .before .before .before .before .before .before .before .before .before .before .before .before .before .before .before .before .before .lower-all .kept .1 .1 .1 .1 .1 .1 .0 ∙ c .before .before .before .before .before .before .before .before .before .before .before .before .before .before .before .before .before .before .before .before .before .before .before .before .before .lower-plain .kept .1 .1 .1 .1 .0
+same-length-6 c = let p = c .before .before .before .before in p .put-terms .kept .0 ∙ scratch-kept (else-take (put-else p))
 
 returns-3 : tie.Need-returns-3
 returns-3 c =
-    let a = c .before .before .before .before .before .before .before .before .before .before .before .before .before .before .before .before .before .before .before .before .before .before .before .before .before .before .before .before .before .before .before .args in
-    let ws = words (a .rule .now) in
-    let cs = words (a .counters .now) in
-    let s = words (a .scratch .now) in
-    let q = c .before .before .before .before .before .before .before .before .before .before .before .before .before .before .before .before .before .before .before .before .before .before .before .before .before .before .before .before .before .before .before .pre .0 in
-    let room = c .before .before .before .before .before .before .before .before .before .before .before .before .before .before .before .before .before .before .before .before .before .before .before .before .before .before .before .before .before .before .before .pre .1 .0 in
-    let sr = c .before .before .before .before .before .before .before .before .before .before .before .before .before .before .before .before .before .before .before .before .before .before .before .before .before .before .before .before .before .before .before .pre .1 .1 .0 in
-    let w = c .before .before .before .before .before .before .before .before .before .before .before .before .before .before .before .before .before .before .before .before .before .before .before .before .before .before .before .get .result in
-    let is : w ≡ getD ws (a .at + 1) 0 = c .before .before .before .before .before .before .before .before .before .before .before .before .before .before .before .before .before .before .before .before .before .before .before .before .before .before .before .get .ensures .is in
-    let front = c .before .before .before .before .before .before .before .before .before .before .before .before .before .before .before .before .before .before .before .before .before .before .before .before .before .lower-plain in
-    let s0 = words (front .last .1 .1 .1 .1 .0) in
-    let k = c .before .before .before .before .before .before .before .before .before .before .before .before .before .before .before .before .before .before .before .before .lower-all in
-    let s1 = words (k .last .1 .1 .1 .1 .1 .1 .0) in
-    let cs1 = words (k .last .1 .1 .1 .1 .1 .0) in
-    let hc : length cs1 ≡ length cs = length-words-kept (k .last .1 .1 .1 .1 .1 .0) (a .counters .now) (k .kept .1 .1 .1 .1 .1 .0) in
-    let hs : length s1 ≡ length s = length-words-kept (k .last .1 .1 .1 .1 .1 .1 .0) (a .scratch .now) (k .kept .1 .1 .1 .1 .1 .1 .0 ∙ front .kept .1 .1 .1 .1 .0) in
-    let t = c .before .before .before .before .before .before .before .before .before .before .before .take in
-    let s2 = words (t .last .1 .0) in
-    let cs2 = words (t .last .0) in
-    let hc2 : length cs2 ≡ length cs1 = length-words-kept (t .last .0) _ (t .kept .0) in
-    let hs2 : length s2 ≡ length s = length-words-kept (t .last .1 .0) _ (t .kept .1 .0) ∙ hs in
-    (refl, λ sig x bound n sc. change-done sig bound ws (a .code) (a .more) (a .at) (a .to) (a .sp) (a .log) s cs x w is room s1 cs1 (k .result) (plain-walk sig bound ws maxDepth (countOf w + a .more) (a .at) 2 (a .to) (a .sp) (a .log) (a .scope) s cs (exprs-of sig bound ws (a .code) (a .more) (a .at) (a .to) (a .sp) (a .log) s cs x w is room) n sc room (front .result) (front .ensures .0) sr s0 (front .ensures .1) s1 cs1 (k .result) (λ y t. k .ensures sig y bound n t)) (c .before .before .before .before .before .before .before .before .before .before .before .before .before .before .if1 .left) (t .result) s2 cs2 (t .ensures) (record { walk = record { next = k .result .next; to = c .before .before .before .before .put-terms .result; log = k .result .log + 1; term = 0; refused = 0 }; names = 0; count = k .result .log - a .log + 1 }) _ _ (c .before .before .before .before .before .before .if2 .left) hc2 hs2 (c .before .before .before .before .put-terms .ensures .0) (c .before .before .before .before .put-terms .ensures .1) refl refl)
+    let p = c .before .before .before .before in
+    let t = else-take (put-else p) in
+    let a = else-args (take-else t) in
+    change-done (at-get (args-get a)) (at-args a) (take-else t .if1 .left) (at-take t) (put-else p .if2 .left) (p .put-terms .ensures)
 
 pub lower-change-spec : {M : Type 1} → statement M
 lower-change-spec =
@@ -422,25 +185,20 @@ lower-change-spec =
     sub-n
     cast-n
     add-n
-    add-lower-plain
-    lower-plain-requires
-    add-lower-all
-    add-lower-all-2
-    sub-lower-all
-    add-lower-all-3
-    lower-all-requires
+    add-lower-arguments
+    lower-arguments-requires
     same-length
     same-length-2
     returns
     take-requires
-    add-t35
+    add-t29
     same-length-3
     same-length-4
     returns-2
     put-terms-requires
-    add-t18
-    sub-t23
-    add-t24
+    add-t17
+    sub-t34
+    add-t35
     same-length-5
     same-length-6
     returns-3)

@@ -9,9 +9,6 @@ use Rattle.core_actions.proofs.Acting.{expression-acts}
 use borrow.Author.Needs.{needs}
 use Rattle.core_actions.proofs.actions.lower_expression.Statement.{statement}
 use Rattle.core_actions.proofs.actions.lower_expression.Tie as tie
-use Rattle.core_actions.proofs.actions.lower_expression.Reads as reads
-use Rattle.core_actions.proofs.actions.lower_expression.Lts as lts
-use Rattle.core_actions.proofs.exprs.lower.Reads as lower-reads
 
 add-lower : tie.Need-add-lower
 add-lower c =

@@ -9,13 +9,6 @@ use Rattle.core_actions.proofs.Acting.{let-twice, let-stop, let-room, l
 use borrow.Author.Needs.{needs}
 use Rattle.core_actions.proofs.actions.lower_let.Statement.{statement}
 use Rattle.core_actions.proofs.actions.lower_let.Tie as tie
-use Rattle.core_actions.proofs.actions.lower_let.Reads as reads
-use Rattle.core_actions.proofs.actions.lower_let.Lts as lts
-use Rattle.core_actions.proofs.exprs.lower.Reads as lower-reads
-use Rattle.core_actions.proofs.scope.taken.Reads as taken-reads
-use Rattle.octets.proofs.get.Reads as get-reads
-use Rattle.octets.proofs.put.Reads as put-reads
-use Rattle.octets.proofs.rows.put_three.Reads as put-three-reads
 
 add-get : tie.Need-add-get
 add-get c =

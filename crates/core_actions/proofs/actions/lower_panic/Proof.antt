@@ -5,10 +5,6 @@ use Rattle.core_actions.proofs.Acting.{panic-acts}
 use borrow.Author.Needs.{needs}
 use Rattle.core_actions.proofs.actions.lower_panic.Statement.{statement}
 use Rattle.core_actions.proofs.actions.lower_panic.Tie as tie
-use Rattle.core_actions.proofs.actions.lower_panic.Reads as reads
-use Rattle.core_actions.proofs.actions.lower_panic.Lts as lts
-use Rattle.octets.proofs.get.Reads as get-reads
-use Rattle.octets.proofs.rows.put_two.Reads as put-two-reads
 
 add-get : tie.Need-add-get
 add-get c =

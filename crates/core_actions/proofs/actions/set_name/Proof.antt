@@ -1,105 +1,87 @@
--- A union of a name and a call that becomes a set. What is known at a place of the code is said once, as a record of `NameSets`, and the needs behind
--- that place cite it. Assumes nothing.
-use Prim.Native.Nat.{ℕ, _+_}
+-- A union of a name and a call that becomes a set: the name is one more term behind those of the call's arguments, so that behind one count of the
+-- head the action is written as any other with a head; it is refused where an argument, the name or the count is. Assumes nothing.
+use Prim.Native.Nat.{ℕ, _+_, _-_}
 use mathlib.Core.Path.{_≡_, refl, _∙_}
 use native.Mathlib.Omega.{arith}
 use lib.ListN.{length, getD}
 use Rattle.octets.specs.Words.{words}
 use Rattle.octets.proofs.Words.{length-words, length-words-kept}
-use Rattle.core_actions.proofs.NameSets.{Call, Begun, begun, front-room, Fronted, fronted, args-ask, Argued, argued, args-refused}
-use Rattle.core_actions.proofs.NameSets.{Fine, is-fine, Used, name-refused, used-up, set-done}
+use Rattle.rules.specs.Words.{maxDepth, countOf}
+use Rattle.core_actions.specs.Acts.{NameCallAt}
+use Rattle.core_actions.proofs.Sites.{Site, site-of, given, given-as}
+use Rattle.core_actions.proofs.Changes.{exprs-ask, Argued, argued, Fine, is-fine, Used}
+use Rattle.core_actions.proofs.NameSets.{name-call-at, Naming, args-refused, name-asks, name-refused, used-up, set-done}
 use borrow.Author.Needs.{needs}
 use Rattle.core_actions.proofs.actions.set_name.Statement.{statement}
 use Rattle.core_actions.proofs.actions.set_name.Tie as tie
 
 -- ---- the two words
 
--- the call, by the name's word v and its own word w
-abbrev call : tie.Start → ℕ → ℕ → Call
-call c v w =
-    let a = c .args in
+abbrev site : tie.Start → Site
+site c = let a = c .args in site-of (words (a .rule .now)) (words (a .scratch .now)) (words (a .counters .now)) (a .at) (a .to) (a .sp) (a .log) (a .scope)
+
+at-start : (c : tie.Start) (v w : ℕ) → v ≡ getD (words (c .args .rule .now)) (c .args .at + 1) 0 → w ≡ getD (words (c .args .rule .now)) (c .args .at + 2) 0
+    → Naming (site c) v w
+at-start c v w isv isw =
+    let k = site c in
     record {
-      ws = words (a .rule .now);
-      s = words (a .scratch .now);
-      cs = words (a .counters .now);
-      at = a .at;
-      to = a .to;
-      sp = a .sp;
-      lg = a .log;
-      scope = a .scope;
-      v = v;
-      w = w;
+      given =
+          given-as
+          (given {X = λ sig. NameCallAt sig (k .ws) (k .at)} (c .pre .0) (c .pre .1 .0) (c .pre .1 .1)
+          (omega (arith, length-words (c .args .rule .now), c .good)) (omega (arith, length-words (c .args .scratch .now), c .good)))
+          (λ sig x. name-call-at isv isw sig x .call);
+      isv = isv;
+      isw = isw;
     }
 
-at-start : (c : tie.Start) (v w : ℕ) → v ≡ getD (words (c .args .rule .now)) (c .args .at + 1) 0 → w ≡ getD (words (c .args .rule .now)) (c .args .at + 2) 0 → Begun (call c v w)
-at-start c v w =
-    let q = c .pre .0 in
-    begun (record { sig = q .sig; bound = q .known .2 .bound; call = q .known .0; counted = q .known .1; scoped = q .known .2 .scoped }) (c .pre .1 .0) (c .pre .1 .1)
-    (omega (arith, length-words (c .args .rule .now), c .good)) (omega (arith, length-words (c .args .scratch .now), c .good))
-
 add-get : tie.Need-add-get
-add-get c = omega (arith, at-start (c .before .before .before) _ _ refl refl)
+add-get c = omega (arith, at-start (c .before .before .before) _ _ refl refl .given)
 
 get-requires : tie.Need-get-requires
-get-requires c κs = omega (arith, at-start (c .before .before .before) _ _ refl refl)
+get-requires c κs = omega (arith, at-start (c .before .before .before) _ _ refl refl .given)
+
+abbrev start : tie.After-get → tie.Start
+start c = c .before .before .before .before
 
 add-get-2 : tie.Need-add-get-2
-add-get-2 c = omega (arith, at-start (c .before .before .before .before) _ _ refl refl)
+add-get-2 c = omega (arith, at-start (start c) _ _ refl refl .given)
 
 get-requires-2 : tie.Need-get-requires-2
-get-requires-2 c κs = omega (arith, at-start (c .before .before .before .before) _ _ refl refl)
+get-requires-2 c κs = omega (arith, at-start (start c) _ _ refl refl .given)
 
-at-get2 : (c : tie.After-get2) → Begun (call (c .before .before .before .before .before) (c .before .get .result) (c .get2 .result))
-at-get2 c = at-start (c .before .before .before .before .before) _ _ (c .before .get .ensures .is) (c .get2 .ensures .is)
+at-get : (c : tie.After-get2) → Naming (site (start (c .before))) (c .before .get .result) (c .get2 .result)
+at-get c = at-start (start (c .before)) _ _ (c .before .get .ensures .is) (c .get2 .ensures .is)
 
 sub-h : tie.Need-sub-h
-sub-h c = at-get2 c .high
+sub-h c = at-get c .given .tree .it .high
 
 sub-n : tie.Need-sub-n
-sub-n c = at-get2 c .high
+sub-n c = at-get c .given .tree .it .high
 
 cast-n : tie.Need-cast-n
 cast-n c = search needs
 
-add-lower-plain : tie.Need-add-lower-plain
-add-lower-plain c = omega (arith, at-get2 c)
+add-lower-arguments : tie.Need-add-lower-arguments
+add-lower-arguments c = omega (arith, at-get c .given)
 
-lower-plain-requires : tie.Need-lower-plain-requires
-lower-plain-requires c κs = front-room (at-get2 (c .before))
+sub-lower-arguments : tie.Need-sub-lower-arguments
+sub-lower-arguments c = search needs
+
+lower-arguments-requires : tie.Need-lower-arguments-requires
+lower-arguments-requires c κs = exprs-ask (at-get (c .before .before) .given)
 
 -- ---- the arguments
 
-at-plain : (c : tie.After-lower-plain) → Fronted (at-get2 (c .before .before)) (c .lower-plain .result) (words (c .lower-plain .last .1 .1 .1 .1 .0))
-at-plain c =
-    let p = c .lower-plain in
-    fronted (at-get2 (c .before .before)) (length-words-kept _ _ (p .kept .1 .1 .1 .1 .0)) (p .ensures .0) (p .ensures .1)
+abbrev args-get : tie.After-lower-arguments → tie.After-get2
+args-get c = c .before .before .before
 
-add-lower-all : tie.Need-add-lower-all
-add-lower-all c = omega (arith, at-get2 (c .before .before .before .before), at-plain (c .before .before))
-
-add-lower-all-2 : tie.Need-add-lower-all-2
-add-lower-all-2 c = omega (arith, at-get2 (c .before .before .before .before), at-plain (c .before .before))
-
-sub-lower-all : tie.Need-sub-lower-all
-sub-lower-all c = at-plain (c .before .before) .most
-
-sub-lower-all-2 : tie.Need-sub-lower-all-2
-sub-lower-all-2 c = search needs
-
-add-lower-all-3 : tie.Need-add-lower-all-3
-add-lower-all-3 c = omega (arith, at-get2 (c .before .before .before .before .before .before), at-plain (c .before .before .before .before))
-
-lower-all-requires : tie.Need-lower-all-requires
-lower-all-requires c κs = args-ask (at-plain (c .before .before .before .before))
-
-abbrev args-plain : tie.After-lower-all → tie.After-lower-plain
-args-plain c = c .before .before .before .before .before
-
-at-args : (c : tie.After-lower-all)
-    → let a = c .lower-all in Argued (at-get2 (args-plain c .before .before)) (words (a .last .1 .1 .1 .1 .1 .1 .0)) (words (a .last .1 .1 .1 .1 .1 .0)) (a .result)
+at-args : (c : tie.After-lower-arguments)
+    → let a = c .lower-arguments in
+    let w = args-get c .get2 .result in
+    Argued (site (start (args-get c .before))) 3 (maxDepth - 1) (countOf w) w (words (a .last .1 .1 .1 .1 .1 .1 .0)) (words (a .last .1 .1 .1 .1 .1 .0)) (a .result)
 at-args c =
-    let a = c .lower-all in
-    argued (at-plain (args-plain c)) (length-words-kept _ _ (a .kept .1 .1 .1 .1 .1 .1 .0)) (length-words-kept _ _ (a .kept .1 .1 .1 .1 .1 .0)) (a .ensures)
+    let a = c .lower-arguments in
+    argued (at-get (args-get c) .given) (length-words-kept _ _ (a .kept .1 .1 .1 .1 .1 .1 .0)) (length-words-kept _ _ (a .kept .1 .1 .1 .1 .1 .0)) (a .ensures)
 
 same-length : tie.Need-same-length
 same-length c = search needs
@@ -108,33 +90,39 @@ same-length-2 : tie.Need-same-length-2
 same-length-2 c = search needs
 
 returns : tie.Need-returns
-returns c = args-refused (at-args (c .before .before .before .before .before .before)) (c .if1 .taken)
+returns c =
+    let a = c .before .before .before .before .before .before in
+    args-refused (at-get (args-get a)) (at-args a) (c .if1 .taken)
 
 -- ---- the arguments are fine
 
-abbrev else-args : tie.Else1 → tie.After-lower-all
+abbrev else-args : tie.Else1 → tie.After-lower-arguments
 else-args c = c .before .before .before .before .before .before
 
 at-else : (c : tie.Else1) → Fine (at-args (else-args c))
-at-else c = is-fine (at-args (else-args c)) (c .if1 .left)
+at-else c = is-fine (at-args (else-args c)) (omega arith) (c .if1 .left)
 
 may-read-requires : tie.Need-may-read-requires
-may-read-requires c κs = at-else (c .before) .scope
+may-read-requires c κs =
+    let a = else-args (c .before) in
+    name-asks (at-get (args-get a)) (at-args a) (at-else (c .before))
 
-add-put : tie.Need-add-put
-add-put c = omega (arith, at-else (c .before .before .before .before))
-
-put-requires : tie.Need-put-requires
-put-requires c κs = at-else (c .before .before .before .before) .top
-
--- back from where the name is put to where it may be read, and to where the arguments are fine
-abbrev put-then : tie.After-put → tie.Then2
-put-then c = c .before .before
-
+-- back from where the name may be read to where the arguments are fine
 abbrev then-else : tie.Then2 → tie.Else1
 then-else c = c .before .before .before
 
-at-put : (c : tie.After-put) → length (words (c .put .last .0)) ≡ length (words (else-args (then-else (put-then c)) .lower-all .last .1 .1 .1 .1 .1 .1 .0))
+add-put : tie.Need-add-put
+add-put c = omega (arith, at-else (then-else (c .before)))
+
+put-requires : tie.Need-put-requires
+put-requires c κs = omega (arith, at-else (then-else (c .before)))
+
+-- ---- the name is put behind them, and a fresh variable is taken
+
+abbrev put-then : tie.After-put → tie.Then2
+put-then c = c .before .before
+
+at-put : (c : tie.After-put) → length (words (c .put .last .0)) ≡ length (words (else-args (then-else (put-then c)) .lower-arguments .last .1 .1 .1 .1 .1 .1 .0))
 at-put c = length-words-kept _ _ (c .put .kept .0)
 
 take-requires : tie.Need-take-requires
@@ -143,94 +131,93 @@ take-requires c κs =
     let f = at-else (then-else (put-then p)) in
     (f .head, f .counter, omega (arith, f .log, at-put p))
 
--- ---- a fresh variable is taken
-
 abbrev take-put : tie.After-take → tie.After-put
 take-put c = c .before .before .before .before .before
 
 abbrev take-else : tie.After-take → tie.Else1
 take-else c = then-else (put-then (take-put c))
 
-at-take : (c : tie.After-take) → Used (at-args (else-args (take-else c))) (words (c .take .last .1 .0)) (words (c .take .last .0)) (c .take .result)
+at-take : (c : tie.After-take)
+    → let a = else-args (take-else c) .lower-arguments in
+    Used (args-get (else-args (take-else c)) .get2 .result) (a .result .log) (words (take-put c .put .last .0)) (words (a .last .1 .1 .1 .1 .1 .0))
+    (words (c .take .last .1 .0)) (words (c .take .last .0)) (c .take .result)
 at-take c =
-    let p = take-put c .put in
     let t = c .take in
-    record {
-      s2 = words (p .last .0);
-      push = p .ensures;
-      taken = t .ensures;
-      size = length-words-kept _ _ (t .kept .1 .0 ∙ p .kept .0);
-      counters = length-words-kept _ _ (t .kept .0);
-    }
+    record { taken = t .ensures; size = length-words-kept _ _ (t .kept .1 .0); counters = length-words-kept _ _ (t .kept .0) }
 
 -- both slices are as long as at the start
-abbrev start : tie.After-take → tie.Start
-start c = let g = args-plain (else-args (take-else c)) .before .before in g .before .before .before .before .before
+counters-kept : (c : tie.After-take) → length (c .take .last .0) ≡ length (start (args-get (else-args (take-else c)) .before) .args .counters .now)
+counters-kept c = c .take .kept .0 ∙ else-args (take-else c) .lower-arguments .kept .1 .1 .1 .1 .1 .0
 
-counters-kept : (c : tie.After-take) → length (c .take .last .0) ≡ length (start c .args .counters .now)
-counters-kept c = c .take .kept .0 ∙ else-args (take-else c) .lower-all .kept .1 .1 .1 .1 .1 .0
-
-scratch-kept : (c : tie.After-take) → length (c .take .last .1 .0) ≡ length (start c .args .scratch .now)
-scratch-kept c =
-    let a = else-args (take-else c) in
-    c .take .kept .1 .0 ∙ take-put c .put .kept .0 ∙ a .lower-all .kept .1 .1 .1 .1 .1 .1 .0 ∙ args-plain a .lower-plain .kept .1 .1 .1 .1 .0
+scratch-kept : (c : tie.After-take) → length (c .take .last .1 .0) ≡ length (start (args-get (else-args (take-else c)) .before) .args .scratch .now)
+scratch-kept c = c .take .kept .1 .0 ∙ take-put c .put .kept .0 ∙ else-args (take-else c) .lower-arguments .kept .1 .1 .1 .1 .1 .1 .0
 
 -- ---- none is left
 
-add-t42 : tie.Need-add-t42
-add-t42 c = omega (arith, at-else (take-else (c .before .before .before .before .before)))
+abbrev then-take : tie.Then3 → tie.After-take
+then-take c = c .before .before .before .before .before
+
+add-t36 : tie.Need-add-t36
+add-t36 c = omega (arith, at-else (take-else (then-take c)))
 
 same-length-3 : tie.Need-same-length-3
-same-length-3 c = counters-kept (c .before .before .before .before .before)
+same-length-3 c = counters-kept (then-take c)
 
 same-length-4 : tie.Need-same-length-4
-same-length-4 c = scratch-kept (c .before .before .before .before .before)
+same-length-4 c = scratch-kept (then-take c)
 
 returns-2 : tie.Need-returns-2
 returns-2 c =
-    let t = c .before .before .before .before .before in
+    let t = then-take c in
     let d = put-then (take-put t) in
-    used-up (at-else (then-else d)) (d .before .may-read .ensures) (d .if2 .taken) (at-take t) (c .if3 .taken)
+    let a = else-args (then-else d) in
+    used-up (at-get (args-get a)) (at-args a) (at-else (then-else d)) (d .before .may-read .ensures) (d .if2 .taken) (take-put t .put .ensures) (at-take t) (c .if3 .taken)
 
 -- ---- the set is written
 
 abbrev else-take : tie.Else3 → tie.After-take
 else-take c = c .before .before .before .before .before
 
+abbrev terms-else : tie.After-put-terms → tie.Else3
+terms-else c = c .before .before
+
 add-put-terms : tie.Need-add-put-terms
 add-put-terms c = omega (arith, at-else (take-else (else-take (c .before))))
 
 put-terms-requires : tie.Need-put-terms-requires
 put-terms-requires c κs =
-    let f = at-else (take-else (else-take (c .before))) in
-    (f .words, omega (arith, f .top, at-take (else-take (c .before)) .size))
+    let t = else-take (c .before) in
+    let f = at-else (take-else t) in
+    (f .words, omega (arith, f .stack, at-put (take-put t), at-take t .size))
 
-add-t36 : tie.Need-add-t36
-add-t36 c = omega (arith, at-else (take-else (else-take (c .before .before .before .before .before))))
+add-t30 : tie.Need-add-t30
+add-t30 c = omega (arith, at-else (take-else (else-take (terms-else (c .before .before .before)))))
 
-sub-t47 : tie.Need-sub-t47
-sub-t47 c = at-else (take-else (else-take (c .before .before .before .before .before .before))) .logged
+sub-t41 : tie.Need-sub-t41
+sub-t41 c = at-else (take-else (else-take (terms-else (c .before .before .before .before)))) .logged
 
-add-t48 : tie.Need-add-t48
-add-t48 c = omega (arith, at-else (take-else (else-take (c .before .before .before .before .before .before))))
+add-t42 : tie.Need-add-t42
+add-t42 c = omega (arith, at-else (take-else (else-take (terms-else (c .before .before .before .before)))))
 
 same-length-5 : tie.Need-same-length-5
-same-length-5 c = counters-kept (else-take (c .before .before .before .before .before .before))
+same-length-5 c = counters-kept (else-take (terms-else (c .before .before .before .before)))
 
 same-length-6 : tie.Need-same-length-6
-same-length-6 c = c .before .before .before .before .put-terms .kept .0 ∙ scratch-kept (else-take (c .before .before .before .before .before .before))
+same-length-6 c = let p = c .before .before .before .before in p .put-terms .kept .0 ∙ scratch-kept (else-take (terms-else p))
 
 returns-3 : tie.Need-returns-3
 returns-3 c =
-    let e = c .before .before .before .before .before .before in
-    let t = else-take e in
+    let p = c .before .before .before .before in
+    let t = else-take (terms-else p) in
     let d = put-then (take-put t) in
-    set-done (at-else (then-else d)) (d .before .may-read .ensures) (d .if2 .taken) (at-take t) (e .if3 .left) (c .before .before .before .before .put-terms .ensures)
+    let a = else-args (then-else d) in
+    set-done (at-get (args-get a)) (at-args a) (at-else (then-else d)) (d .before .may-read .ensures) (d .if2 .taken) (take-put t .put .ensures) (at-take t) (terms-else p .if3 .left)
+    (p .put-terms .ensures)
 
 -- ---- the name may not be read
 
-add-t17 : tie.Need-add-t17
-add-t17 c = omega (arith, at-else (c .before .before .before))
+add-t16 : tie.Need-add-t16
+add-t16 c = omega (arith, at-else (c .before .before .before))
 
 same-length-7 : tie.Need-same-length-7
 same-length-7 c = search needs
@@ -239,7 +226,9 @@ same-length-8 : tie.Need-same-length-8
 same-length-8 c = search needs
 
 returns-4 : tie.Need-returns-4
-returns-4 c = name-refused (at-else (c .before .before .before)) (c .before .may-read .ensures) (c .if2 .left)
+returns-4 c =
+    let e = c .before .before .before in
+    name-refused (at-get (args-get (else-args e))) (at-args (else-args e)) (at-else e) (c .before .may-read .ensures) (c .if2 .left)
 
 pub set-name-spec : {M : Type 1} → statement M
 set-name-spec =
@@ -252,14 +241,9 @@ set-name-spec =
     sub-h
     sub-n
     cast-n
-    add-lower-plain
-    lower-plain-requires
-    add-lower-all
-    add-lower-all-2
-    sub-lower-all
-    sub-lower-all-2
-    add-lower-all-3
-    lower-all-requires
+    add-lower-arguments
+    sub-lower-arguments
+    lower-arguments-requires
     same-length
     same-length-2
     returns
@@ -267,19 +251,19 @@ set-name-spec =
     add-put
     put-requires
     take-requires
-    add-t42
+    add-t36
     same-length-3
     same-length-4
     returns-2
     add-put-terms
     put-terms-requires
-    add-t36
-    sub-t47
-    add-t48
+    add-t30
+    sub-t41
+    add-t42
     same-length-5
     same-length-6
     returns-3
-    add-t17
+    add-t16
     same-length-7
     same-length-8
     returns-4)

@@ -11,10 +11,6 @@ use Rattle.core_actions.proofs.Acting.{union-left, union-right, union-s
 use borrow.Author.Needs.{needs}
 use Rattle.core_actions.proofs.actions.unite.Statement.{statement}
 use Rattle.core_actions.proofs.actions.unite.Tie as tie
-use Rattle.core_actions.proofs.actions.unite.Reads as reads
-use Rattle.core_actions.proofs.actions.unite.Lts as lts
-use Rattle.core_actions.proofs.exprs.lower.Reads as lower-reads
-use Rattle.octets.proofs.rows.put_three.Reads as put-three-reads
 
 add-lower : tie.Need-add-lower
 add-lower c =
