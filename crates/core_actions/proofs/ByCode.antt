@@ -15,16 +15,10 @@ use Rattle.core_actions.specs.Scopes.{Scoped}
 use Rattle.core_actions.specs.Lowered.{donePiece}
 use Rattle.core_actions.specs.Acts.{ActionAt, LetAt, ChangeAt, PairAt, Signed, changed, Gave}
 use Rattle.core_actions.specs.declared.actions.Acted.{Acted}
-use Rattle.core_actions.proofs.Given.{Given, RoomFor, ScopeRoomFor, Standing, StandingSigned, Does, Finishes, second, RowWalk, Changes}
+use Rattle.core_actions.proofs.Given.{Given, RoomFor, ScopeRoomFor, Standing, StandingSigned, Does, Finishes, second, RowWalk, Changes, DoesAction}
 use Rattle.core_actions.proofs.Pieces.{done-change, done-set-row, SameBound, same-change, same-set}
 use Rattle.core_actions.proofs.Acting.{acts-same}
 use Rattle.core_actions.proofs.ReadActions.{action-high, no-other, let-cases, set-cases, delete-cases, subsume-cases, union-cases, panic-cases, expression-cases}
-
--- what the contract says of an answer
-abbrev pub Answers : Given → List ℕ → List ℕ → Acted → Type 0
-Answers k s′ cs′ r =
-    (sig : Sig) (x : ActionAt sig (k .ws) (k .at)) (bound : List ℕ) → Counted sig (k .cs) → Scoped sig bound (k .s) (k .scope) → Signed sig (k .gs)
-    → Does k sig (lowerAction sig bound (x .value) (k .cs)) (x .size) s′ cs′ r
 
 -- ---- the action's word is read: w
 
@@ -55,7 +49,7 @@ module _ {k : Given} {w : ℕ} (g : Coded k w) where
 
   pub let-done : {s′ cs′ : List ℕ} {r : Acted} → w - actionBase ≡ 1
       → Finishes k (λ sig. LetAt sig (k .ws) (k .at)) (λ sig bound y. lowerLet (elem (second k) bound) sig bound (k .at) (second k) (y .expr .value) (k .cs)) (λ sig y. 2 + y .expr .size) s′ cs′ r
-      → Answers k s′ cs′ r
+      → DoesAction k s′ cs′ r
   let-done {s′} {cs′} {r} e does sig x bound n sc sg =
       let-cases sig (k .ws) (k .at) x (λ y i. Does k sig (lowerAction sig bound y (k .cs)) i s′ cs′ r) (word 1 e) (λ y. does sig y bound n sc)
 
@@ -71,7 +65,7 @@ module _ {k : Given} {w : ℕ} (g : Coded k w) where
         (subst (λ (p : Res Piece). Walked 0 (Gave r) p (2 + y .exprs .size) (k .at) (k .to) (k .sp) (k .lg) (k .s) (k .cs) s′ cs′ (r .walk)) (sym is)
         (subst (λ (u : ℕ). RowWalk k sig bound u more y s′ cs′ r) e walk))
 
-    pub set-done : w - actionBase ≡ 2 → Changes k w 1 s′ cs′ r → Answers k s′ cs′ r
+    pub set-done : w - actionBase ≡ 2 → Changes k w 1 s′ cs′ r → DoesAction k s′ cs′ r
     set-done e does sig x bound n sc sg =
         set-cases sig (k .ws) (k .at) x (λ y i. Does k sig (lowerAction sig bound y (k .cs)) i s′ cs′ r) (word 2 e)
         (λ y es v row. row-does sig bound (lowerSet sig bound (k .at + 1) (headOf (second k)) es v (k .cs)) 1 (actionWord 2) y sc (does .0)
@@ -87,12 +81,12 @@ module _ {k : Given} {w : ℕ} (g : Coded k w) where
         (same-change sig bound C (k .at + 1) (headOf (second k)) (y .exprs .value) (k .cs)) (g .is ∙ e)
         (done-change sig bound C code is (k .at + 1) (headOf (second k)) (y .exprs .value) (k .cs)) (does .1 sig y bound n sc)
 
-    pub delete-done : w - actionBase ≡ 3 → Changes k w 0 s′ cs′ r → Answers k s′ cs′ r
+    pub delete-done : w - actionBase ≡ 3 → Changes k w 0 s′ cs′ r → DoesAction k s′ cs′ r
     delete-done e does sig x bound n sc sg =
         delete-cases sig (k .ws) (k .at) x (λ y i. Does k sig (lowerAction sig bound y (k .cs)) i s′ cs′ r) (word 3 e)
         (λ y. change-does Delete (actionWord 3) (λ h ts. refl) (word 3 e) does sig y bound n sc)
 
-    pub subsume-done : w - actionBase ≡ 4 → Changes k w 0 s′ cs′ r → Answers k s′ cs′ r
+    pub subsume-done : w - actionBase ≡ 4 → Changes k w 0 s′ cs′ r → DoesAction k s′ cs′ r
     subsume-done e does sig x bound n sc sg =
         subsume-cases sig (k .ws) (k .at) x (λ y i. Does k sig (lowerAction sig bound y (k .cs)) i s′ cs′ r) (word 4 e)
         (λ y. change-does Subsume (actionWord 4) (λ h ts. refl) (word 4 e) does sig y bound n sc)
@@ -119,7 +113,7 @@ module _ {k : Given} {w : ℕ} (g : Coded k w) where
   pub union-done : {s′ cs′ : List ℕ} {r : Acted} → w - actionBase ≡ 5
       → ((sig : Sig) (y : PairAt sig (k .ws) (k .at)) (bound : List ℕ) → Counted sig (k .cs) → Scoped sig bound (k .s) (k .scope) → Signed sig (k .gs)
       → Does k sig (lowerUnion sig bound (unionAsSet sig (y .left .value) (y .right .value)) (y .left .value) (y .right .value) (k .cs)) (1 + (y .left .size + y .right .size)) s′ cs′ r)
-      → Answers k s′ cs′ r
+      → DoesAction k s′ cs′ r
   union-done {s′} {cs′} {r} e does sig x bound n sc sg =
       union-cases sig (k .ws) (k .at) x (λ y i. Does k sig (lowerAction sig bound y (k .cs)) i s′ cs′ r) (word 5 e) (λ y. does sig y bound n sc sg)
 
@@ -129,7 +123,7 @@ module _ {k : Given} {w : ℕ} (g : Coded k w) where
   panic-asks e = let q = g .known in panic-cases (q .sig) (k .ws) (k .at) (q .known .0) (λ y n. k .at + 1 < length (k .ws)) (word 6 e) (λ i. i)
 
   pub panic-done : {s′ cs′ : List ℕ} {r : Acted} → w - actionBase ≡ 6
-      → ((sig : Sig) (bound : List ℕ) → Scoped sig bound (k .s) (k .scope) → Does k sig (lowerAction sig bound (panic′ (second k)) (k .cs)) 2 s′ cs′ r) → Answers k s′ cs′ r
+      → ((sig : Sig) (bound : List ℕ) → Scoped sig bound (k .s) (k .scope) → Does k sig (lowerAction sig bound (panic′ (second k)) (k .cs)) 2 s′ cs′ r) → DoesAction k s′ cs′ r
   panic-done {s′} {cs′} {r} e does sig x bound n sc sg =
       panic-cases sig (k .ws) (k .at) x (λ y i. Does k sig (lowerAction sig bound y (k .cs)) i s′ cs′ r) (word 6 e) (λ i. does sig bound sc)
 
@@ -137,7 +131,7 @@ module _ {k : Given} {w : ℕ} (g : Coded k w) where
   expression-asks e = asks (λ sig x. expression-cases sig (k .ws) (k .at) x (λ y n. ExprAt sig (k .ws) maxDepth (k .at + 1)) (word 8 e) (λ y. y))
 
   pub expression-done : {s′ cs′ : List ℕ} {r : Acted} → w - actionBase ≡ 8
-      → Finishes k (λ sig. ExprAt sig (k .ws) maxDepth (k .at + 1)) (λ sig bound y. lowerAction sig bound (expr′ (y .value)) (k .cs)) (λ sig y. 1 + y .size) s′ cs′ r → Answers k s′ cs′ r
+      → Finishes k (λ sig. ExprAt sig (k .ws) maxDepth (k .at + 1)) (λ sig bound y. lowerAction sig bound (expr′ (y .value)) (k .cs)) (λ sig y. 1 + y .size) s′ cs′ r → DoesAction k s′ cs′ r
   expression-done {s′} {cs′} {r} e does sig x bound n sc sg =
       expression-cases sig (k .ws) (k .at) x (λ y i. Does k sig (lowerAction sig bound y (k .cs)) i s′ cs′ r) (word 8 e) (λ y. does sig y bound n sc)
 
@@ -149,6 +143,6 @@ module _ {k : Given} {w : ℕ} (g : Coded k w) where
   not-word : (code : ℕ) → Not code → w ≡ actionWord code → ⊥
   not-word code no′ e = no′ (omega arith)
 
-  pub no-code : {s′ cs′ : List ℕ} {r : Acted} → Not 1 → Not 2 → Not 3 → Not 4 → Not 5 → Not 6 → Not 8 → Answers k s′ cs′ r
+  pub no-code : {s′ cs′ : List ℕ} {r : Acted} → Not 1 → Not 2 → Not 3 → Not 4 → Not 5 → Not 6 → Not 8 → DoesAction k s′ cs′ r
   no-code n1 n2 n3 n4 n5 n6 n8 sig x bound n sc sg =
       absurd (no-other sig (k .ws) (k .at) x w (g .is) (not-word 1 n1) (not-word 2 n2) (not-word 3 n3) (not-word 4 n4) (not-word 5 n5) (not-word 6 n6) (not-word 8 n8))

@@ -7,10 +7,10 @@ use lib.ListN.{length, getD}
 use Rattle.rules.specs.Words.{headOf}
 use Rattle.rules.specs.Refusals.{Res}
 use Rattle.rules.specs.Signature.{Sig}
-use Rattle.rules.specs.ToCoreActions.{Done}
+use Rattle.rules.specs.ToCoreActions.{Done, lowerAction}
 use Rattle.walks.specs.Steps.{Walked, Room, Under, Counted}
 use Rattle.core_actions.specs.Scopes.{Scoped, ScopeRoom, Names}
-use Rattle.core_actions.specs.Acts.{ChangeAt, changed, Gave, Acts, Signed}
+use Rattle.core_actions.specs.Acts.{ActionAt, ChangeAt, changed, Gave, Acts, Signed}
 use Rattle.core_actions.specs.declared.scope.Scope.{Scope}
 use Rattle.core_actions.specs.declared.actions.Acted.{Acted}
 
@@ -70,3 +70,9 @@ module _ (k : Given) where
   Changes code more s′ cs′ r =
       (r .names ≡ 0)
       × ((sig : Sig) (y : ChangeAt sig (k .ws) more (k .at)) (bound : List ℕ) → Counted sig (k .cs) → Scoped sig bound (k .s) (k .scope) → RowWalk sig bound code more y s′ cs′ r)
+
+  -- what the contract of `lower_action` says of an answer
+  abbrev pub DoesAction : List ℕ → List ℕ → Acted → Type 0
+  DoesAction s′ cs′ r =
+      (sig : Sig) (x : ActionAt sig (k .ws) (k .at)) (bound : List ℕ) → Counted sig (k .cs) → Scoped sig bound (k .s) (k .scope) → Signed sig (k .gs)
+      → Does sig (lowerAction sig bound (x .value) (k .cs)) (x .size) s′ cs′ r

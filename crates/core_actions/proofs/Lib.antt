@@ -17,3 +17,4 @@ pub mod UnionAsSet
 pub mod ReadActions
 pub mod ByCode
 pub mod ActionRows
+pub mod HeadRows

@@ -1,5 +1,4 @@
 -- Whether a union becomes a set: the flag and the first words of its sides say it, and each way out is one case of the definition. Assumes nothing.
-use Prim.Native.Nat.{_+_}
 use mathlib.Core.Path.{sym, _∙_}
 use native.Mathlib.Omega.{arith}
 use Rattle.octets.specs.Words.{words}

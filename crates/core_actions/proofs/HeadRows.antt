@@ -1,0 +1,168 @@
+-- The row of a head's actions, as the loop over it walks it: what is so between two turns, what a turn's call asks, and each way out. Assumes nothing.
+use mathlib.Core.Path.{_≡_, refl, _∙_}
+use mathlib.Core.List.{List}
+use Prim.Native.Nat.{ℕ, _+_, _-_, _^_, _≤_, _<_}
+use native.Mathlib.Omega.{arith}
+use lib.ListN.{length}
+use Rattle.rules.specs.Signature.{Sig}
+use Rattle.rules.specs.ToCoreActions.{lowerAction, toCoreActions}
+use Rattle.walks.specs.Steps.{Walked, Room, Under, Counted}
+use Rattle.walks.specs.declared.Walk.{Walk}
+use Rattle.walks.proofs.Asks.{counted-kept}
+use Rattle.walks.proofs.Steps.{went}
+use Rattle.walks.proofs.Rows.{Going, going-start, going-room}
+use Rattle.core_actions.specs.Scopes.{Scoped, ScopeRoom, Names}
+use Rattle.core_actions.specs.Lowered.{donePiece}
+use Rattle.core_actions.specs.Acts.{ActionAt, ActionsAt, Acts, Gave, Signed}
+use Rattle.core_actions.specs.declared.scope.Scope.{Scope}
+use Rattle.core_actions.specs.declared.actions.Acted.{Acted}
+use Rattle.core_actions.proofs.Given.{Given, gives, RoomFor, ScopeRoomFor, StandingSigned, DoesAction}
+use Rattle.core_actions.proofs.Expressions.{standing}
+use Rattle.core_actions.proofs.ReadActions.{action-inside}
+use Rattle.core_actions.proofs.ActionRows.{having, acts-few, Left, left-all, left-none, first-action, left-stop, left-next, left-going}
+
+-- the head: the words of the signature, the rule, the scratch and the counters, n actions from `at` on, and where they are written
+pub record Head : Type 0 where
+  pub gs : List ℕ
+  pub ws : List ℕ
+  pub s : List ℕ
+  pub cs : List ℕ
+  pub at : ℕ
+  pub n : ℕ
+  pub to : ℕ
+  pub lg : ℕ
+  pub scope : Scope
+
+abbrev pub head : (gs ws s cs : List ℕ) (at n to lg : ℕ) → Scope → Head
+head gs ws s cs at n to lg scope = record { gs = gs; ws = ws; s = s; cs = cs; at = at; n = n; to = to; lg = lg; scope = scope }
+
+module _ (h : Head) where
+  -- the first stack: it lies behind the names
+  abbrev sp : ℕ
+  sp = h .scope .first + h .scope .names
+
+  abbrev pub Known : Type 0
+  Known = Under (λ sig. ActionsAt sig (h .ws) (h .n) (h .at) × Counted sig (h .cs) × Names sig (h .s) (h .scope) × Signed sig (h .gs))
+
+  -- what the contract says of an answer
+  abbrev pub Answers : List ℕ → List ℕ → Acted → Type 0
+  Answers s′ cs′ r =
+      (sig : Sig) (x : ActionsAt sig (h .ws) (h .n) (h .at)) (bound : List ℕ) → Counted sig (h .cs) → Scoped sig bound (h .s) (h .scope) → Signed sig (h .gs)
+      → Walked 0 (Gave r) (donePiece (toCoreActions sig bound (x .value) (h .cs))) (x .size) (h .at) (h .to) sp (h .lg) (h .s) (h .cs) s′ cs′ (r .walk)
+
+  -- what the next action is given, with these names let
+  abbrev pub turn : ℕ → List ℕ → List ℕ → Walk → Given
+  turn names s1 cs1 w = gives (h .gs) (h .ws) s1 cs1 (w .next) (w .to) (h .scope .first + names) (w .log) (having (h .scope) names)
+
+-- between two turns: `left` actions are left, of which the walk makes the whole
+pub record Row (h : Head) (left names count : ℕ) (s1 cs1 : List ℕ) (w : Walk) : Type 0 where
+  pub known : Known h
+  pub room : Room (length (h .ws)) (h .at) (h .to) (sp h) (h .lg) (length (h .s))
+  pub scopeRoom : ScopeRoom (length (h .ws)) (h .at) (h .to) (sp h) (h .scope)
+  pub fits : length (h .s) < 2 ^ 64
+  pub scratch : length s1 ≡ length (h .s)
+  pub counters : length cs1 ≡ length (h .cs)
+  pub going : Going (h .at) (h .to) (sp h) (h .lg) (h .s) (h .cs) (h .scope .first + names) s1 cs1 w
+  pub written : h .to + count ≤ w .to
+  pub rest : (sig : Sig) (x : ActionsAt sig (h .ws) (h .n) (h .at)) (bound : List ℕ) → Counted sig (h .cs) → Scoped sig bound (h .s) (h .scope) → Signed sig (h .gs)
+      → Left sig bound (h .ws) (h .n) (h .at) (h .to) (h .lg) (h .scope) (h .s) (h .cs) x left names count s1 cs1 w
+
+-- at the start all are left
+pub row-start : {h : Head} → Known h → Room (length (h .ws)) (h .at) (h .to) (sp h) (h .lg) (length (h .s)) → ScopeRoom (length (h .ws)) (h .at) (h .to) (sp h) (h .scope)
+    → length (h .s) < 2 ^ 64 → Row h (h .n) (h .scope .names) 0 (h .s) (h .cs) (standing (h .at) (h .to) (h .lg))
+row-start {h} q room sr fits =
+    record {
+      known = q;
+      room = room;
+      scopeRoom = sr;
+      fits = fits;
+      scratch = refl;
+      counters = refl;
+      going = going-start (h .at) (h .to) (sp h) (h .lg) 0 (h .s) (h .cs);
+      written = omega arith;
+      rest = λ sig x bound n sc sg. left-all sig bound (h .ws) (h .n) (h .at) (h .to) (h .lg) (h .scope) (h .s) (h .cs) x 0 sc;
+    }
+
+module _ {h : Head} {left names count : ℕ} {s1 cs1 : List ℕ} {w : Walk} (row : Row h left names count s1 cs1 w) where
+  -- where none are left, the row is walked
+  pub row-done : left ≡ 0 → Answers h s1 cs1 (record { walk = w; names = names; count = count })
+  row-done z sig x bound n sc sg =
+      left-none sig bound (h .ws) (h .n) (h .at) (h .to) (h .lg) (h .scope) (h .s) (h .cs) x left names count s1 cs1 w (row .rest sig x bound n sc sg) (row .going .fine) z
+
+  pub turn-room : RoomFor (turn h names s1 cs1 w)
+  turn-room = going-room (length (h .ws)) (length s1) (row .room) (row .scratch) (row .going)
+
+  pub turn-scope : ScopeRoomFor (turn h names s1 cs1 w)
+  turn-scope =
+      let sr = row .scopeRoom in
+      let g = row .going in
+      let nx = g .next in
+      record { few = sr .few; body = omega (arith, sr .body, g .words); names = omega (arith, sr .names, g .wordsTo); top = omega arith }
+
+  -- while any are left, the next one stands where the walk has come to
+  module _ (some : 0 < left) where
+    -- what is left under the signature that is known
+    here : let q = row .known in
+        Left (q .sig) (q .known .2 .bound) (h .ws) (h .n) (h .at) (h .to) (h .lg) (h .scope) (h .s) (h .cs) (q .known .0) left names count s1 cs1 w
+    here = let q = row .known in row .rest (q .sig) (q .known .0) (q .known .2 .bound) (q .known .1) (q .known .2 .scoped) (q .known .3)
+
+    first : ActionAt (row .known .sig) (h .ws) (w .next)
+    first =
+        let q = row .known in
+        first-action (q .sig) (q .known .2 .bound) (h .ws) (h .n) (h .at) (h .to) (h .lg) (h .scope) (h .s) (h .cs) left (w .next) (here .rest) some
+
+    pub turn-asks : StandingSigned (turn h names s1 cs1 w) (λ sig. ActionAt sig (h .ws) (w .next))
+    turn-asks =
+        let q = row .known in
+        record { sig = q .sig; known = (first, counted-kept (q .known .1) (row .counters), record { bound = here .now; scoped = here .scoped }, q .known .3) }
+
+    -- there is a name's room above the names
+    pub names-below : h .scope .first + names + 1 < 2 ^ 64
+    names-below = omega (arith, turn-room .stack, turn-room .log, action-inside (row .known .sig) (h .ws) (w .next) first, row .scratch, row .fits)
+
+    -- it is lowered: a, with s2 and cs2 left behind
+    module _ {s2 cs2 : List ℕ} {a : Acted} (does : DoesAction (turn h names s1 cs1 w) s2 cs2 a) where
+      -- one that is refused refuses the row
+      pub row-stop : (a .walk .refused ≡ 0 → ⊥) → Answers h s2 cs2 (record { walk = a .walk; names = names; count = count })
+      row-stop bad sig x bound n sc sg =
+          let l = row .rest sig x bound n sc sg in
+          left-stop sig bound (h .ws) (h .n) (h .at) (h .to) (h .lg) (h .scope) (h .s) (h .cs) x left names count s1 cs1 w l some turn-room s2 cs2 a
+          (λ y. does sig y (l .now) (counted-kept n (row .counters)) (l .scoped) sg) bad
+
+      -- and behind any other one less is left
+      module _ (fine : a .walk .refused ≡ 0) where
+        acts : Acts (lowerAction (row .known .sig) (here .now) (first .value) cs1) (row .known .sig) (having (h .scope) names) (first .size)
+            (w .next) (w .to) (h .scope .first + names) (w .log) s1 cs1 s2 cs2 a
+        acts = let q = row .known in does (q .sig) first (here .now) (counted-kept (q .known .1) (row .counters)) (here .scoped) (q .known .3)
+
+        few : (a .names ≤ 1) × (w .to + a .count ≤ a .walk .to)
+        few = acts-few (lowerAction (row .known .sig) (here .now) (first .value) cs1) acts fine
+
+        pub names-fit : names + a .names < 2 ^ 64
+        names-fit = omega (arith, few .0, names-below)
+
+        pub count-fits : count + a .count < 2 ^ 64
+        count-fits =
+            let g = went (donePiece (lowerAction (row .known .sig) (here .now) (first .value) cs1)) (acts .piece) fine in
+            let r = turn-room in
+            omega (arith, few .1, row .written, g .upTo, first .inside, r .words, r .stack, r .log, row .scratch, row .fits)
+
+        pub row-next : length cs2 ≡ length cs1 → length s2 ≡ length s1 → Row h (left - 1) (names + a .names) (count + a .count) s2 cs2 (a .walk)
+        row-next ec es =
+            let q = row .known in
+            record {
+              known = q;
+              room = row .room;
+              scopeRoom = row .scopeRoom;
+              fits = row .fits;
+              scratch = es ∙ row .scratch;
+              counters = ec ∙ row .counters;
+              going =
+                  left-going (q .sig) (q .known .2 .bound) (h .ws) (h .n) (h .at) (h .to) (h .lg) (h .scope) (h .s) (h .cs) (q .known .0) left names count s1 cs1 w here some turn-room s2 cs2 a
+                  (λ y. does (q .sig) y (here .now) (counted-kept (q .known .1) (row .counters)) (here .scoped) (q .known .3)) (row .room) (row .going) fine;
+              written = omega (arith, few .1, row .written);
+              rest =
+                  λ sig x bound n sc sg. let l = row .rest sig x bound n sc sg in
+                  left-next sig bound (h .ws) (h .n) (h .at) (h .to) (h .lg) (h .scope) (h .s) (h .cs) x left names count s1 cs1 w l some turn-room s2 cs2 a
+                  (λ y. does sig y (l .now) (counted-kept n (row .counters)) (l .scoped) sg) fine;
+            }
