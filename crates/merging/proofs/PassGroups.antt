@@ -85,10 +85,6 @@ groups-none fs ts e = go (merged fs ts) (groups-more fs ts)
     go [] h = refl
     go (x ∷ es) h = absurd (omega (arith, e, h))
 
--- and the other way round
-pub groups-empty : (fs ts : List Tab) → merged fs ts ≡ [] → length (wordsOf groupWords (groupsOf fs ts)) ≡ 0
-groups-empty fs ts e = omega (arith, groups-small fs ts, ap length e)
-
 -- ---- the groups that are written: those with an equality
 
 abbrev withRights : List ℕ → Group → List Group → List Group

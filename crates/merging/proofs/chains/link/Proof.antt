@@ -1,4 +1,4 @@
--- `chains::link` meets its contract: the atoms before the walk's offset are linked. Assumes nothing.
+-- Each turn links one atom more, so the atoms before the loop's offset are linked, and behind the loop all of them are. Assumes nothing.
 use mathlib.Core.Path.{_∙_, _≡_, refl}
 use Prim.Native.Nat.{_-_}
 use native.Mathlib.Omega.{arith}
@@ -15,44 +15,46 @@ Inv-loop s₀ from n links table count i₀ s i = (length s ≡ length s₀) × 
 abbrev μ-loop : tie.MeasureT-loop
 μ-loop s₀ from n links table count i₀ s i = n - i
 
--- src/chains.rt:34:5
 fill-requires : tie.Need-fill-requires Inv-loop μ-loop
 fill-requires c κs = c .before .before .pre .room
 
--- src/chains.rt:36:5
+abbrev fill-start : tie.After-fill Inv-loop μ-loop → tie.Start Inv-loop μ-loop
+fill-start c = c .before .before .before
+
 loop-holds : tie.Need-loop-holds Inv-loop μ-loop
-loop-holds c = (refl, linking-start _ _ _ _ _ _ _ (c .before .before .before .before .before .pre) (c .before .before .fill .ensures))
+loop-holds c = let f = c .before .before in (refl, linking-start (fill-start f .pre) (f .fill .ensures))
 
--- src/chains.rt:37:14
+-- ---- an atom is left
+
 link-one-requires : tie.Need-link-one-requires Inv-loop μ-loop
-link-one-requires c κs = linking-asks _ _ _ _ _ _ _ _ (c .before .before .loop .inv .1) (c .before .loop-test .taken)
+link-one-requires c κs = linking-asks (c .before .before .loop .inv .1) (c .before .loop-test .taken)
 
--- src/chains.rt:37:9
+abbrev one-in : tie.After-link-one Inv-loop μ-loop → tie.In-loop Inv-loop μ-loop
+one-in c = c .before .before
+
 add-i : tie.Need-add-i Inv-loop μ-loop
 add-i c =
-    let z = linking-size _ _ _ _ _ _ _ _ (c .before .before .before .before .before .loop .inv .1) (c .before .before .before .before .loop-test .taken) in
-    omega (arith, c .before .before .link-one .ensures .0, z)
+    let p = one-in (c .before .before) in
+    omega (arith, c .before .before .link-one .ensures .0, linking-size (p .before .loop .inv .1) (p .loop-test .taken))
 
--- src/chains.rt:36:5
 loop-less : tie.Need-loop-less Inv-loop μ-loop
 loop-less c =
-    let z = linking-size _ _ _ _ _ _ _ _ (c .before .before .before .before .before .loop .inv .1) (c .before .before .before .before .loop-test .taken) in
-    omega (arith, c .before .before .link-one .ensures .0, z)
+    let p = one-in (c .before .before) in
+    omega (arith, c .before .before .link-one .ensures .0, linking-size (p .before .loop .inv .1) (p .loop-test .taken))
 
--- src/chains.rt:36:5
 loop-again : tie.Need-loop-again Inv-loop μ-loop
-loop-again c = (
-  c .before .before .link-one .kept .0 ∙ c .before .before .before .before .before .loop .inv .0,
-  linking-next _ _ _ _ _ _ _ _ (c .before .before .before .before .before .loop .inv .1) (c .before .before .before .before .loop-test .taken) _ (c .before .before .link-one .ensures .1) _ _ (c .before .before .link-one .ensures .0) refl,
-)
+loop-again c =
+    let o = c .before .before .link-one in
+    let p = one-in (c .before .before) in
+    (o .kept .0 ∙ p .before .loop .inv .0, linking-next (p .before .loop .inv .1) (p .loop-test .taken) (o .ensures .1) (o .ensures .0))
 
--- src/chains.rt:30:1
+-- ---- none is left
+
 same-length : tie.Need-same-length Inv-loop μ-loop
 same-length c = search needs
 
--- src/chains.rt:30:1
 returns : tie.Need-returns Inv-loop μ-loop
-returns c = linking-end _ _ _ _ _ _ _ (c .before .before .before .before .before .before .before .pre) (c .before .before .before .before .fill .ensures) _ _ (c .before .loop .inv .1) (omega arith)
+returns c = let f = c .before .before .before .before in linking-end (fill-start f .pre) (f .fill .ensures) (c .before .loop .inv .1) (omega arith)
 
 pub link-spec : {M : Type 1} → statement M
 link-spec =
