@@ -6,4 +6,5 @@ pub mod Replacing
 pub mod Runs
 pub mod Resolving
 pub mod Fronts
+pub mod Fronting
 pub mod Canonicalizing

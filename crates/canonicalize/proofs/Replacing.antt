@@ -3,7 +3,7 @@ use mathlib.Core.Bool.{Bool, false, false≢true, true}
 use mathlib.Core.List.{List, [], _++_, _∷_, append-assoc, append-nil, map}
 use mathlib.Core.Option.{Option, none, some}
 use mathlib.Core.Path.{_∙_, _≡_, ap, refl, subst, sym}
-use Prim.Native.Nat.{_*_, _+_, _-_, _<_, _≤_, suc, ℕ}
+use Prim.Native.Nat.{_*_, _+_, _-_, _^_, _<_, _≤_, suc, ℕ}
 use native.Mathlib.Omega.{arith}
 use lib.Dec.{eqb}
 use lib.ListN.{getD, length, length-append, length-map}
@@ -24,7 +24,7 @@ use Rattle.meaning.specs.Sweep.{asks}
 use Rattle.bodies.specs.Standing.{AtomsAt, atomsIn, sizeAt}
 use Rattle.bodies.proofs.Standing.{bare-replaced, size-atom}
 use Rattle.canonicalize.specs.declared.Asked.{Asked}
-use Rattle.canonicalize.specs.Canonicalize.{ReplaceAsks, Replaced, Stepped, Swept, askAt, askFor, askedOf, bindingWords, placeAfter}
+use Rattle.canonicalize.specs.Canonicalize.{ReplaceAsks, Replaced, StepAsks, Stepped, Swept, askAt, askFor, askedOf, bindingWords, placeAfter}
 use Rattle.canonicalize.specs.Spans.{Spanned}
 use Rattle.canonicalize.specs.Spans as span
 use Rattle.canonicalize.proofs.SpanLaws.{spanned-before}
@@ -61,63 +61,7 @@ whole-equality : (x : Atom) (l : List ℕ) (p : ℕ) → At (atomWords x) l p �
 whole-equality (eqn r a b) l p s e = s .within
 whole-equality (tab t) l p s e = absurd (no-equality (t .head) (suc (length (t .ins))) (sym (at-first s) ∙ e))
 
--- ---- the loop on its way: p is the place of the next atom, d where the bindings begin
-
-pub record Replacing (s : Sig) (l m : List ℕ) (at n d₀ table buckets p d : ℕ) : Type 0 where
-  pub done : List Atom
-  pub todo : List Atom
-  pub rs : List Replacement
-  pub atoms : AtomsAt (done ++ todo) m at n
-  pub here : p ≡ at + length (wordsOf atomWords done)
-  pub binds : At (bindingWords rs) m d
-  pub count : d + 3 * length rs ≡ d₀
-  pub room : table + 2 * buckets + 3 * length todo + 3 ≤ d
-  pub only : Only l m at d₀
-  pub between : (ws : List ℕ) (q : ℕ) → At ws l q → table + 2 * buckets ≤ q → q + length ws ≤ d → At ws m q
-  pub spanned : Spanned m at n table buckets
-  pub sweep : Sweeping s (atomsIn l at n) [] done todo rs
-
--- the atom that is next
-pub record Next (s : Sig) (l m : List ℕ) (at n d₀ table buckets p d : ℕ) (w : Replacing s l m at n d₀ table buckets p d) : Type 0 where
-  pub atom : Atom
-  pub rest : List Atom
-  pub is : w .todo ≡ atom ∷ rest
-  pub stands : At (atomWords atom) m p
-  pub inside : p + length (atomWords atom) ≤ at + n
-  pub size : sizeAt m p ≡ length (atomWords atom)
-  pub whole : getD m p 0 ≡ equalityWord → p + 3 ≤ length m
-
-module _ (s : Sig) (l m : List ℕ) (at n d₀ table buckets p d : ℕ) (w : Replacing s l m at n d₀ table buckets p d) where
-  sizes : n ≡ length (wordsOf atomWords (w .done)) + length (wordsOf atomWords (w .todo))
-  sizes = w .atoms .size ∙ length-words-append atomWords (w .done) (w .todo)
-
-  pub next-atom : p < at + n → Next s l m at n d₀ table buckets p d w
-  next-atom h = go (w .todo) refl
-    where
-      go : (ys : List Atom) → w .todo ≡ ys → Next s l m at n d₀ table buckets p d w
-      go [] e = absurd (omega (arith, sizes, w .here, ap (λ (zs : List Atom). length (wordsOf atomWords zs)) e))
-      go (x ∷ xs) e =
-          let f : Encodable x = all-right Encodable (w .done) (x ∷ xs) (subst (λ (ys : List Atom). All Encodable (w .done ++ ys)) e (w .atoms .fits)) .0 in
-          let tail : At (wordsOf atomWords (w .todo)) m p =
-          at-right (wordsOf atomWords (w .done)) p (subst (λ (ws : List ℕ). At ws m at) (words-append atomWords (w .done) (w .todo)) (w .atoms .at)) (w .here) in
-          let k : At (atomWords x) m p = at-left (wordsOf atomWords xs) (subst (λ (ys : List Atom). At (wordsOf atomWords ys) m p) e tail) in
-          record {
-            atom = x;
-            rest = xs;
-            is = e;
-            stands = k;
-            inside = omega (arith, sizes, w .here, ap (λ (zs : List Atom). length (wordsOf atomWords zs)) e, length-append (atomWords x) (wordsOf atomWords xs));
-            size = size-atom x f m p k;
-            whole = whole-equality x m p k;
-          }
-
-  nothing-left : at + n ≤ p → w .todo ≡ []
-  nothing-left h = go (w .todo) refl
-    where
-      go : (ys : List Atom) → w .todo ≡ ys → ys ≡ []
-      go [] e = refl
-      go (x ∷ xs) e =
-          absurd (omega (arith, sizes, w .here, ap (λ (zs : List Atom). length (wordsOf atomWords zs)) e, length-append (atomWords x) (wordsOf atomWords xs), two-atom x))
+-- ---- one replacement
 
 pub bindings-append : (qs rs : List Replacement) → bindingWords (qs ++ rs) ≡ bindingWords qs ++ bindingWords rs
 bindings-append [] rs = refl
@@ -131,9 +75,9 @@ pub record Made (r : Replacement) (xs : List Atom) (rs : List Replacement) (m m�
   pub between : (ws : List ℕ) (q : ℕ) → At ws m q → table + 2 * buckets ≤ q → q + length ws ≤ d - 3 → At ws m₂ q
   pub spanned : Spanned m₂ p n table buckets
 
-pub made : (s : Sig) (r : Replacement) (xs : List Atom) (rs : List Replacement) (m m₂ : List ℕ) (p n d table buckets : ℕ) → isVar s (r .old) ≡ true
+pub made : (s : Sig) {r : Replacement} {xs : List Atom} (rs : List Replacement) {m m₂ : List ℕ} {p n d table buckets : ℕ} → isVar s (r .old) ≡ true
     → AtomsAt xs m p n → At (bindingWords rs) m d → table + 2 * buckets + 3 ≤ d → Swept r m m₂ p n d table buckets → Made r xs rs m m₂ p n d table buckets
-made s r xs rs m m₂ p n d table buckets v a b h em =
+made s {r} {xs} rs {m} {m₂} {p} {n} {d} {table} {buckets} v a b h em =
     let ys : List Atom = map (replaceAtom r) xs in
     let bind : List ℕ = bindingWords (r ∷ []) in
     let ws : map (replaceTerm r) (part m p n) ≡ wordsOf atomWords ys =
@@ -165,36 +109,163 @@ made s r xs rs m m₂ p n d table buckets v a b h em =
       spanned = subst (λ (x : List ℕ). Spanned x p n table buckets) em₂ (em .spanned);
     })
 
-module _ (s : Sig) (l : List ℕ) (at n d₀ table buckets : ℕ) where
-  pub replacing-start : ReplaceAsks l at n d₀ table buckets → Replacing s l l at n d₀ table buckets at d₀
-  replacing-start c =
-      record {
-        done = [];
-        todo = atomsIn l at n;
-        rs = [];
-        atoms = c .atoms;
-        here = omega arith;
-        binds = at-nil l d₀ (c .top);
-        count = omega arith;
-        room = c .room;
-        only = only-same l at d₀;
-        between = λ ws q z low high. z;
-        spanned = c .spanned;
-        sweep = sweep-start s (atomsIn l at n) [];
-      }
+-- ---- `replace_step`: the atom at p is tried
 
-  module _ (m : List ℕ) (p d : ℕ) (w : Replacing s l m at n d₀ table buckets p d) (x : Atom) (xs : List Atom) (is : w .todo ≡ x ∷ xs) where
+-- what the contract says of an answer
+abbrev pub StepAnswers : Sig → (l m : List ℕ) (at n p d table buckets r : ℕ) → Type 0
+StepAnswers s l m at n p d table buckets r = (r ≡ placeAfter (askAt s l p) d) × Stepped (askAt s l p) l m at n d table buckets
+
+-- it is an equality
+pub record Equality (l : List ℕ) (p : ℕ) : Type 0 where
+  pub word : getD l p 0 ≡ equalityWord
+  pub within : p + 3 ≤ length l
+  pub fits : length l < 2 ^ 64
+
+-- its terms are a and b, and t says what they ask for
+pub asks-terms : (s : Sig) {l : List ℕ} {p a b : ℕ} {t : Asked} → Equality l p → a ≡ getD l (p + 1) 0 → b ≡ getD l (p + 2) 0
+    → t ≡ askedOf (replacementOf (sameTerm a b) (isVar s a) (isVar s b) a b) → t ≡ askedOf (askAt s l p)
+unfolding askAt
+asks-terms s {l} {p} q ea eb et =
+    let c : true ≡ eqb (getD l p 0) equalityWord = sym (eq-eqb (getD l p 0) equalityWord (q .word)) in
+    et ∙ (λ i. askedOf (askFor (c i) s (ea i) (eb i)))
+
+module _ (s : Sig) {l : List ℕ} {at n p d table buckets : ℕ} (c : StepAsks l at n p d table buckets) where
+  asked-nothing : askAt s l p ≡ none → StepAnswers s l l at n p d table buckets d
+  asked-nothing e = (ap (λ (o : Option Replacement). placeAfter o d) (sym e), subst (λ (o : Option Replacement). Stepped o l l at n d table buckets) (sym e) refl)
+
+  -- no equality
+  pub step-other : (getD l p 0 ≡ equalityWord → ⊥) → StepAnswers s l l at n p d table buckets d
+  unfolding askAt
+  step-other h = asked-nothing (ap (λ (b : Bool). askFor b s (getD l (p + 1) 0) (getD l (p + 2) 0)) (ne-eqb (getD l p 0) equalityWord h))
+
+  -- one that asks for nothing
+  pub step-none : {t : Asked} → t ≡ askedOf (askAt s l p) → t .yes ≡ false → StepAnswers s l l at n p d table buckets d
+  step-none {t} e y = asked-nothing (asked-none (askAt s l p) t e y)
+
+  -- one whose replacement is made, which leaves m₁, and bound
+  pub step-some : {t : Asked} {m₁ m : List ℕ} → t ≡ askedOf (askAt s l p) → t .yes ≡ true → span.Replacing l m₁ at n (t .old) (t .new) table buckets
+      → length m₁ ≡ length l → m ≡ splice m₁ (d - 3) (bindingWords (record { old = t .old; new = t .new } ∷ [])) → StepAnswers s l m at n p d table buckets (d - 3)
+  unfolding swap
+  step-some {t} {m₁} {m} e y k size em =
+      let r : Replacement = record { old = t .old; new = t .new } in
+      let is : some r ≡ askAt s l p = sym (asked-some (askAt s l p) t e y) in
+      let bind : List ℕ = bindingWords (r ∷ []) in
+      let o : Only m₁ (splice m₁ (d - 3) bind) (d - 3) d = only-splice m₁ (d - 3) bind d (omega (arith, c .room)) (omega (arith, c .top)) in
+      let o₂ : Only m₁ m (d - 3) d = subst (λ (x : List ℕ). Only m₁ x (d - 3) d) (sym em) o in
+      let w : Swept r l m at n d table buckets =
+      record {
+        spans = k .spans;
+        words = em ∙ ap (λ (x : List ℕ). splice x (d - 3) bind) (k .words);
+        size = k .size;
+        spanned = spanned-before o₂ (k .spanned) (omega (arith, c .room));
+      } in
+      (ap (λ (x : Option Replacement). placeAfter x d) is, subst (λ (x : Option Replacement). Stepped x l m at n d table buckets) is w)
+
+-- ---- `replace_all`: p is the place of the next atom, d where the bindings begin
+
+pub record Replacing (s : Sig) (l m : List ℕ) (at n d₀ table buckets p d : ℕ) : Type 0 where
+  pub done : List Atom
+  pub todo : List Atom
+  pub rs : List Replacement
+  pub atoms : AtomsAt (done ++ todo) m at n
+  pub here : p ≡ at + length (wordsOf atomWords done)
+  pub binds : At (bindingWords rs) m d
+  pub count : d + 3 * length rs ≡ d₀
+  pub room : table + 2 * buckets + 3 * length todo + 3 ≤ d
+  pub only : Only l m at d₀
+  pub between : (ws : List ℕ) (q : ℕ) → At ws l q → table + 2 * buckets ≤ q → q + length ws ≤ d → At ws m q
+  pub spanned : Spanned m at n table buckets
+  pub sweep : Sweeping s (atomsIn l at n) [] done todo rs
+
+-- the atom that is next
+pub record Next {s : Sig} {l m : List ℕ} {at n d₀ table buckets p d : ℕ} (w : Replacing s l m at n d₀ table buckets p d) : Type 0 where
+  pub atom : Atom
+  pub rest : List Atom
+  pub is : w .todo ≡ atom ∷ rest
+  pub stands : At (atomWords atom) m p
+  pub size : sizeAt m p ≡ length (atomWords atom)
+  pub inside : p + sizeAt m p ≤ at + n
+  pub some : 1 ≤ sizeAt m p
+  pub asks : StepAsks m at n p d table buckets
+
+pub replacing-start : {s : Sig} {l : List ℕ} {at n d₀ table buckets : ℕ} → ReplaceAsks l at n d₀ table buckets → Replacing s l l at n d₀ table buckets at d₀
+replacing-start {s} {l} {at} {n} {d₀} c =
+    record {
+      done = [];
+      todo = atomsIn l at n;
+      rs = [];
+      atoms = c .atoms;
+      here = omega arith;
+      binds = at-nil l d₀ (c .top);
+      count = omega arith;
+      room = c .room;
+      only = only-same l at d₀;
+      between = λ ws q z low high. z;
+      spanned = c .spanned;
+      sweep = sweep-start s (atomsIn l at n) [];
+    }
+
+module _ {s : Sig} {l m : List ℕ} {at n d₀ table buckets p d : ℕ} (w : Replacing s l m at n d₀ table buckets p d) where
+  sizes : n ≡ length (wordsOf atomWords (w .done)) + length (wordsOf atomWords (w .todo))
+  sizes = w .atoms .size ∙ length-words-append atomWords (w .done) (w .todo)
+
+  pub next-atom : p < at + n → Next w
+  next-atom h = go (w .todo) refl
+    where
+      go : (ys : List Atom) → w .todo ≡ ys → Next w
+      go [] e = absurd (omega (arith, sizes, w .here, ap (λ (zs : List Atom). length (wordsOf atomWords zs)) e))
+      go (x ∷ xs) e =
+          let f : Encodable x = all-right Encodable (w .done) (x ∷ xs) (subst (λ (ys : List Atom). All Encodable (w .done ++ ys)) e (w .atoms .fits)) .0 in
+          let tail : At (wordsOf atomWords (w .todo)) m p =
+          at-right (wordsOf atomWords (w .done)) p (subst (λ (ws : List ℕ). At ws m at) (words-append atomWords (w .done) (w .todo)) (w .atoms .at)) (w .here) in
+          let k : At (atomWords x) m p = at-left (wordsOf atomWords xs) (subst (λ (ys : List Atom). At (wordsOf atomWords ys) m p) e tail) in
+          let size : sizeAt m p ≡ length (atomWords x) = size-atom x f m p k in
+          record {
+            atom = x;
+            rest = xs;
+            is = e;
+            stands = k;
+            size = size;
+            inside = omega (arith, sizes, w .here, ap (λ (zs : List Atom). length (wordsOf atomWords zs)) e, length-append (atomWords x) (wordsOf atomWords xs));
+            some = omega (arith, two-atom x);
+            asks = record {
+              here = omega (arith, w .atoms .within);
+              whole = whole-equality x m p k;
+              spanned = w .spanned;
+              room = omega (arith, w .room);
+              top = omega (arith, w .binds .within);
+            };
+          }
+
+  nothing-left : at + n ≤ p → w .todo ≡ []
+  nothing-left h = go (w .todo) refl
+    where
+      go : (ys : List Atom) → w .todo ≡ ys → ys ≡ []
+      go [] e = refl
+      go (x ∷ xs) e =
+          absurd (omega (arith, sizes, w .here, ap (λ (zs : List Atom). length (wordsOf atomWords zs)) e, length-append (atomWords x) (wordsOf atomWords xs), two-atom x))
+
+  module _ (t : Next w) {z : ℕ} (ez : z ≡ sizeAt m p) where
+    abbrev x : Atom
+    x = t .atom
+
+    abbrev xs : List Atom
+    xs = t .rest
+
     swept : Sweeping s (atomsIn l at n) [] (w .done) (x ∷ xs) (w .rs)
-    swept = subst (λ (ys : List Atom). Sweeping s (atomsIn l at n) [] (w .done) ys (w .rs)) is (w .sweep)
+    swept = subst (λ (ys : List Atom). Sweeping s (atomsIn l at n) [] (w .done) ys (w .rs)) (t .is) (w .sweep)
 
     there : AtomsAt (w .done ++ x ∷ xs) m at n
-    there = subst (λ (ys : List Atom). AtomsAt (w .done ++ ys) m at n) is (w .atoms)
+    there = subst (λ (ys : List Atom). AtomsAt (w .done ++ ys) m at n) (t .is) (w .atoms)
 
-    done-size : length (wordsOf atomWords (w .done ++ x ∷ [])) ≡ length (wordsOf atomWords (w .done)) + length (atomWords x)
-    done-size = length-words-append atomWords (w .done) (x ∷ []) ∙ ap (λ (ws : List ℕ). length (wordsOf atomWords (w .done)) + length ws) (append-nil (atomWords x))
+    done-size : length (wordsOf atomWords (w .done ++ x ∷ [])) ≡ length (wordsOf atomWords (w .done)) + z
+    done-size =
+        length-words-append atomWords (w .done) (x ∷ [])
+        ∙ ap (λ (ws : List ℕ). length (wordsOf atomWords (w .done)) + length ws) (append-nil (atomWords x))
+        ∙ ap (λ (k : ℕ). length (wordsOf atomWords (w .done)) + k) (sym (ez ∙ t .size))
 
-    past : (p₂ : ℕ) → asks s x ≡ none → p₂ ≡ p + length (atomWords x) → Replacing s l m at n d₀ table buckets p₂ d
-    past p₂ e ep =
+    past : asks s x ≡ none → Replacing s l m at n d₀ table buckets (p + z) d
+    past e =
         record {
           done = w .done ++ x ∷ [];
           todo = xs;
@@ -203,18 +274,17 @@ module _ (s : Sig) (l : List ℕ) (at n d₀ table buckets : ℕ) where
           here = omega (arith, w .here, done-size);
           binds = w .binds;
           count = w .count;
-          room = omega (arith, w .room, ap length is);
+          room = omega (arith, w .room, ap length (t .is));
           only = w .only;
           between = w .between;
           spanned = w .spanned;
           sweep = sweep-past s (atomsIn l at n) [] (w .done) x xs (w .rs) swept e;
         }
 
-    replaced : (m₂ : List ℕ) (p₂ d₂ : ℕ) (r : Replacement) → asks s x ≡ some r → Swept r m m₂ at n d table buckets → d₂ ≡ d - 3 → p₂ ≡ p + length (atomWords x)
-        → Replacing s l m₂ at n d₀ table buckets p₂ d₂
-    replaced m₂ p₂ d₂ r e em ed ep =
-        let room : table + 2 * buckets + 3 * suc (length xs) + 3 ≤ d = omega (arith, w .room, ap length is) in
-        let k = made s r (w .done ++ x ∷ xs) (w .rs) m m₂ at n d table buckets (asked-var s x r e) there (w .binds) (omega arith) em in
+    replaced : {m₂ : List ℕ} {r : Replacement} → asks s x ≡ some r → Swept r m m₂ at n d table buckets → Replacing s l m₂ at n d₀ table buckets (p + z) (d - 3)
+    replaced {m₂} {r} e em =
+        let room : table + 2 * buckets + 3 * suc (length xs) + 3 ≤ d = omega (arith, w .room, ap length (t .is)) in
+        let k = made s (w .rs) (asked-var s x r e) there (w .binds) (omega arith) em in
         let whole : map (replaceAtom r) (w .done ++ x ∷ []) ++ map (replaceAtom r) xs ≡ map (replaceAtom r) (w .done ++ x ∷ xs) =
         sym (map-append (replaceAtom r) (w .done ++ x ∷ []) xs) ∙ ap (map (replaceAtom r)) (append-assoc (w .done) (x ∷ []) xs) in
         record {
@@ -223,33 +293,31 @@ module _ (s : Sig) (l : List ℕ) (at n d₀ table buckets : ℕ) where
           rs = r ∷ w .rs;
           atoms = subst (λ (zs : List Atom). AtomsAt zs m₂ at n) (sym whole) (k .atoms);
           here = omega (arith, w .here, length-replaced r (w .done ++ x ∷ []), done-size);
-          binds = subst (λ (q : ℕ). At (bindingWords (r ∷ w .rs)) m₂ q) (sym ed) (k .binds);
+          binds = k .binds;
           count = omega (arith, w .count);
           room = omega (arith, length-map xs (replaceAtom r));
           only = only-then (w .only) (only-wide at d₀ (k .only) (omega arith) (omega (arith, w .count)));
-          between = λ us q z low high. let h₁ : q + length us ≤ d - 3 = omega arith in let h₂ : q + length us ≤ d = omega arith in k .between us q (w .between us q z low h₂) low h₁;
+          between = λ us q y low high. let top : q + length us ≤ d = omega arith in k .between us q (w .between us q y low top) low high;
           spanned = k .spanned;
           sweep = sweep-replaced s (atomsIn l at n) [] (w .done) x xs (w .rs) r swept e;
         }
 
-  -- a turn of the loop
-  pub replacing-next : (m m₂ : List ℕ) (p p₂ d d₂ : ℕ) (w : Replacing s l m at n d₀ table buckets p d) → p < at + n
-      → d₂ ≡ placeAfter (askAt s m p) d → Stepped (askAt s m p) m m₂ at n d table buckets → p₂ ≡ p + sizeAt m p → Replacing s l m₂ at n d₀ table buckets p₂ d₂
-  replacing-next m m₂ p p₂ d d₂ w h ed em ep =
-      let t = next-atom s l m at n d₀ table buckets p d w h in
-      let q = ask-is s (t .atom) m p (t .stands) in
-      go t (asks s (t .atom)) refl (ed ∙ ap (λ (o : Option Replacement). placeAfter o d) q) (subst (λ (o : Option Replacement). Stepped o m m₂ at n d table buckets) q em) (ep ∙ ap (λ (k : ℕ). p + k) (t .size))
-    where
-      go : (t : Next s l m at n d₀ table buckets p d w) (o : Option Replacement) → asks s (t .atom) ≡ o → d₂ ≡ placeAfter o d → Stepped o m m₂ at n d table buckets → p₂ ≡ p + length (atomWords (t .atom))
-          → Replacing s l m₂ at n d₀ table buckets p₂ d₂
-      go t none e e₁ e₂ e₃ =
-          subst (λ (v : List ℕ). Replacing s l v at n d₀ table buckets p₂ d₂) (sym e₂)
-          (subst (λ (k : ℕ). Replacing s l m at n d₀ table buckets p₂ k) (sym e₁) (past m p d w (t .atom) (t .rest) (t .is) p₂ e e₃))
-      go t (some r) e e₁ e₂ e₃ = replaced m p d w (t .atom) (t .rest) (t .is) m₂ p₂ d₂ r e e₂ e₁ e₃
+    -- a turn of the loop
+    pub replacing-next : {m₂ : List ℕ} {d₂ : ℕ} → d₂ ≡ placeAfter (askAt s m p) d → Stepped (askAt s m p) m m₂ at n d table buckets
+        → Replacing s l m₂ at n d₀ table buckets (p + z) d₂
+    replacing-next {m₂} {d₂} ed em =
+        let q = ask-is s x m p (t .stands) in
+        go (asks s x) refl (ed ∙ ap (λ (o : Option Replacement). placeAfter o d) q) (subst (λ (o : Option Replacement). Stepped o m m₂ at n d table buckets) q em)
+      where
+        go : (o : Option Replacement) → asks s x ≡ o → d₂ ≡ placeAfter o d → Stepped o m m₂ at n d table buckets → Replacing s l m₂ at n d₀ table buckets (p + z) d₂
+        go none e e₁ e₂ =
+            subst (λ (v : List ℕ). Replacing s l v at n d₀ table buckets (p + z) d₂) (sym e₂)
+            (subst (λ (k : ℕ). Replacing s l m at n d₀ table buckets (p + z) k) (sym e₁) (past e))
+        go (some r) e e₁ e₂ = subst (λ (k : ℕ). Replacing s l m₂ at n d₀ table buckets (p + z) k) (sym e₁) (replaced e e₂)
 
-  pub replacing-end : (m : List ℕ) (p d : ℕ) → Replacing s l m at n d₀ table buckets p d → at + n ≤ p → Replaced s l m at n d₀ table buckets d
-  replacing-end m p d w h =
-      let e = nothing-left s l m at n d₀ table buckets p d w h in
+  pub replacing-end : at + n ≤ p → Replaced s l m at n d₀ table buckets d
+  replacing-end h =
+      let e = nothing-left h in
       let c : record { atoms = w .done; repls = w .rs } ≡ replaceAll s (atomsIn l at n) [] =
       sweep-end s (atomsIn l at n) [] (w .done) (w .rs) (subst (λ (ys : List Atom). Sweeping s (atomsIn l at n) [] (w .done) ys (w .rs)) e (w .sweep)) in
       record {
@@ -260,37 +328,3 @@ module _ (s : Sig) (l : List ℕ) (at n d₀ table buckets : ℕ) where
         between = w .between;
         spanned = w .spanned;
       }
-
--- ---- the ways out of `replace_step`
-
-module _ (s : Sig) (l : List ℕ) (at n p d table buckets : ℕ) where
-  pub asks-not : (getD l p 0 ≡ equalityWord → ⊥) → askAt s l p ≡ none
-  unfolding askAt
-  asks-not h = ap (λ (c : Bool). askFor c s (getD l (p + 1) 0) (getD l (p + 2) 0)) (ne-eqb (getD l p 0) equalityWord h)
-
-  pub asks-terms : (a b : ℕ) → getD l p 0 ≡ equalityWord → a ≡ getD l (p + 1) 0 → b ≡ getD l (p + 2) 0
-      → replacementOf (sameTerm a b) (isVar s a) (isVar s b) a b ≡ askAt s l p
-  unfolding askAt
-  asks-terms a b h ea eb =
-      let c : true ≡ eqb (getD l p 0) equalityWord = sym (eq-eqb (getD l p 0) equalityWord h) in
-      λ i. askFor (c i) s (ea i) (eb i)
-
-  pub step-none : askAt s l p ≡ none → (d ≡ placeAfter (askAt s l p) d) × Stepped (askAt s l p) l l at n d table buckets
-  step-none e = (ap (λ (o : Option Replacement). placeAfter o d) (sym e), subst (λ (o : Option Replacement). Stepped o l l at n d table buckets) (sym e) refl)
-
-  pub step-some : (m₁ m : List ℕ) (r : Replacement) → askAt s l p ≡ some r → span.Replacing l m₁ at n (r .old) (r .new) table buckets
-      → m ≡ splice m₁ (d - 3) (bindingWords (r ∷ [])) → table + 2 * buckets + 3 ≤ d → d ≤ length m₁
-      → (d - 3 ≡ placeAfter (askAt s l p) d) × Stepped (askAt s l p) l m at n d table buckets
-  unfolding swap
-  step-some m₁ m r e k em h top =
-      let bind : List ℕ = bindingWords (r ∷ []) in
-      let o : Only m₁ (splice m₁ (d - 3) bind) (d - 3) d = only-splice m₁ (d - 3) bind d (omega arith) top in
-      let o₂ : Only m₁ m (d - 3) d = subst (λ (x : List ℕ). Only m₁ x (d - 3) d) (sym em) o in
-      let w : Swept r l m at n d table buckets =
-      record {
-        spans = k .spans;
-        words = em ∙ ap (λ (x : List ℕ). splice x (d - 3) bind) (k .words);
-        size = k .size;
-        spanned = spanned-before o₂ (k .spanned) (omega arith);
-      } in
-      (ap (λ (x : Option Replacement). placeAfter x d) (sym e), subst (λ (x : Option Replacement). Stepped x l m at n d table buckets) (sym e) w)

@@ -1,13 +1,14 @@
--- `canonicalize::canonicalize_front` meets its contract. Assumes nothing.
+-- Canonicalizing the equalities in front: each turn leaves what its equality becomes and a rest in which it is done with, and canonicalizing that rest comes to
+-- the same as canonicalizing the whole. Assumes nothing.
 use mathlib.Core.Path.{_∙_, _≡_, refl}
 use Prim.Native.Nat.{_+_, _-_}
 use native.Mathlib.Omega.{arith}
 use lib.ListN.{length}
 use borrow.Author.Needs.{needs}
-use Rattle.octets.proofs.Words.{length-words, length-words-kept}
+use Rattle.octets.proofs.Words.{length-words}
 use Rattle.octets.specs.Words.{words}
 use Rattle.bodies.specs.Terms.{sig}
-use Rattle.canonicalize.proofs.Fronts.{Fronting, front-one-asks, fronting-end, fronting-next, fronting-start}
+use Rattle.canonicalize.proofs.Fronting.{Fronting, Turn, front-one-asks, fronting-end, fronting-next, fronting-start, turn}
 use Rattle.canonicalize.proofs.canonicalize_front.Statement.{statement}
 use Rattle.canonicalize.proofs.canonicalize_front.Tie as tie
 
@@ -17,89 +18,56 @@ Inv-loop s₀ at e k to d spans q i₀ t₀ s i t = (length s ≡ length s₀) �
 abbrev μ-loop : tie.MeasureT-loop
 μ-loop s₀ at e k to d spans q i₀ t₀ s i t = e - i
 
+abbrev In : Type 0
+In = tie.In-loop Inv-loop μ-loop
+
+abbrev start : In → tie.Start Inv-loop μ-loop
+start c = c .before .before .before
+
 loop-holds : tie.Need-loop-holds Inv-loop μ-loop
-loop-holds c = (refl, fronting-start (sig (c .before .args .q)) (words (c .before .args .s .now)) (c .before .args .at) (c .before .args .e) (c .before .args .k) (c .before .args .to) (c .before .args .d) (c .before .args .spans .at) (c .before .args .spans .count) (c .before .pre .1))
+loop-holds c = (refl, fronting-start (c .before .pre .1))
+
+-- ---- the equality that is next
+
+at-turn : (c : In) → let a = start c .args in Turn (a .at) (a .e) (a .k) (a .to) (c .before .loop .i) (c .before .loop .t)
+at-turn c =
+    let e = start c in
+    turn (e .pre .1) (c .before .loop .inv .1) (c .loop-test .taken) (omega (arith, length-words (e .args .s .now), e .good))
 
 add-front-one : tie.Need-add-front-one Inv-loop μ-loop
-add-front-one c =
-    let a = c .before .before .before .before .args in
-    let l = words (a .s .now) in
-    let top = length-words (a .s .now) in
-    let m = words (c .before .before .loop .s) in
-    let i = c .before .before .loop .i in
-    let t = c .before .before .loop .t in
-    let w = c .before .before .loop .inv .1 in
-    let z = front-one-asks (sig (a .q)) l (a .at) (a .e) (a .k) (a .to) (a .d) (a .spans .at) (a .spans .count) (c .before .before .before .before .pre .1) m i t w (c .before .loop-test .taken) in
-    let same : length m ≡ length l = length-words-kept (c .before .before .loop .s) (a .s .now) (c .before .before .loop .inv .0) in
-    omega (arith, z .whole, z .clear, z .binds, z .top, c .before .before .before .before .pre .1 .clear, c .before .before .before .before .pre .1 .spanned .beyond, w .left, w .tabs .within)
+add-front-one c = omega (arith, at-turn (c .before))
 
 sub-front-one : tie.Need-sub-front-one Inv-loop μ-loop
-sub-front-one c =
-    let a = c .before .before .before .before .args in
-    let l = words (a .s .now) in
-    let top = length-words (a .s .now) in
-    let m = words (c .before .before .loop .s) in
-    let i = c .before .before .loop .i in
-    let t = c .before .before .loop .t in
-    let w = c .before .before .loop .inv .1 in
-    let z = front-one-asks (sig (a .q)) l (a .at) (a .e) (a .k) (a .to) (a .d) (a .spans .at) (a .spans .count) (c .before .before .before .before .pre .1) m i t w (c .before .loop-test .taken) in
-    let same : length m ≡ length l = length-words-kept (c .before .before .loop .s) (a .s .now) (c .before .before .loop .inv .0) in
-    omega (arith, z .whole, z .clear, z .binds, z .top, c .before .before .before .before .pre .1 .clear, c .before .before .before .before .pre .1 .spanned .beyond, w .left, w .tabs .within)
+sub-front-one c = omega (arith, at-turn (c .before))
 
 add-front-one-2 : tie.Need-add-front-one-2 Inv-loop μ-loop
-add-front-one-2 c =
-    let a = c .before .before .before .before .args in
-    let l = words (a .s .now) in
-    let top = length-words (a .s .now) in
-    let m = words (c .before .before .loop .s) in
-    let i = c .before .before .loop .i in
-    let t = c .before .before .loop .t in
-    let w = c .before .before .loop .inv .1 in
-    let z = front-one-asks (sig (a .q)) l (a .at) (a .e) (a .k) (a .to) (a .d) (a .spans .at) (a .spans .count) (c .before .before .before .before .pre .1) m i t w (c .before .loop-test .taken) in
-    let same : length m ≡ length l = length-words-kept (c .before .before .loop .s) (a .s .now) (c .before .before .loop .inv .0) in
-    omega (arith, z .whole, z .clear, z .binds, z .top, c .before .before .before .before .pre .1 .clear, c .before .before .before .before .pre .1 .spanned .beyond, w .left, w .tabs .within)
+add-front-one-2 c = omega (arith, at-turn (c .before))
 
 add-front-one-3 : tie.Need-add-front-one-3 Inv-loop μ-loop
-add-front-one-3 c =
-    let a = c .before .before .before .before .before .args in
-    let l = words (a .s .now) in
-    let top = length-words (a .s .now) in
-    let m = words (c .before .before .before .loop .s) in
-    let i = c .before .before .before .loop .i in
-    let t = c .before .before .before .loop .t in
-    let w = c .before .before .before .loop .inv .1 in
-    let z = front-one-asks (sig (a .q)) l (a .at) (a .e) (a .k) (a .to) (a .d) (a .spans .at) (a .spans .count) (c .before .before .before .before .before .pre .1) m i t w (c .before .before .loop-test .taken) in
-    let same : length m ≡ length l = length-words-kept (c .before .before .before .loop .s) (a .s .now) (c .before .before .before .loop .inv .0) in
-    omega (arith, z .whole, z .clear, z .binds, z .top, c .before .before .before .before .before .pre .1 .clear, c .before .before .before .before .before .pre .1 .spanned .beyond, w .left, w .tabs .within)
+add-front-one-3 c = omega (arith, at-turn (c .before .before))
 
 front-one-requires : tie.Need-front-one-requires Inv-loop μ-loop
 front-one-requires c κs =
-    let a = c .before .before .before .before .before .args in
-    let l = words (a .s .now) in
-    let top = length-words (a .s .now) in
-    let m = words (c .before .before .before .loop .s) in
-    let i = c .before .before .before .loop .i in
-    let t = c .before .before .before .loop .t in
-    let w = c .before .before .before .loop .inv .1 in
-    let z = front-one-asks (sig (a .q)) l (a .at) (a .e) (a .k) (a .to) (a .d) (a .spans .at) (a .spans .count) (c .before .before .before .before .before .pre .1) m i t w (c .before .before .loop-test .taken) in
-    let same : length m ≡ length l = length-words-kept (c .before .before .before .loop .s) (a .s .now) (c .before .before .before .loop .inv .0) in
-    (c .before .before .before .before .before .pre .0, z)
+    let t = c .before .before in
+    (start t .pre .0, front-one-asks (start t .pre .1) (t .before .loop .inv .1) (t .loop-test .taken))
+
+-- ---- it is done with
+
+abbrev one-turn : tie.After-front-one Inv-loop μ-loop → In
+one-turn c = c .before .before .before
+
+at-one : (c : tie.After-front-one Inv-loop μ-loop) → let a = start (one-turn c) .args in let w = one-turn c .before .loop in
+    Fronting (sig (a .q)) (words (a .s .now)) (words (c .front-one .last .0)) (a .at) (a .e) (a .k) (a .to) (a .d) (a .spans .at) (a .spans .count) (w .i + 3)
+    (record { words = w .t .words + c .front-one .result .words; binds = c .front-one .result .binds })
+at-one c =
+    let t = one-turn c in
+    fronting-next (start t .pre .1) (t .before .loop .inv .1) (t .loop-test .taken) (start t .pre .0 .equals) (c .front-one .ensures)
 
 add-t15 : tie.Need-add-t15 Inv-loop μ-loop
 add-t15 c =
-    let a = c .before .before .before .before .before .before .before .before .before .before .args in
-    let l = words (a .s .now) in
-    let top = length-words (a .s .now) in
-    let m = words (c .before .before .before .before .before .before .before .before .loop .s) in
-    let i = c .before .before .before .before .before .before .before .before .loop .i in
-    let t = c .before .before .before .before .before .before .before .before .loop .t in
-    let w = c .before .before .before .before .before .before .before .before .loop .inv .1 in
-    let z = front-one-asks (sig (a .q)) l (a .at) (a .e) (a .k) (a .to) (a .d) (a .spans .at) (a .spans .count) (c .before .before .before .before .before .before .before .before .before .before .pre .1) m i t w (c .before .before .before .before .before .before .before .loop-test .taken) in
-    let same : length m ≡ length l = length-words-kept (c .before .before .before .before .before .before .before .before .loop .s) (a .s .now) (c .before .before .before .before .before .before .before .before .loop .inv .0) in
-    let m₂ = words (c .before .before .before .before .front-one .last .0) in
-    let r = c .before .before .before .before .front-one .result in
-    let z₂ = fronting-next (sig (a .q)) l (a .at) (a .e) (a .k) (a .to) (a .d) (a .spans .at) (a .spans .count) (c .before .before .before .before .before .before .before .before .before .before .pre .1) m i t w (c .before .before .before .before .before .before .before .loop-test .taken) (c .before .before .before .before .before .before .before .before .before .before .pre .0 .equals) m₂ (i + 3) (record { words = t .words + r .words; binds = r .binds }) r (c .before .before .before .before .front-one .ensures) refl refl refl in
-    omega (arith, z₂ .tabs .within, z₂ .only .size)
+    let o = c .before .before .before .before in
+    let e = start (one-turn o) in
+    omega (arith, at-one o .tabs .within, at-one o .only .size, length-words (e .args .s .now), e .good)
 
 add-i : tie.Need-add-i Inv-loop μ-loop
 add-i c = search needs
@@ -108,25 +76,15 @@ loop-less : tie.Need-loop-less Inv-loop μ-loop
 loop-less c = search needs
 
 loop-again : tie.Need-loop-again Inv-loop μ-loop
-loop-again c =
-    let a = c .before .before .before .before .before .before .before .before .before .before .args in
-    let l = words (a .s .now) in
-    let top = length-words (a .s .now) in
-    let m = words (c .before .before .before .before .before .before .before .before .loop .s) in
-    let i = c .before .before .before .before .before .before .before .before .loop .i in
-    let t = c .before .before .before .before .before .before .before .before .loop .t in
-    let w = c .before .before .before .before .before .before .before .before .loop .inv .1 in
-    let z = front-one-asks (sig (a .q)) l (a .at) (a .e) (a .k) (a .to) (a .d) (a .spans .at) (a .spans .count) (c .before .before .before .before .before .before .before .before .before .before .pre .1) m i t w (c .before .before .before .before .before .before .before .loop-test .taken) in
-    let same : length m ≡ length l = length-words-kept (c .before .before .before .before .before .before .before .before .loop .s) (a .s .now) (c .before .before .before .before .before .before .before .before .loop .inv .0) in (
-      c .before .before .before .before .front-one .kept .0 ∙ c .before .before .before .before .before .before .before .before .loop .inv .0,
-      fronting-next (sig (a .q)) l (a .at) (a .e) (a .k) (a .to) (a .d) (a .spans .at) (a .spans .count) (c .before .before .before .before .before .before .before .before .before .before .pre .1) m i t w (c .before .before .before .before .before .before .before .loop-test .taken) (c .before .before .before .before .before .before .before .before .before .before .pre .0 .equals) _ _ _ (c .before .before .before .before .front-one .result) (c .before .before .before .before .front-one .ensures) refl refl refl,
-    )
+loop-again c = let o = c .before .before .before .before in (o .front-one .kept .0 ∙ one-turn o .before .loop .inv .0, at-one o)
+
+-- ---- none is left
 
 same-length : tie.Need-same-length Inv-loop μ-loop
 same-length c = search needs
 
 returns : tie.Need-returns Inv-loop μ-loop
-returns c = fronting-end (sig (c .before .before .before .args .q)) (words (c .before .before .before .args .s .now)) (c .before .before .before .args .at) (c .before .before .before .args .e) (c .before .before .before .args .k) (c .before .before .before .args .to) (c .before .before .before .args .d) (c .before .before .before .args .spans .at) (c .before .before .before .args .spans .count) (c .before .before .before .pre .1) (words (c .before .loop .s)) (c .before .loop .i) (c .before .loop .t) (c .before .loop .inv .1) (c .loop-test .left)
+returns c = fronting-end (c .before .loop .inv .1) (c .loop-test .left)
 
 pub canonicalize-front-spec : {M : Type 1} → statement M
 canonicalize-front-spec =

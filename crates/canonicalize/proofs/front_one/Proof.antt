@@ -1,74 +1,52 @@
--- `canonicalize::front_one` meets its contract. Assumes nothing.
-use mathlib.Core.List.{List}
-use mathlib.Core.Path.{_∙_, _≡_, ap, subst, sym}
-use Prim.Native.Nat.{ℕ}
+-- An equality in front: if it asks for a replacement, that is made behind it and it is gone; else nothing changed, and what becomes of it is written.
+-- The bindings begin elsewhere just in the first case. Assumes nothing.
 use native.Mathlib.Omega.{arith}
-use lib.ListN.{length}
 use borrow.Author.Needs.{needs}
 use Rattle.octets.proofs.Words.{length-words}
-use Rattle.octets.specs.Regions.{splice}
 use Rattle.octets.specs.Words.{words}
-use Rattle.canonicalize.specs.Canonicalize.{ResolveOneAsks, resolveAt}
-use Rattle.bodies.specs.Terms.{sig}
-use Rattle.canonicalize.proofs.Fronts.{front-asked, front-resolve-asks, front-same, front-step-asks, front-still}
+use Rattle.canonicalize.proofs.Fronting.{Tried, equality-within, front-asked, front-still, resolve-asks, step-asks}
 use Rattle.canonicalize.proofs.front_one.Statement.{statement}
 use Rattle.canonicalize.proofs.front_one.Tie as tie
 
+abbrev start : tie.After-replace-step → tie.Start
+start c = c .before .before .before
+
+-- the replacement is tried
+at-step : (c : tie.After-replace-step) → Tried (start c .pre .1) (words (c .replace-step .last .0)) (c .replace-step .result)
+at-step c = record { place = c .replace-step .ensures .0; stepped = c .replace-step .ensures .1 }
+
 add-replace-step : tie.Need-add-replace-step
-add-replace-step c =
-    let a = c .before .before .args in
-    let l = words (a .s .now) in
-    let top = length-words (a .s .now) in
-    omega (arith, c .before .before .pre .1 .spanned .beyond, c .before .before .pre .1 .binds, c .before .before .pre .1 .top)
+add-replace-step c = let e = c .before .before in omega (arith, equality-within (e .pre .1), length-words (e .args .s .now))
 
 sub-replace-step : tie.Need-sub-replace-step
-sub-replace-step c =
-    let a = c .before .before .args in
-    let l = words (a .s .now) in
-    let top = length-words (a .s .now) in
-    c .before .before .pre .1 .whole
+sub-replace-step c = c .before .before .pre .1 .whole
 
 replace-step-requires : tie.Need-replace-step-requires
-replace-step-requires c κs =
-    let a = c .before .before .args in
-    let l = words (a .s .now) in
-    let top = length-words (a .s .now) in
-    (c .before .before .pre .0, front-step-asks (sig (a .q)) l (a .p) (a .n) (a .to) (a .d) (a .t .at) (a .t .count) (c .before .before .pre .1))
+replace-step-requires c κs = let e = c .before .before in (e .pre .0, step-asks (e .pre .1))
+
+-- ---- it was asked
 
 same-length : tie.Need-same-length
 same-length c = search needs
 
 returns : tie.Need-returns
-returns c =
-    let a = c .before .before .before .before .before .before .args in
-    let l = words (a .s .now) in
-    let top = length-words (a .s .now) in
-    front-asked (sig (a .q)) l (a .p) (a .n) (a .to) (a .d) (a .t .at) (a .t .count) (c .before .before .before .before .before .before .pre .1) _ (c .before .before .before .replace-step .result) (c .before .before .before .replace-step .ensures .0) (c .before .before .before .replace-step .ensures .1) (c .if1 .taken)
+returns c = front-asked (at-step (c .before .before .before)) (c .if1 .taken)
+
+-- ---- it was not
 
 resolve-one-requires : tie.Need-resolve-one-requires
 resolve-one-requires c κs =
-    let a = c .before .before .before .before .before .before .before .args in
-    let l = words (a .s .now) in
-    let top = length-words (a .s .now) in
-    let m = words (c .before .before .before .before .replace-step .last .0) in
-    let k : m ≡ l = front-same (sig (a .q)) l (a .p) (a .n) (a .to) (a .d) (a .t .at) (a .t .count) (c .before .before .before .before .before .before .before .pre .1) m (c .before .before .before .before .replace-step .result) (c .before .before .before .before .replace-step .ensures .0) (c .before .before .before .before .replace-step .ensures .1) (c .before .if1 .left) in
-    (c .before .before .before .before .before .before .before .pre .0, subst (λ (x : List ℕ). ResolveOneAsks (sig (a .q)) x (a .p) (a .to)) (sym k) (front-resolve-asks (sig (a .q)) l (a .p) (a .n) (a .to) (a .d) (a .t .at) (a .t .count) (c .before .before .before .before .before .before .before .pre .1)))
+    let r = c .before .before .before .before in
+    (start r .pre .0, resolve-asks (at-step r) (c .before .if1 .left))
 
 same-length-2 : tie.Need-same-length-2
 same-length-2 c = search needs
 
 returns-2 : tie.Need-returns-2
 returns-2 c =
-    let a = c .before .before .before .before .before .before .before .before .before .before .args in
-    let l = words (a .s .now) in
-    let top = length-words (a .s .now) in
-    let m = words (c .before .before .before .before .before .before .before .replace-step .last .0) in
-    let k : m ≡ l = front-same (sig (a .q)) l (a .p) (a .n) (a .to) (a .d) (a .t .at) (a .t .count) (c .before .before .before .before .before .before .before .before .before .before .pre .1) m (c .before .before .before .before .before .before .before .replace-step .result) (c .before .before .before .before .before .before .before .replace-step .ensures .0) (c .before .before .before .before .before .before .before .replace-step .ensures .1) (c .before .before .before .before .if1 .left) in
-    front-still (sig (a .q)) l (a .p) (a .n) (a .to) (a .d) (a .t .at) (a .t .count) (c .before .before .before .before .before .before .before .before .before .before .pre .1) m _ (c .before .before .before .before .before .before .before .replace-step .result) (c .before .before .resolve-one .result) (c .before .before .before .before .before .before .before .replace-step .ensures .0) (c .before .before .before .before .before .before .before .replace-step .ensures .1) (c .before .before .before .before .if1 .left)
-    (λ e. (
-      c .before .before .resolve-one .ensures .0 ∙ ap (λ (x : List ℕ). length (resolveAt (sig (a .q)) x (a .p))) e,
-      c .before .before .resolve-one .ensures .1 ∙ ap (λ (x : List ℕ). splice x (a .to) (resolveAt (sig (a .q)) x (a .p))) e,
-    ))
+    let t = c .before .before .before .before in
+    let k = c .before .before .resolve-one .ensures in
+    front-still (at-step (t .before .before .before)) (t .if1 .left) (k .0) (k .1)
 
 pub front-one-spec : {M : Type 1} → statement M
 front-one-spec =

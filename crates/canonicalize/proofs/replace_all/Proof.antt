@@ -1,15 +1,14 @@
--- `canonicalize::replace_all` meets its contract. Assumes nothing.
-use mathlib.Core.Path.{_∙_, _≡_, ap, refl}
-use Prim.Native.Nat.{_+_, _-_, ℕ}
+-- Making all replacements: no atom that was passed asks again, so one sweep, in which each atom is tried where it stands, makes as many as `replaceAll`.
+-- Assumes nothing.
+use mathlib.Core.Path.{_∙_, _≡_, refl}
+use Prim.Native.Nat.{_+_, _-_}
 use native.Mathlib.Omega.{arith}
 use lib.ListN.{length}
 use borrow.Author.Needs.{needs}
 use Rattle.octets.proofs.Words.{length-words}
 use Rattle.octets.specs.Words.{words}
-use Rattle.rules.specs.Flat.{atomWords}
-use Rattle.meaning.proofs.WordLaws.{two-atom}
 use Rattle.bodies.specs.Terms.{sig}
-use Rattle.canonicalize.proofs.Replacing.{Replacing, next-atom, replacing-end, replacing-next, replacing-start}
+use Rattle.canonicalize.proofs.Replacing.{Next, Replacing, next-atom, replacing-end, replacing-next, replacing-start}
 use Rattle.canonicalize.proofs.replace_all.Statement.{statement}
 use Rattle.canonicalize.proofs.replace_all.Tie as tie
 
@@ -19,53 +18,58 @@ Inv-loop s₀ at n d t q end p₀ e₀ s p e = (length s ≡ length s₀) × Rep
 abbrev μ-loop : tie.MeasureT-loop
 μ-loop s₀ at n d t q end p₀ e₀ s p e = at + n - p
 
+abbrev In : Type 0
+In = tie.In-loop Inv-loop μ-loop
+
+abbrev start : In → tie.Start Inv-loop μ-loop
+start c = c .before .before .before
+
 add-end : tie.Need-add-end Inv-loop μ-loop
 add-end c = omega (arith, length-words (c .before .args .s .now), c .before .pre .1 .atoms .within)
 
 loop-holds : tie.Need-loop-holds Inv-loop μ-loop
-loop-holds c = (refl, replacing-start (sig (c .before .args .q)) (words (c .before .args .s .now)) (c .before .args .at) (c .before .args .n) (c .before .args .d) (c .before .args .t .at) (c .before .args .t .count) (c .before .pre .1))
+loop-holds c = (refl, replacing-start (c .before .pre .1))
+
+-- ---- the atom that is next
+
+at-next : (c : In) → Next (c .before .loop .inv .1)
+at-next c = next-atom (c .before .loop .inv .1) (c .loop-test .taken)
 
 size-requires : tie.Need-size-requires Inv-loop μ-loop
-size-requires c κs = omega (arith, c .before .before .loop .inv .1 .atoms .within)
+size-requires c κs = at-next (c .before) .asks .here
 
 replace-step-requires : tie.Need-replace-step-requires Inv-loop μ-loop
-replace-step-requires c κs =
-    let a = c .before .before .before .before .before .before .args in
-    let w = c .before .before .before .before .loop .inv .1 in
-    let t = next-atom (sig (a .q)) (words (a .s .now)) (words (c .before .before .before .before .loop .s)) (a .at) (a .n) (a .d) (a .t .at) (a .t .count) (c .before .before .before .before .loop .p) (c .before .before .before .before .loop .e) w (c .before .before .before .loop-test .taken) in
-    (c .before .before .before .before .before .before .pre .0, record { here = omega (arith, w .atoms .within); whole = t .whole; spanned = w .spanned; room = omega (arith, w .room); top = omega (arith, w .binds .within) })
+replace-step-requires c κs = let t = c .before .before .before in (start t .pre .0, at-next t .asks)
+
+-- ---- it is tried
+
+abbrev turn : tie.After-replace-step Inv-loop μ-loop → In
+turn c = c .before .before .before .before
 
 add-p : tie.Need-add-p Inv-loop μ-loop
 add-p c =
-    let a = c .before .before .before .before .before .before .before .before .before .args in
-    let w = c .before .before .before .before .before .before .before .loop .inv .1 in
-    let t = next-atom (sig (a .q)) (words (a .s .now)) (words (c .before .before .before .before .before .before .before .loop .s)) (a .at) (a .n) (a .d) (a .t .at) (a .t .count) (c .before .before .before .before .before .before .before .loop .p) (c .before .before .before .before .before .before .before .loop .e) w (c .before .before .before .before .before .before .loop-test .taken) in
-    let k : c .before .before .before .before .size .result ≡ length (atomWords (t .atom)) = c .before .before .before .before .size .ensures ∙ t .size in
-    omega (arith, t .inside, length-words (a .s .now), c .before .before .before .before .before .before .before .before .before .pre .1 .atoms .within)
+    let r = c .before .before in
+    let e = start (turn r) in
+    omega (arith, at-next (turn r) .inside, r .before .before .size .ensures, length-words (e .args .s .now), e .pre .1 .atoms .within, e .good)
 
 loop-less : tie.Need-loop-less Inv-loop μ-loop
 loop-less c =
-    let a = c .before .before .before .before .before .before .before .before .before .args in
-    let w = c .before .before .before .before .before .before .before .loop .inv .1 in
-    let t = next-atom (sig (a .q)) (words (a .s .now)) (words (c .before .before .before .before .before .before .before .loop .s)) (a .at) (a .n) (a .d) (a .t .at) (a .t .count) (c .before .before .before .before .before .before .before .loop .p) (c .before .before .before .before .before .before .before .loop .e) w (c .before .before .before .before .before .before .loop-test .taken) in
-    let k : c .before .before .before .before .size .result ≡ length (atomWords (t .atom)) = c .before .before .before .before .size .ensures ∙ t .size in
-    omega (arith, t .inside, two-atom (t .atom))
+    let r = c .before .before in
+    omega (arith, at-next (turn r) .inside, at-next (turn r) .some, r .before .before .size .ensures)
 
 loop-again : tie.Need-loop-again Inv-loop μ-loop
 loop-again c =
-    let a = c .before .before .before .before .before .before .before .before .before .args in
-    let w = c .before .before .before .before .before .before .before .loop .inv .1 in
-    let t = next-atom (sig (a .q)) (words (a .s .now)) (words (c .before .before .before .before .before .before .before .loop .s)) (a .at) (a .n) (a .d) (a .t .at) (a .t .count) (c .before .before .before .before .before .before .before .loop .p) (c .before .before .before .before .before .before .before .loop .e) w (c .before .before .before .before .before .before .loop-test .taken) in (
-      c .before .before .replace-step .kept .0 ∙ c .before .before .before .before .before .before .before .loop .inv .0,
-      replacing-next (sig (a .q)) (words (a .s .now)) (a .at) (a .n) (a .d) (a .t .at) (a .t .count) (words (c .before .before .before .before .before .before .before .loop .s)) _ (c .before .before .before .before .before .before .before .loop .p) _ (c .before .before .before .before .before .before .before .loop .e) _ w (c .before .before .before .before .before .before .loop-test .taken)
-          (c .before .before .replace-step .ensures .0) (c .before .before .replace-step .ensures .1) (ap (λ (k : ℕ). c .before .before .before .before .before .before .before .loop .p + k) (c .before .before .before .before .size .ensures)),
-    )
+    let r = c .before .before in
+    let w = turn r .before .loop .inv in
+    (r .replace-step .kept .0 ∙ w .0, replacing-next (w .1) (at-next (turn r)) (r .before .before .size .ensures) (r .replace-step .ensures .0) (r .replace-step .ensures .1))
+
+-- ---- none is left
 
 same-length : tie.Need-same-length Inv-loop μ-loop
 same-length c = search needs
 
 returns : tie.Need-returns Inv-loop μ-loop
-returns c = replacing-end (sig (c .before .before .before .args .q)) (words (c .before .before .before .args .s .now)) (c .before .before .before .args .at) (c .before .before .before .args .n) (c .before .before .before .args .d) (c .before .before .before .args .t .at) (c .before .before .before .args .t .count) (words (c .before .loop .s)) (c .before .loop .p) (c .before .loop .e) (c .before .loop .inv .1) (c .loop-test .left)
+returns c = replacing-end (c .before .loop .inv .1) (c .loop-test .left)
 
 pub replace-all-spec : {M : Type 1} → statement M
 replace-all-spec =

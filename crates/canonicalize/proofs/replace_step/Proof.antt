@@ -1,81 +1,109 @@
--- `canonicalize::replace_step` meets its contract. Assumes nothing.
+-- Trying the atom at p: if it is an equality whose terms ask for a replacement, that is made and bound; in each other case nothing is asked, so nothing may
+-- change. Assumes nothing.
 use mathlib.Core.Path.{_∙_, _≡_, sym}
 use native.Mathlib.Omega.{arith}
-use lib.ListN.{getD}
+use lib.ListN.{length}
 use borrow.Author.Needs.{needs}
 use borrow.Author.Tests.{not-false, not-true}
-use borrow.Fn.PlainCycle.{is}
 use Rattle.octets.proofs.Words.{length-words, length-words-kept}
 use Rattle.octets.specs.Words.{words}
-use Rattle.rules.specs.Words.{equalityWord}
 use Rattle.bodies.specs.Terms.{sig}
-use Rattle.canonicalize.proofs.Replacing.{asked-none, asked-some, asks-not, asks-terms, step-none, step-some}
+use Rattle.canonicalize.specs.Canonicalize.{askAt, askedOf}
+use Rattle.canonicalize.proofs.Replacing.{Equality, asks-terms, step-none, step-other, step-some}
 use Rattle.canonicalize.proofs.replace_step.Statement.{statement}
 use Rattle.canonicalize.proofs.replace_step.Tie as tie
 
+abbrev start : tie.After-get → tie.Start
+start c = c .before .before .before
+
 get-requires : tie.Need-get-requires
 get-requires c κs = c .before .before .pre .1 .here
+
+-- ---- no equality
 
 same-length : tie.Need-same-length
 same-length c = search needs
 
 returns : tie.Need-returns
-returns c =
-    let a = c .before .before .before .before .args in
-    step-none (sig (a .q)) (words (a .s .now)) (a .at) (a .n) (a .p) (a .d) (a .t .at) (a .t .count)
-    (asks-not (sig (a .q)) (words (a .s .now)) (a .at) (a .n) (a .p) (a .d) (a .t .at) (a .t .count) (λ e. c .if1 .taken (c .before .get .ensures .is ∙ e)))
+returns c = let e = start (c .before) in step-other (sig (e .args .q)) (e .pre .1) (λ w. c .if1 .taken (c .before .get .ensures .is ∙ w))
+
+-- ---- an equality
+
+at-equality : (c : tie.Else1) → let a = start (c .before) .args in Equality (words (a .s .now)) (a .p)
+at-equality c =
+    let e = start (c .before) in
+    let w = sym (c .before .get .ensures .is) ∙ c .if1 .left in
+    record { word = w; within = e .pre .1 .whole w; fits = omega (arith, length-words (e .args .s .now), e .good) }
 
 add-get : tie.Need-add-get
-add-get c = omega (arith, length-words (c .before .before .before .before .before .args .s .now), c .before .before .before .before .before .pre .1 .whole (sym (c .before .before .get .ensures .is) ∙ c .before .if1 .left))
+add-get c = omega (arith, at-equality (c .before))
 
 get-requires-2 : tie.Need-get-requires-2
-get-requires-2 c κs = omega (arith, c .before .before .before .before .before .pre .1 .whole (sym (c .before .before .get .ensures .is) ∙ c .before .if1 .left))
+get-requires-2 c κs = omega (arith, at-equality (c .before))
 
 add-get-2 : tie.Need-add-get-2
-add-get-2 c = omega (arith, length-words (c .before .before .before .before .before .before .before .args .s .now), c .before .before .before .before .before .before .before .pre .1 .whole (sym (c .before .before .before .before .get .ensures .is) ∙ c .before .before .before .if1 .left))
+add-get-2 c = omega (arith, at-equality (c .before .before .before))
 
 get-requires-3 : tie.Need-get-requires-3
-get-requires-3 c κs = omega (arith, c .before .before .before .before .before .before .before .pre .1 .whole (sym (c .before .before .before .before .get .ensures .is) ∙ c .before .before .before .if1 .left))
+get-requires-3 c κs = omega (arith, at-equality (c .before .before .before))
 
 replacement-of-requires : tie.Need-replacement-of-requires
 replacement-of-requires c κs = search needs
+
+-- what its terms ask for
+abbrev asked-else : tie.After-replacement-of → tie.Else1
+asked-else c = c .before .before .before .before .before
+
+abbrev asked-start : tie.After-replacement-of → tie.Start
+asked-start c = start (asked-else c .before)
+
+at-asked : (c : tie.After-replacement-of) → let a = asked-start c .args in c .replacement-of .result ≡ askedOf (askAt (sig (a .q)) (words (a .s .now)) (a .p))
+at-asked c =
+    let g = c .before in
+    asks-terms (sig (asked-start c .args .q)) (at-equality (asked-else c)) (g .before .before .get2 .ensures .is) (g .get3 .ensures .is) (c .replacement-of .ensures)
+
+-- ---- nothing is asked
 
 same-length-2 : tie.Need-same-length-2
 same-length-2 c = search needs
 
 returns-2 : tie.Need-returns-2
 returns-2 c =
-    let a = c .before .before .before .before .before .before .before .before .before .before .before .args in
-    let l = words (a .s .now) in
-    let eq : getD l (a .p) 0 ≡ equalityWord = sym (c .before .before .before .before .before .before .before .before .get .ensures .is) ∙ c .before .before .before .before .before .before .before .if1 .left in
-    let is = asks-terms (sig (a .q)) l (a .at) (a .n) (a .p) (a .d) (a .t .at) (a .t .count) (c .before .before .before .before .before .get2 .result) (c .before .before .before .get3 .result) eq (c .before .before .before .before .before .get2 .ensures .is) (c .before .before .before .get3 .ensures .is) in
-    step-none (sig (a .q)) l (a .at) (a .n) (a .p) (a .d) (a .t .at) (a .t .count) (sym is ∙ asked-none _ (c .before .before .replacement-of .result) (c .before .before .replacement-of .ensures) (not-true _ (c .if2 .taken)))
+    let r = c .before .before in
+    step-none (sig (asked-start r .args .q)) (asked-start r .pre .1) (at-asked r) (not-true _ (c .if2 .taken))
+
+-- ---- a replacement is asked
+
+abbrev replace-asked : tie.After-replace → tie.After-replacement-of
+replace-asked c = c .before .before .before .before
+
+size-kept : (c : tie.After-replace) → length (words (c .replace .last .0)) ≡ length (words (asked-start (replace-asked c) .args .s .now))
+size-kept c = length-words-kept _ _ (c .replace .kept .0)
 
 replace-requires : tie.Need-replace-requires
-replace-requires c κs = c .before .before .before .before .before .before .before .before .before .before .before .before .pre .1 .spanned
+replace-requires c κs = asked-start (c .before .before .before) .pre .1 .spanned
 
 sub-put-three : tie.Need-sub-put-three
-sub-put-three c = omega (arith, c .before .before .before .before .before .before .before .before .before .before .before .before .before .before .before .before .pre .1 .room)
+sub-put-three c = omega (arith, asked-start (replace-asked (c .before .before .before)) .pre .1 .room)
 
 put-three-requires : tie.Need-put-three-requires
-put-three-requires c κs = omega (arith, c .before .before .before .before .before .before .before .before .before .before .before .before .before .before .before .before .pre .1 .room, c .before .before .before .before .before .before .before .before .before .before .before .before .before .before .before .before .pre .1 .top, length-words-kept (c .before .before .before .replace .last .0) (c .before .before .before .before .before .before .before .before .before .before .before .before .before .before .before .before .args .s .now) (c .before .before .before .replace .kept .0))
+put-three-requires c κs =
+    let r = c .before .before .before in
+    let asks = asked-start (replace-asked r) .pre .1 in
+    omega (arith, asks .room, asks .top, size-kept r)
 
 sub-result : tie.Need-sub-result
-sub-result c = omega (arith, c .before .before .before .before .before .before .before .before .before .before .before .before .before .before .before .before .before .before .before .pre .1 .room)
+sub-result c = omega (arith, asked-start (replace-asked (c .before .before .before .before .before .before)) .pre .1 .room)
 
 same-length-3 : tie.Need-same-length-3
 same-length-3 c = search needs
 
 returns-3 : tie.Need-returns-3
 returns-3 c =
-    let a = c .before .before .before .before .before .before .before .before .before .before .before .before .before .before .before .before .before .before .before .args in
-    let l = words (a .s .now) in
-    let eq : getD l (a .p) 0 ≡ equalityWord = sym (c .before .before .before .before .before .before .before .before .before .before .before .before .before .before .before .before .get .ensures .is) ∙ c .before .before .before .before .before .before .before .before .before .before .before .before .before .before .before .if1 .left in
-    let is = asks-terms (sig (a .q)) l (a .at) (a .n) (a .p) (a .d) (a .t .at) (a .t .count) (c .before .before .before .before .before .before .before .before .before .before .before .before .before .get2 .result) (c .before .before .before .before .before .before .before .before .before .before .before .get3 .result) eq (c .before .before .before .before .before .before .before .before .before .before .before .before .before .get2 .ensures .is) (c .before .before .before .before .before .before .before .before .before .before .before .get3 .ensures .is) in
-    let t = c .before .before .before .before .before .before .before .before .before .before .replacement-of .result in
-    step-some (sig (a .q)) l (a .at) (a .n) (a .p) (a .d) (a .t .at) (a .t .count) (words (c .before .before .before .before .before .before .replace .last .0)) _ (record { old = t .old; new = t .new }) (sym is ∙ asked-some _ t (c .before .before .before .before .before .before .before .before .before .before .replacement-of .ensures) (not-false _ (c .before .before .before .before .before .before .before .before .if2 .left)))
-    (c .before .before .before .before .before .before .replace .ensures) (c .before .before .put-three .ensures .1) (c .before .before .before .before .before .before .before .before .before .before .before .before .before .before .before .before .before .before .before .pre .1 .room)
-    (omega (arith, c .before .before .before .before .before .before .before .before .before .before .before .before .before .before .before .before .before .before .before .pre .1 .top, length-words-kept (c .before .before .before .before .before .before .replace .last .0) (a .s .now) (c .before .before .before .before .before .before .replace .kept .0)))
+    let r = c .before .before .before .before .before .before in
+    let k = replace-asked r in
+    step-some (sig (asked-start k .args .q)) (asked-start k .pre .1) (at-asked k) (not-false _ (r .before .before .if2 .left)) (r .replace .ensures) (size-kept r)
+    (c .before .before .put-three .ensures .1)
 
 pub replace-step-spec : {M : Type 1} → statement M
 replace-step-spec =
