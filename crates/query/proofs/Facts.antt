@@ -1,8 +1,9 @@
--- Each way out of flattening a fact and a row of facts, over plain lists. Assumes nothing.
+-- A fact on its way through flattening: what its first word tells, and what is known at each step of `flatten_fact`, as records over the spot p where
+-- it starts, its first word w, and the words that each step leaves. Assumes nothing.
 use mathlib.Core.Path.{_≡_, refl, sym, ap, _∙_, subst}
 use mathlib.Core.Bool.{Bool, true, false, cond, _&&_}
 use mathlib.Core.List.{List, [], _∷_, _++_}
-use Prim.Native.Nat.{ℕ, suc, _+_, _-_, _≤_, _<_}
+use Prim.Native.Nat.{ℕ, suc, _+_, _≤_, _<_}
 use native.Mathlib.Numerals.{add-one}
 use native.Mathlib.Omega.{arith}
 use lib.Dec.{ltb, eqb}
@@ -10,20 +11,20 @@ use lib.ListN.{length, getD}
 use borrow.Author.Tests.{lt-ltb, eqb-true, eq-eqb}
 use Rattle.octets.specs.Regions.{splice}
 use Rattle.rules.specs.Words.{maxDepth, equalityWord}
-use Rattle.rules.specs.Refusals.{ok, _>>=_}
+use Rattle.rules.specs.Refusals.{Res, ok, _>>=_}
 use Rattle.rules.specs.Signature.{Sig}
-use Rattle.rules.specs.Written.{Fact, holds, equal, Read, readExpr, readEqual, readHolds, readFact, readRow}
+use Rattle.rules.specs.Written.{Expr, Fact, holds, equal, Read, readExpr, readEqual, readHolds, readFact}
 use Rattle.meaning.proofs.Results.{bind-ok, ok-inj}
 use Rattle.meaning.proofs.Lists.{and-right}
 use Rattle.meaning.proofs.Reading.{expr-reads}
-use Rattle.walks.specs.Steps.{Piece, both, andThen, Walked, InAnswer, NoTerms, Room, Counted, ExprAt}
+use Rattle.walks.specs.Steps.{Piece, both, andThen, Walked, NoTerms, Counted, ExprAt}
 use Rattle.walks.specs.declared.Walk.{Walk}
-use Rattle.walks.proofs.Steps.{went, stop, with-terms, none-walked, walk-then, Own, written}
-use Rattle.walks.proofs.Read.{moved, expr-at, row-cases, no-row-cases}
-use Rattle.walks.proofs.Rows.{Going, going-next}
-use Rattle.walks.proofs.Asks.{There, right-there}
-use Rattle.query.specs.Flattened.{flattened, flattenedFact, query, FactAt, FactsAt}
-use Rattle.query.proofs.Pieces.{silent, equated, flattened-holds, flattened-equal, query-none, query-more}
+use Rattle.walks.proofs.Steps.{went, stop, with-terms, walk-then, Own, written}
+use Rattle.walks.proofs.Read.{moved, expr-at}
+use Rattle.walks.proofs.Asks.{counted-kept, There, right-there}
+use Rattle.query.specs.Flattened.{flattened, flattenedFact, FactAt}
+use Rattle.query.proofs.Pieces.{silent, equated, flattened-holds, flattened-equal}
+use Rattle.query.proofs.Spots.{Spot, onward, RoomAt, Held, KnownFact, KnownExpr, ExprAnswers, FactAnswers}
 
 -- ---- what the first word of a fact tells
 
@@ -58,7 +59,7 @@ module _ (sig : Sig) (ws : List ℕ) where
           let a = bind-ok (readExpr sig ws maxDepth p) _ q e in
           subst (λ (x : Read Fact). x .at ≤ length ws) (ok-inj _ _ (a .2)) (expr-reads sig ws maxDepth p (a .0) (a .1) .inside)
 
-  pub fact-some : (at : ℕ) (x : FactAt sig ws at) → 0 < x .size
+  fact-some : (at : ℕ) (x : FactAt sig ws at) → 0 < x .size
   fact-some at x = omega (arith, forward at _ (x .reads))
 
   pub equal-cases : (P : Fact → ℕ → Type 0) (at w : ℕ) (x : FactAt sig ws at) → w ≡ getD ws at 0 → w ≡ equalityWord
@@ -101,144 +102,160 @@ module _ (sig : Sig) (ws : List ℕ) where
           let size : a .size ≡ x .size = omega arith in
           subst (P (x .value)) size (subst (λ (t : Fact). P t (a .size)) (ap (λ (r : Read Fact). r .value) fin) (k a))
 
--- ---- one fact
+-- ---- its first word is read
 
-module _ (sig : Sig) (ws : List ℕ) (at to sp lg : ℕ) (s cs : List ℕ) (x : FactAt sig ws at) (c : Counted sig cs) (w : ℕ) (is : w ≡ getD ws at 0) where
-  pub holds-way : (w ≡ equalityWord → ⊥) → (s1 cs1 : List ℕ) (r : Walk)
-      → ((e : ExprAt sig ws maxDepth at) → Walked 1 (InAnswer lg r) (flattened (e .value) cs) (e .size) at to sp lg s cs s1 cs1 r)
-      → Walked 0 NoTerms (flattenedFact (x .value) cs) (x .size) at to sp lg s cs s1 cs1 r
-  holds-way ne s1 cs1 r walk =
-      holds-cases sig ws (λ f k. Walked 0 NoTerms (flattenedFact f cs) k at to sp lg s cs s1 cs1 r) at w x is ne
-      (λ e. rw (flattened-holds (e .value) cs) (with-terms (flattened (e .value) cs) silent (walk e) (omega arith) (λ p. (refl, refl)) (λ p t. refl)))
+pub record Begun (p : Spot) (w : ℕ) : Type 0 where
+  pub known : KnownFact p
+  pub room : RoomAt p
+  pub held : Held p
+  pub is : w ≡ getD (p .ws) (p .at) 0
+  pub inside : p .at < length (p .ws)
 
-  module _ (eq : w ≡ equalityWord) (room : Room (length ws) at to sp lg (length s)) (s1 cs1 : List ℕ) (l : Walk)
-      (walk : (e : ExprAt sig ws maxDepth (at + 1)) → Walked 1 (InAnswer lg l) (flattened (e .value) cs) (e .size) (at + 1) to sp lg s cs s1 cs1 l) where
-    pub left-way : (l .refused ≡ 0 → ⊥) → Walked 0 NoTerms (flattenedFact (x .value) cs) (x .size) at to sp lg s cs s1 cs1 l
-    left-way bad =
-        equal-cases sig ws (λ f k. Walked 0 NoTerms (flattenedFact f cs) k at to sp lg s cs s1 cs1 l) at w x is eq (λ a b. rw (flattened-equal at (a .value) (b .value) cs) (halt a b))
-      where
-        halt : (a : ExprAt sig ws maxDepth (at + 1)) (b : ExprAt sig ws maxDepth (at + 1 + a .size))
-            → Walked 0 NoTerms (_>>=_ (andThen (flattened (a .value) cs) (flattened (b .value))) (λ q. ok (equated q))) (1 + (a .size + b .size)) at to sp lg s cs s1 cs1 l
-        halt a b =
-            let one : Walked 0 NoTerms (andThen (flattened (a .value) cs) (flattened (b .value))) (1 + (a .size + b .size)) at to sp lg s cs s1 cs1 l =
-            stop (1 + (a .size + b .size)) at (flattened (a .value) cs) (λ p. _>>=_ (flattened (b .value) (p .next)) (λ q. ok (both p q))) (walk a) bad (omega arith) in
-            stop (1 + (a .size + b .size)) at (andThen (flattened (a .value) cs) (flattened (b .value))) (λ q. ok (equated q)) one bad (omega arith)
+pub begun : {p : Spot} {w : ℕ} → KnownFact p → RoomAt p → Held p → w ≡ getD (p .ws) (p .at) 0 → Begun p w
+begun {p} {w} q room held is =
+    let some = fact-some (q .sig) (p .ws) (p .at) (q .known .0) in
+    record { known = q; room = room; held = held; is = is; inside = omega (arith, q .known .0 .inside) }
 
-    module _ (fine : l .refused ≡ 0) where
-      -- the right side stands behind the left one
-      pub right-facts : (len : ℕ) → len ≡ length s → There sig ws maxDepth sp len l
-      right-facts len el =
-          equal-cases sig ws (λ f k. There sig ws maxDepth sp len l) at w x is eq
-          (λ a b. right-there sig ws maxDepth len (a .size) room el (went (flattened (a .value) cs) (walk a) fine) b)
+-- where the left side of an equality starts
+abbrev behind : Spot → Spot
+behind p = record { ws = p .ws; s = p .s; cs = p .cs; at = p .at + 1; to = p .to; sp = p .sp; lg = p .lg }
 
-      module _ (s2 cs2 : List ℕ) (r : Walk) (walk2 : (e : ExprAt sig ws maxDepth (l .next)) → Walked 1 (InAnswer (l .log) r) (flattened (e .value) cs1) (e .size) (l .next) (l .to) sp (l .log) s1 cs1 s2 cs2 r) where
-        abbrev Both : Piece → Type 0
-        Both p = p .terms ≡ l .term ∷ r .term ∷ []
+module _ {p : Spot} {w : ℕ} (g : Begun p w) where
+  -- it is no equality's: the fact is an expression, whose term goes nowhere
+  module _ (ne : w ≡ equalityWord → ⊥) where
+    pub holds-known : KnownExpr p maxDepth
+    holds-known =
+        let q = g .known in
+        let e = holds-cases (q .sig) (p .ws) (λ f k. ExprAt (q .sig) (p .ws) maxDepth (p .at)) (p .at) w (q .known .0) (g .is) ne (λ e. e) in
+        record { sig = q .sig; known = (e, q .known .1) }
 
-        sides : (a : ExprAt sig ws maxDepth (at + 1)) (b : ExprAt sig ws maxDepth (at + 1 + a .size))
-            → Walked 2 Both (andThen (flattened (a .value) cs) (flattened (b .value))) (a .size + b .size) (at + 1) to sp lg s cs s2 cs2 r
-        sides a b =
-            let g = went (flattened (a .value) cs) (walk a) fine in
-            let b2 = moved (readExpr sig ws maxDepth) ws (at + 1 + a .size) (l .next) (sym (g .next)) b in
-            let i = b .inside in
-            walk-then (a .size) (b .size) (at + 1) to sp sp lg s cs s1 cs1 s2 cs2 l r (omega (arith, room .stack)) (omega arith) (omega arith) 2 Both (flattened (a .value) cs) (flattened (b .value)) (omega arith)
-            (walk a) fine (walk2 b2) (λ p q t u. λ i. t .term i ++ u .term i)
+    pub holds-answer : (s1 cs1 : List ℕ) (r : Walk) → ExprAnswers p maxDepth s1 cs1 r → FactAnswers p s1 cs1 r
+    holds-answer s1 cs1 r walk sig x c =
+        holds-cases sig (p .ws) (λ f k. Walked 0 NoTerms (flattenedFact f (p .cs)) k (p .at) (p .to) (p .sp) (p .lg) (p .s) (p .cs) s1 cs1 r) (p .at) w x (g .is) ne
+        (λ e. rw (flattened-holds (e .value) (p .cs)) (with-terms (flattened (e .value) (p .cs)) silent (walk sig e c) (omega arith) (λ q. (refl, refl)) (λ q t. refl)))
 
-        pub right-way : (r .refused ≡ 0 → ⊥) → Walked 0 NoTerms (flattenedFact (x .value) cs) (x .size) at to sp lg s cs s2 cs2 r
-        right-way bad =
-            equal-cases sig ws (λ f k. Walked 0 NoTerms (flattenedFact f cs) k at to sp lg s cs s2 cs2 r) at w x is eq
-            (λ a b. rw (flattened-equal at (a .value) (b .value) cs)
-            (stop (1 + (a .size + b .size)) at (andThen (flattened (a .value) cs) (flattened (b .value))) (λ q. ok (equated q)) (sides a b) bad (omega arith)))
+  -- it is an equality's: the left side stands behind it
+  module _ (eq : w ≡ equalityWord) where
+    pub left-known : KnownExpr (behind p) maxDepth
+    left-known =
+        let q = g .known in
+        let e = equal-cases (q .sig) (p .ws) (λ f k. ExprAt (q .sig) (p .ws) maxDepth (p .at + 1)) (p .at) w (q .known .0) (g .is) eq (λ a b. a) in
+        record { sig = q .sig; known = (e, q .known .1) }
 
-        pub three-room : (len : ℕ) → r .refused ≡ 0 → len ≡ length s → r .to + 3 ≤ len
-        three-room len fine2 el = equal-cases sig ws (λ f k. r .to + 3 ≤ len) at w x is eq (λ a b. asks a b)
-          where
-            asks : (a : ExprAt sig ws maxDepth (at + 1)) (b : ExprAt sig ws maxDepth (at + 1 + a .size)) → r .to + 3 ≤ len
-            asks a b =
-                let g = went (andThen (flattened (a .value) cs) (flattened (b .value))) (sides a b) fine2 in
-                let i = b .inside in
-                omega (arith, g .upTo, room .words, room .stack, room .log)
+    pub left-room : RoomAt (behind p)
+    left-room = let r = g .room in record { words = omega (arith, r .words); stack = omega (arith, r .stack); log = omega (arith, r .log) }
 
-        pub equal-way : (s3 : List ℕ) (e : ℕ) → r .refused ≡ 0 → e ≡ r .to + 3 → s3 ≡ splice s2 (r .to) (equalityWord ∷ l .term ∷ r .term ∷ [])
-            → Walked 0 NoTerms (flattenedFact (x .value) cs) (x .size) at to sp lg s cs s3 cs2 (record { next = r .next; to = e; log = r .log; term = 0; refused = 0 })
-        equal-way s3 e fine2 there put =
-            equal-cases sig ws (λ f k. Walked 0 NoTerms (flattenedFact f cs) k at to sp lg s cs s3 cs2 (record { next = r .next; to = e; log = r .log; term = 0; refused = 0 })) at w x is eq
-            (λ a b. rw (flattened-equal at (a .value) (b .value) cs) (done a b))
-          where
-            ys : List ℕ
-            ys = equalityWord ∷ l .term ∷ r .term ∷ []
+-- ---- the left side of an equality is flattened: l, with s1 and cs1 left behind
 
-            own : (p : Piece) → Both p → Own NoTerms p ys (p .next) (equated p)
-            own p t = record { words = λ i. p .words ++ equalityWord ∷ t i; counters = refl; terms = refl }
+pub record Lefted {p : Spot} {w : ℕ} (g : Begun p w) (s1 cs1 : List ℕ) (l : Walk) : Type 0 where
+  pub eq : w ≡ equalityWord
+  pub walk : ExprAnswers (behind p) maxDepth s1 cs1 l
+  pub counters : length cs1 ≡ length (p .cs)
+  pub scratch : length s1 ≡ length (p .s)
 
-            done : (a : ExprAt sig ws maxDepth (at + 1)) (b : ExprAt sig ws maxDepth (at + 1 + a .size))
-                → Walked 0 NoTerms (_>>=_ (andThen (flattened (a .value) cs) (flattened (b .value))) (λ q. ok (equated q))) (1 + (a .size + b .size)) at to sp lg s cs s3 cs2
-                (record { next = r .next; to = e; log = r .log; term = 0; refused = 0 })
-            done a b =
-                let i = b .inside in
-                written 0 NoTerms (a .size + b .size) (1 + (a .size + b .size)) (at + 1) at to sp lg s cs s2 cs2 s3 ys r e 0 (andThen (flattened (a .value) cs) (flattened (b .value))) equated
-                (omega (arith, room .words)) (omega (arith, room .stack)) (omega (arith, room .log)) (omega arith) (omega arith) (omega arith) (sides a b) fine2 put (omega arith) own
+-- what flattening the equality of two sides gives
+abbrev equality : Expr → Expr → List ℕ → Res Piece
+equality a b cs = _>>=_ (andThen (flattened a cs) (flattened b)) (λ q. ok (equated q))
 
--- ---- a row of facts
+module _ {p : Spot} {w : ℕ} {g : Begun p w} {s1 cs1 : List ℕ} {l : Walk} (m : Lefted g s1 cs1 l) where
+  -- the two sides that a signature reads
+  abbrev Left : Sig → Type 0
+  Left sig = ExprAt sig (p .ws) maxDepth (p .at + 1)
 
-module _ (sig : Sig) (ws : List ℕ) (n at to sp lg : ℕ) (s cs : List ℕ) where
-  -- of the row x there are `left` facts left, and walking them makes the whole
-  pub record Left (x : FactsAt sig ws n at) (left : ℕ) (s1 cs1 : List ℕ) (w : Walk) : Type 0 where
-    pub rest : FactsAt sig ws left (w .next)
-    pub whole : (s′ cs′ : List ℕ) (r : Walk) → Walked 0 NoTerms (query (rest .value) cs1) (rest .size) (w .next) (w .to) sp (w .log) s1 cs1 s′ cs′ r
-        → Walked 0 NoTerms (query (x .value) cs) (x .size) at to sp lg s cs s′ cs′ r
+  abbrev Right : (sig : Sig) → Left sig → Type 0
+  Right sig a = ExprAt sig (p .ws) maxDepth (p .at + 1 + a .size)
 
-  pub left-all : (x : FactsAt sig ws n at) (t : ℕ) → Left x n s cs (record { next = at; to = to; log = lg; term = t; refused = 0 })
-  left-all x t = record { rest = x; whole = λ s′ cs′ r z. z }
+  -- a law of the fact, from one of its sides
+  by-sides : (P : Fact → ℕ → Type 0) (sig : Sig) (x : FactAt sig (p .ws) (p .at))
+      → ((a : Left sig) (b : Right sig a) → P (equal (p .at) (a .value) (b .value)) (1 + (a .size + b .size))) → P (x .value) (x .size)
+  by-sides P sig x = equal-cases sig (p .ws) P (p .at) w x (g .is) (m .eq)
 
-  pub left-none : (x : FactsAt sig ws n at) (left : ℕ) (s1 cs1 : List ℕ) (w : Walk) → Left x left s1 cs1 w → w .refused ≡ 0 → left ≡ 0
-      → Walked 0 NoTerms (query (x .value) cs) (x .size) at to sp lg s cs s1 cs1 w
-  left-none x left s1 cs1 w l fine z =
-      l .whole s1 cs1 w
-      (no-row-cases (readFact sig ws) ws (fact-on sig ws) (λ fs k. Walked 0 NoTerms (query fs cs1) k (w .next) (w .to) sp (w .log) s1 cs1 s1 cs1 w) left (w .next) (l .rest) z
-      (rw (query-none cs1) (none-walked sp s1 cs1 w fine refl)))
+  -- a walk of the sides is one of the fact
+  answer : (s′ cs′ : List ℕ) (r : Walk)
+      → ((sig : Sig) (a : Left sig) (b : Right sig a) → Counted sig (p .cs)
+      → Walked 0 NoTerms (equality (a .value) (b .value) (p .cs)) (1 + (a .size + b .size)) (p .at) (p .to) (p .sp) (p .lg) (p .s) (p .cs) s′ cs′ r)
+      → FactAnswers p s′ cs′ r
+  answer s′ cs′ r walk sig x c =
+      by-sides (λ f k. Walked 0 NoTerms (flattenedFact f (p .cs)) k (p .at) (p .to) (p .sp) (p .lg) (p .s) (p .cs) s′ cs′ r) sig x
+      (λ a b. rw (flattened-equal (p .at) (a .value) (b .value) (p .cs)) (walk sig a b c))
 
-  pub first-fact : (left at′ : ℕ) → FactsAt sig ws left at′ → 0 < left → FactAt sig ws at′
-  first-fact left at′ x h = row-cases (readFact sig ws) ws (fact-on sig ws) (λ fs k. FactAt sig ws at′) left at′ x h (λ f fs. f)
+  pub left-refused : (l .refused ≡ 0 → ⊥) → FactAnswers p s1 cs1 l
+  left-refused bad = answer s1 cs1 l (λ sig a b c. halt sig a b c)
+    where
+      halt : (sig : Sig) (a : Left sig) (b : Right sig a) → Counted sig (p .cs)
+          → Walked 0 NoTerms (equality (a .value) (b .value) (p .cs)) (1 + (a .size + b .size)) (p .at) (p .to) (p .sp) (p .lg) (p .s) (p .cs) s1 cs1 l
+      halt sig a b c =
+          let size = 1 + (a .size + b .size) in
+          let one : Walked 0 NoTerms (andThen (flattened (a .value) (p .cs)) (flattened (b .value))) size (p .at) (p .to) (p .sp) (p .lg) (p .s) (p .cs) s1 cs1 l =
+          stop size (p .at) (flattened (a .value) (p .cs)) (λ q. _>>=_ (flattened (b .value) (q .next)) (λ u. ok (both q u))) (m .walk sig a c) bad (omega arith) in
+          stop size (p .at) (andThen (flattened (a .value) (p .cs)) (flattened (b .value))) (λ q. ok (equated q)) one bad (omega arith)
 
-  module _ (x : FactsAt sig ws n at) (left : ℕ) (s1 cs1 : List ℕ) (w : Walk) (l : Left x left s1 cs1 w) (some : 0 < left)
-      (room : Room (length ws) (w .next) (w .to) sp (w .log) (length s1)) (s2 cs2 : List ℕ) (a : Walk)
-      (walk : (f : FactAt sig ws (w .next)) → Walked 0 NoTerms (flattenedFact (f .value) cs1) (f .size) (w .next) (w .to) sp (w .log) s1 cs1 s2 cs2 a) where
-    pub left-stop : (a .refused ≡ 0 → ⊥) → Walked 0 NoTerms (query (x .value) cs) (x .size) at to sp lg s cs s2 cs2 a
-    left-stop bad =
-        l .whole s2 cs2 a
-        (row-cases (readFact sig ws) ws (fact-on sig ws) (λ fs k. Walked 0 NoTerms (query fs cs1) k (w .next) (w .to) sp (w .log) s1 cs1 s2 cs2 a) left (w .next) (l .rest) some
-        (λ f fs. rw (query-more (f .value) (fs .value) cs1)
-        (stop (f .size + fs .size) (w .next) (flattenedFact (f .value) cs1) (λ p. _>>=_ (query (fs .value) (p .next)) (λ q. ok (both p q))) (walk f) bad (omega arith))))
+  -- the right side stands behind it
+  module _ (fine : l .refused ≡ 0) where
+    right-there-at : There (g .known .sig) (p .ws) maxDepth (p .sp) (length s1) l
+    right-there-at =
+        let q = g .known in
+        by-sides (λ f k. There (q .sig) (p .ws) maxDepth (p .sp) (length s1) l) (q .sig) (q .known .0)
+        (λ a b. right-there (q .sig) (p .ws) maxDepth (length s1) (a .size) (g .room) (m .scratch) (went (flattened (a .value) (p .cs)) (m .walk (q .sig) a (q .known .1)) fine) b)
 
-    pub left-next : a .refused ≡ 0 → Left x (left - 1) s2 cs2 a
-    left-next fine =
-        row-cases (readFact sig ws) ws (fact-on sig ws)
-        (λ fs k. ((s′ cs′ : List ℕ) (r : Walk) → Walked 0 NoTerms (query fs cs1) k (w .next) (w .to) sp (w .log) s1 cs1 s′ cs′ r
-        → Walked 0 NoTerms (query (x .value) cs) (x .size) at to sp lg s cs s′ cs′ r) → Left x (left - 1) s2 cs2 a)
-        left (w .next) (l .rest) some (λ f fs wh. next f fs wh) (l .whole)
-      where
-        next : (f : FactAt sig ws (w .next)) (fs : FactsAt sig ws (left - 1) (w .next + f .size))
-            → ((s′ cs′ : List ℕ) (r : Walk) → Walked 0 NoTerms (query (f .value ∷ fs .value) cs1) (f .size + fs .size) (w .next) (w .to) sp (w .log) s1 cs1 s′ cs′ r
-            → Walked 0 NoTerms (query (x .value) cs) (x .size) at to sp lg s cs s′ cs′ r) → Left x (left - 1) s2 cs2 a
-        next f fs wh =
-            let g = went (flattenedFact (f .value) cs1) (walk f) fine in
-            let i = fs .inside in
-            let r2 : sp + (f .size + fs .size) ≤ w .log = omega (arith, room .stack) in
-            record {
-              rest = moved (readRow (readFact sig ws) (left - 1)) ws (w .next + f .size) (a .next) (sym (g .next)) fs;
-              whole =
-                  λ s′ cs′ r z. wh s′ cs′ r
-                  (rw (query-more (f .value) (fs .value) cs1)
-                  (walk-then (f .size) (fs .size) (w .next) (w .to) sp sp (w .log) s1 cs1 s2 cs2 s′ cs′ a r r2 (omega arith) (omega arith) 0 NoTerms
-                  (flattenedFact (f .value) cs1) (query (fs .value)) (omega arith) (walk f) fine z (λ p q t u. λ i. t i ++ u i)));
-            }
+    pub right-known : KnownExpr (onward p s1 cs1 (p .sp) l) maxDepth
+    right-known = record { sig = g .known .sig; known = (right-there-at .expr, counted-kept (g .known .known .1) (m .counters)) }
 
-    pub left-going : Room (length ws) at to sp lg (length s) → Going at to sp lg s cs sp s1 cs1 w → a .refused ≡ 0 → Going at to sp lg s cs (sp + 0) s2 cs2 a
-    left-going start g fine =
-        row-cases (readFact sig ws) ws (fact-on sig ws) (λ fs k. Going at to sp lg s cs (sp + 0) s2 cs2 a) left (w .next) (l .rest) some (λ f fs. next f)
-      where
-        next : FactAt sig ws (w .next) → Going at to sp lg s cs (sp + 0) s2 cs2 a
-        next f =
-            let i = f .inside in
-            going-next (length ws) (f .size) 0 start g i fine (went (flattenedFact (f .value) cs1) (walk f) fine) (walk f .kept) (omega arith)
+    pub right-room : RoomAt (onward p s1 cs1 (p .sp) l)
+    right-room = right-there-at .room
+
+-- ---- the right side is flattened: r, with s2 and cs2 left behind
+
+pub record Righted {p : Spot} {w : ℕ} {g : Begun p w} {s1 cs1 : List ℕ} {l : Walk} (m : Lefted g s1 cs1 l) (s2 cs2 : List ℕ) (r : Walk) : Type 0 where
+  pub fine : l .refused ≡ 0
+  pub walk : ExprAnswers (onward p s1 cs1 (p .sp) l) maxDepth s2 cs2 r
+  pub scratch : length s2 ≡ length (p .s)
+
+module _ {p : Spot} {w : ℕ} {g : Begun p w} {s1 cs1 : List ℕ} {l : Walk} {m : Lefted g s1 cs1 l} {s2 cs2 : List ℕ} {r : Walk} (o : Righted m s2 cs2 r) where
+  abbrev Both : Piece → Type 0
+  Both q = q .terms ≡ l .term ∷ r .term ∷ []
+
+  sides : (sig : Sig) (a : Left m sig) (b : Right m sig a) → Counted sig (p .cs)
+      → Walked 2 Both (andThen (flattened (a .value) (p .cs)) (flattened (b .value))) (a .size + b .size) (p .at + 1) (p .to) (p .sp) (p .lg) (p .s) (p .cs) s2 cs2 r
+  sides sig a b c =
+      let g1 = went (flattened (a .value) (p .cs)) (m .walk sig a c) (o .fine) in
+      let b2 = moved (readExpr sig (p .ws) maxDepth) (p .ws) (p .at + 1 + a .size) (l .next) (sym (g1 .next)) b in
+      let i = b .inside in
+      walk-then (a .size) (b .size) (p .at + 1) (p .to) (p .sp) (p .sp) (p .lg) (p .s) (p .cs) s1 cs1 s2 cs2 l r (omega (arith, g .room .stack)) (omega arith) (omega arith) 2 Both
+      (flattened (a .value) (p .cs)) (flattened (b .value)) (omega arith) (m .walk sig a c) (o .fine) (o .walk sig b2 (counted-kept c (m .counters))) (λ q u t v. λ i. t .term i ++ v .term i)
+
+  pub right-refused : (r .refused ≡ 0 → ⊥) → FactAnswers p s2 cs2 r
+  right-refused bad =
+      answer m s2 cs2 r
+      (λ sig a b c. stop (1 + (a .size + b .size)) (p .at) (andThen (flattened (a .value) (p .cs)) (flattened (b .value))) (λ q. ok (equated q)) (sides sig a b c) bad (omega arith))
+
+  -- both are fine: the equality has room
+  pub three-room : r .refused ≡ 0 → r .to + 3 ≤ length s2
+  three-room fine = by-sides m (λ f k. r .to + 3 ≤ length s2) (g .known .sig) (g .known .known .0) (λ a b. asks a b)
+    where
+      asks : (a : Left m (g .known .sig)) (b : Right m (g .known .sig) a) → r .to + 3 ≤ length s2
+      asks a b =
+          let u = went (andThen (flattened (a .value) (p .cs)) (flattened (b .value))) (sides (g .known .sig) a b (g .known .known .1)) fine in
+          let i = b .inside in
+          omega (arith, u .upTo, g .room, o .scratch)
+
+  -- and it is written, up to e, which leaves s3
+  pub equal-answer : (s3 : List ℕ) (e : ℕ) → r .refused ≡ 0 → e ≡ r .to + 3 → s3 ≡ splice s2 (r .to) (equalityWord ∷ l .term ∷ r .term ∷ [])
+      → FactAnswers p s3 cs2 (record { next = r .next; to = e; log = r .log; term = 0; refused = 0 })
+  equal-answer s3 e fine there put = answer m s3 cs2 (record { next = r .next; to = e; log = r .log; term = 0; refused = 0 }) (λ sig a b c. done sig a b c)
+    where
+      ys : List ℕ
+      ys = equalityWord ∷ l .term ∷ r .term ∷ []
+
+      own : (q : Piece) → Both q → Own NoTerms q ys (q .next) (equated q)
+      own q t = record { words = λ i. q .words ++ equalityWord ∷ t i; counters = refl; terms = refl }
+
+      done : (sig : Sig) (a : Left m sig) (b : Right m sig a) → Counted sig (p .cs)
+          → Walked 0 NoTerms (equality (a .value) (b .value) (p .cs)) (1 + (a .size + b .size)) (p .at) (p .to) (p .sp) (p .lg) (p .s) (p .cs) s3 cs2
+          (record { next = r .next; to = e; log = r .log; term = 0; refused = 0 })
+      done sig a b c =
+          let i = b .inside in
+          let room = g .room in
+          written 0 NoTerms (a .size + b .size) (1 + (a .size + b .size)) (p .at + 1) (p .at) (p .to) (p .sp) (p .lg) (p .s) (p .cs) s2 cs2 s3 ys r e 0
+          (andThen (flattened (a .value) (p .cs)) (flattened (b .value))) equated
+          (omega (arith, room .words)) (omega (arith, room .stack)) (omega (arith, room .log)) (omega arith) (omega arith) (omega arith) (sides sig a b c) fine put (omega arith) own

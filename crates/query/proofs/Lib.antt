@@ -6,3 +6,4 @@ pub mod Exprs
 pub mod Arguments
 pub mod Calls
 pub mod Facts
+pub mod FactRows

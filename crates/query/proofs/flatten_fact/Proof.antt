@@ -1,44 +1,47 @@
-use Prim.Native.Nat.{_+_}
-use mathlib.Core.Path.{_≡_, _∙_}
+-- Flattening a fact: one that is no equality is flattened as an expression; of an equality the left side, then the right one from where the left one
+-- ended, and its own atom behind both. What is known at a place of the code is said once, as a record of `Facts`. Assumes nothing.
+use Prim.Native.Nat.{ℕ}
+use mathlib.Core.Path.{_≡_, refl, _∙_}
 use native.Mathlib.Omega.{arith}
 use lib.ListN.{length, getD}
 use Rattle.octets.specs.Words.{words}
 use Rattle.octets.proofs.Words.{length-words, length-words-kept}
-use Rattle.rules.specs.Words.{maxDepth}
-use Rattle.walks.proofs.Asks.{counted-kept}
-use Rattle.walks.specs.Steps.{ExprAt}
-use Rattle.query.proofs.Facts.{fact-some, equal-cases, holds-cases, holds-way, left-way, right-facts, right-way, three-room, equal-way}
+use Rattle.query.proofs.Spots.{Spot}
+use Rattle.query.proofs.Facts.{Begun, begun, holds-known, holds-answer, left-known, left-room}
+use Rattle.query.proofs.Facts.{Lefted, left-refused, right-known, right-room, Righted, right-refused, three-room, equal-answer}
 use borrow.Author.Needs.{needs}
 use Rattle.query.proofs.flatten_fact.Statement.{statement}
 use Rattle.query.proofs.flatten_fact.Tie as tie
-use Rattle.query.proofs.flatten_fact.Reads as reads
-use Rattle.query.proofs.flatten_fact.Lts as lts
-use Rattle.octets.proofs.get.Reads as get-reads
-use Rattle.octets.proofs.rows.put_three.Reads as put-three-reads
-use Rattle.query.proofs.flatten.Reads as flatten-reads
+
+-- ---- the first word
+
+abbrev spot : tie.Start → Spot
+spot c =
+    let a = c .args in
+    record { ws = words (a .rule .now); s = words (a .scratch .now); cs = words (a .counters .now); at = a .at; to = a .to; sp = a .sp; lg = a .log }
+
+at-start : (c : tie.Start) (w : ℕ) → w ≡ getD (spot c .ws) (spot c .at) 0 → Begun (spot c) w
+at-start c w is =
+    let a = c .args in
+    begun (c .pre .0) (c .pre .1) (record { rule = omega (arith, length-words (a .rule .now), c .good); scratch = omega (arith, length-words (a .scratch .now), c .good) }) is
 
 get-requires : tie.Need-get-requires
-get-requires c κs =
-    let a = c .before .before .before .args in
-    let ws = words (a .rule .now) in
-    let cs = words (a .counters .now) in
-    let s = words (a .scratch .now) in
-    let q = c .before .before .before .pre .0 in
-    let room = c .before .before .before .pre .1 in
-    let inside = fact-some (q .sig) ws (a .at) (q .known .0) in
-    omega (arith, q .known .0 .inside)
+get-requires c κs = at-start (c .before .before .before) _ refl .inside
+
+-- it is read
+abbrev start : tie.After-get → tie.Start
+start c = c .before .before .before .before
+
+at-get : (c : tie.After-get) → Begun (spot (start c)) (c .get .result)
+at-get c = at-start (start c) (c .get .result) (c .get .ensures .is)
+
+-- ---- the fact is an expression
+
+abbrev then : tie.After-flatten → tie.Then1
+then c = c .before .before .before
 
 flatten-requires : tie.Need-flatten-requires
-flatten-requires c κs =
-    let a = c .before .before .before .before .before .before .before .args in
-    let ws = words (a .rule .now) in
-    let cs = words (a .counters .now) in
-    let s = words (a .scratch .now) in
-    let q = c .before .before .before .before .before .before .before .pre .0 in
-    let room = c .before .before .before .before .before .before .before .pre .1 in
-    let w = c .before .before .before .get .result in
-    let is : w ≡ getD ws (a .at) 0 = c .before .before .before .get .ensures .is in
-    (record { sig = q .sig; known = (holds-cases (q .sig) ws (λ f k. ExprAt (q .sig) ws maxDepth (a .at)) (a .at) w (q .known .0) is (c .before .before .if1 .taken) (λ e. e), q .known .1) }, room)
+flatten-requires c κs = let h = c .before .before in (holds-known (at-get (h .before)) (h .if1 .taken), start (h .before) .pre .1)
 
 same-length : tie.Need-same-length
 same-length c = search needs
@@ -48,41 +51,33 @@ same-length-2 c = search needs
 
 returns : tie.Need-returns
 returns c =
-    let a = c .before .before .before .before .before .before .before .before .before .before .before .before .args in
-    let ws = words (a .rule .now) in
-    let cs = words (a .counters .now) in
-    let s = words (a .scratch .now) in
-    let q = c .before .before .before .before .before .before .before .before .before .before .before .before .pre .0 in
-    let room = c .before .before .before .before .before .before .before .before .before .before .before .before .pre .1 in
-    let w = c .before .before .before .before .before .before .before .before .get .result in
-    let is : w ≡ getD ws (a .at) 0 = c .before .before .before .before .before .before .before .before .get .ensures .is in
-    let k = c .before .before .before .before .flatten in
-    λ sig x n. holds-way sig ws (a .at) (a .to) (a .sp) (a .log) s cs x n w is (c .before .before .before .before .before .before .before .if1 .taken) _ _ (k .result) (λ e. k .ensures sig e n)
+    let k : tie.After-flatten = c .before .before .before .before in
+    holds-answer (at-get (then k .before)) (then k .if1 .taken) _ _ _ (k .flatten .ensures)
+
+-- ---- it is an equality: the left side
 
 add-flatten : tie.Need-add-flatten
-add-flatten c =
-    let a = c .before .before .before .before .before .args in
-    let ws = words (a .rule .now) in
-    let cs = words (a .counters .now) in
-    let s = words (a .scratch .now) in
-    let q = c .before .before .before .before .before .pre .0 in
-    let room = c .before .before .before .before .before .pre .1 in
-    let inside = fact-some (q .sig) ws (a .at) (q .known .0) in
-    omega (arith, q .known .0 .inside, length-words (a .rule .now), c .before .before .before .before .before .good)
+add-flatten c = omega (arith, at-get (c .before))
 
 flatten-requires-2 : tie.Need-flatten-requires-2
-flatten-requires-2 c κs =
-    let a = c .before .before .before .before .before .before .before .args in
-    let ws = words (a .rule .now) in
-    let cs = words (a .counters .now) in
-    let s = words (a .scratch .now) in
-    let q = c .before .before .before .before .before .before .before .pre .0 in
-    let room = c .before .before .before .before .before .before .before .pre .1 in
-    let w = c .before .before .before .get .result in
-    let is : w ≡ getD ws (a .at) 0 = c .before .before .before .get .ensures .is in (
-      record { sig = q .sig; known = (equal-cases (q .sig) ws (λ f k. ExprAt (q .sig) ws maxDepth (a .at + 1)) (a .at) w (q .known .0) is (c .before .before .if1 .left) (λ e f. e), q .known .1) },
-      record { words = omega (arith, room .words); stack = omega (arith, room .stack); log = omega (arith, room .log) },
-    )
+flatten-requires-2 c κs = let h = c .before .before in (left-known (at-get (h .before)) (h .if1 .left), left-room (at-get (h .before)) (h .if1 .left))
+
+abbrev left-get : tie.After-flatten2 → tie.After-get
+left-get c = c .before .before .before .before
+
+at-left : (c : tie.After-flatten2) → let l = c .flatten2 in Lefted (at-get (left-get c)) (words (l .last .1 .1 .1 .1 .0)) (words (l .last .1 .1 .1 .0)) (l .result)
+at-left c =
+    let l = c .flatten2 in
+    record {
+      eq = c .before .before .before .if1 .left;
+      walk = l .ensures;
+      counters = length-words-kept _ _ (l .kept .1 .1 .1 .0);
+      scratch = length-words-kept _ _ (l .kept .1 .1 .1 .1 .0);
+    }
+
+-- it is refused
+abbrev then-left : tie.Then2 → tie.After-flatten2
+then-left c = c .before .before .before .before .before .before
 
 same-length-3 : tie.Need-same-length-3
 same-length-3 c = search needs
@@ -91,114 +86,66 @@ same-length-4 : tie.Need-same-length-4
 same-length-4 c = search needs
 
 returns-2 : tie.Need-returns-2
-returns-2 c =
-    let a = c .before .before .before .before .before .before .before .before .before .before .before .before .before .before .args in
-    let ws = words (a .rule .now) in
-    let cs = words (a .counters .now) in
-    let s = words (a .scratch .now) in
-    let q = c .before .before .before .before .before .before .before .before .before .before .before .before .before .before .pre .0 in
-    let room = c .before .before .before .before .before .before .before .before .before .before .before .before .before .before .pre .1 in
-    let w = c .before .before .before .before .before .before .before .before .before .before .get .result in
-    let is : w ≡ getD ws (a .at) 0 = c .before .before .before .before .before .before .before .before .before .before .get .ensures .is in
-    let l = c .before .before .before .before .before .before .flatten2 in
-    let s1 = words (l .last .1 .1 .1 .1 .0) in
-    let cs1 = words (l .last .1 .1 .1 .0) in
-    let hc : length cs1 ≡ length cs = length-words-kept (l .last .1 .1 .1 .0) (a .counters .now) (l .kept .1 .1 .1 .0) in
-    let hs : length s1 ≡ length s = length-words-kept (l .last .1 .1 .1 .1 .0) (a .scratch .now) (l .kept .1 .1 .1 .1 .0) in
-    λ sig x n. left-way sig ws (a .at) (a .to) (a .sp) (a .log) s cs x n w is (c .before .before .before .before .before .before .before .before .before .if1 .left) room s1 cs1 (l .result) (λ e. l .ensures sig e n) (c .if2 .taken)
+returns-2 c = left-refused (at-left (then-left c)) (c .if2 .taken)
+
+-- ---- the right side
+
+abbrev else-left : tie.Else2 → tie.After-flatten2
+else-left c = c .before .before .before .before .before .before
 
 flatten-requires-3 : tie.Need-flatten-requires-3
 flatten-requires-3 c κs =
-    let a = c .before .before .before .before .before .before .before .before .before .before .before .before .before .before .before .before .args in
-    let ws = words (a .rule .now) in
-    let cs = words (a .counters .now) in
-    let s = words (a .scratch .now) in
-    let q = c .before .before .before .before .before .before .before .before .before .before .before .before .before .before .before .before .pre .0 in
-    let room = c .before .before .before .before .before .before .before .before .before .before .before .before .before .before .before .before .pre .1 in
-    let w = c .before .before .before .before .before .before .before .before .before .before .before .before .get .result in
-    let is : w ≡ getD ws (a .at) 0 = c .before .before .before .before .before .before .before .before .before .before .before .before .get .ensures .is in
-    let l = c .before .before .before .before .before .before .before .before .flatten2 in
-    let s1 = words (l .last .1 .1 .1 .1 .0) in
-    let cs1 = words (l .last .1 .1 .1 .0) in
-    let hc : length cs1 ≡ length cs = length-words-kept (l .last .1 .1 .1 .0) (a .counters .now) (l .kept .1 .1 .1 .0) in
-    let hs : length s1 ≡ length s = length-words-kept (l .last .1 .1 .1 .1 .0) (a .scratch .now) (l .kept .1 .1 .1 .1 .0) in
-    let t = right-facts (q .sig) ws (a .at) (a .to) (a .sp) (a .log) s cs (q .known .0) (q .known .1) w is (c .before .before .before .before .before .before .before .before .before .before .before .if1 .left) room s1 cs1 (l .result) (λ e. l .ensures (q .sig) e (q .known .1)) (c .before .before .if2 .left) (length s1) hs in
-    (record { sig = q .sig; known = (t .expr, counted-kept (q .known .1) hc) }, t .room)
+    let h = c .before .before in
+    let m = at-left (else-left h) in
+    (right-known m (h .if2 .left), right-room m (h .if2 .left))
+
+abbrev right-left : tie.After-flatten3 → tie.After-flatten2
+right-left c = else-left (c .before .before .before)
+
+-- both slices are as long as at the start
+counters-kept : (c : tie.After-flatten3) → length (c .flatten3 .last .1 .1 .1 .0) ≡ length (start (left-get (right-left c)) .args .counters .now)
+counters-kept c = c .flatten3 .kept .1 .1 .1 .0 ∙ right-left c .flatten2 .kept .1 .1 .1 .0
+
+scratch-kept : (c : tie.After-flatten3) → length (c .flatten3 .last .1 .1 .1 .1 .0) ≡ length (start (left-get (right-left c)) .args .scratch .now)
+scratch-kept c = c .flatten3 .kept .1 .1 .1 .1 .0 ∙ right-left c .flatten2 .kept .1 .1 .1 .1 .0
+
+at-right : (c : tie.After-flatten3) → let r = c .flatten3 in Righted (at-left (right-left c)) (words (r .last .1 .1 .1 .1 .0)) (words (r .last .1 .1 .1 .0)) (r .result)
+at-right c = record { fine = c .before .before .before .if2 .left; walk = c .flatten3 .ensures; scratch = length-words-kept _ _ (scratch-kept c) }
+
+-- it is refused
+abbrev then-right : tie.Then3 → tie.After-flatten3
+then-right c = c .before .before .before .before .before .before
 
 same-length-5 : tie.Need-same-length-5
-same-length-5 c = c .before .before .before .before .before .before .flatten3 .kept .1 .1 .1 .0 ∙ c .before .before .before .before .before .before .before .before .before .before .before .before .before .before .before .flatten2 .kept .1 .1 .1 .0
+same-length-5 c = counters-kept (then-right c)
 
 same-length-6 : tie.Need-same-length-6
-same-length-6 c = c .before .before .before .before .before .before .flatten3 .kept .1 .1 .1 .1 .0 ∙ c .before .before .before .before .before .before .before .before .before .before .before .before .before .before .before .flatten2 .kept .1 .1 .1 .1 .0
+same-length-6 c = scratch-kept (then-right c)
 
 returns-3 : tie.Need-returns-3
-returns-3 c =
-    let a = c .before .before .before .before .before .before .before .before .before .before .before .before .before .before .before .before .before .before .before .before .before .before .before .args in
-    let ws = words (a .rule .now) in
-    let cs = words (a .counters .now) in
-    let s = words (a .scratch .now) in
-    let q = c .before .before .before .before .before .before .before .before .before .before .before .before .before .before .before .before .before .before .before .before .before .before .before .pre .0 in
-    let room = c .before .before .before .before .before .before .before .before .before .before .before .before .before .before .before .before .before .before .before .before .before .before .before .pre .1 in
-    let w = c .before .before .before .before .before .before .before .before .before .before .before .before .before .before .before .before .before .before .before .get .result in
-    let is : w ≡ getD ws (a .at) 0 = c .before .before .before .before .before .before .before .before .before .before .before .before .before .before .before .before .before .before .before .get .ensures .is in
-    let l = c .before .before .before .before .before .before .before .before .before .before .before .before .before .before .before .flatten2 in
-    let s1 = words (l .last .1 .1 .1 .1 .0) in
-    let cs1 = words (l .last .1 .1 .1 .0) in
-    let hc : length cs1 ≡ length cs = length-words-kept (l .last .1 .1 .1 .0) (a .counters .now) (l .kept .1 .1 .1 .0) in
-    let hs : length s1 ≡ length s = length-words-kept (l .last .1 .1 .1 .1 .0) (a .scratch .now) (l .kept .1 .1 .1 .1 .0) in
-    let r = c .before .before .before .before .before .before .flatten3 in
-    let s2 = words (r .last .1 .1 .1 .1 .0) in
-    let cs2 = words (r .last .1 .1 .1 .0) in
-    let hs2 : length s2 ≡ length s = length-words-kept (r .last .1 .1 .1 .1 .0) (l .last .1 .1 .1 .1 .0) (r .kept .1 .1 .1 .1 .0) ∙ hs in
-    λ sig x n. right-way sig ws (a .at) (a .to) (a .sp) (a .log) s cs x n w is (c .before .before .before .before .before .before .before .before .before .before .before .before .before .before .before .before .before .before .if1 .left) room s1 cs1 (l .result) (λ e. l .ensures sig e n) (c .before .before .before .before .before .before .before .before .before .if2 .left) s2 cs2 (r .result) (λ e. r .ensures sig e (counted-kept n hc)) (c .if3 .taken)
+returns-3 c = right-refused (at-right (then-right c)) (c .if3 .taken)
+
+-- ---- both are fine, and the equality is written
+
+abbrev else-right : tie.Else3 → tie.After-flatten3
+else-right c = c .before .before .before .before .before .before
 
 put-three-requires : tie.Need-put-three-requires
-put-three-requires c κs =
-    let a = c .before .before .before .before .before .before .before .before .before .before .before .before .before .before .before .before .before .before .before .before .before .before .before .before .args in
-    let ws = words (a .rule .now) in
-    let cs = words (a .counters .now) in
-    let s = words (a .scratch .now) in
-    let q = c .before .before .before .before .before .before .before .before .before .before .before .before .before .before .before .before .before .before .before .before .before .before .before .before .pre .0 in
-    let room = c .before .before .before .before .before .before .before .before .before .before .before .before .before .before .before .before .before .before .before .before .before .before .before .before .pre .1 in
-    let w = c .before .before .before .before .before .before .before .before .before .before .before .before .before .before .before .before .before .before .before .before .get .result in
-    let is : w ≡ getD ws (a .at) 0 = c .before .before .before .before .before .before .before .before .before .before .before .before .before .before .before .before .before .before .before .before .get .ensures .is in
-    let l = c .before .before .before .before .before .before .before .before .before .before .before .before .before .before .before .before .flatten2 in
-    let s1 = words (l .last .1 .1 .1 .1 .0) in
-    let cs1 = words (l .last .1 .1 .1 .0) in
-    let hc : length cs1 ≡ length cs = length-words-kept (l .last .1 .1 .1 .0) (a .counters .now) (l .kept .1 .1 .1 .0) in
-    let hs : length s1 ≡ length s = length-words-kept (l .last .1 .1 .1 .1 .0) (a .scratch .now) (l .kept .1 .1 .1 .1 .0) in
-    let r = c .before .before .before .before .before .before .before .flatten3 in
-    let s2 = words (r .last .1 .1 .1 .1 .0) in
-    let cs2 = words (r .last .1 .1 .1 .0) in
-    let hs2 : length s2 ≡ length s = length-words-kept (r .last .1 .1 .1 .1 .0) (l .last .1 .1 .1 .1 .0) (r .kept .1 .1 .1 .1 .0) ∙ hs in
-    three-room (q .sig) ws (a .at) (a .to) (a .sp) (a .log) s cs (q .known .0) (q .known .1) w is (c .before .before .before .before .before .before .before .before .before .before .before .before .before .before .before .before .before .before .before .if1 .left) room s1 cs1 (l .result) (λ e. l .ensures (q .sig) e (q .known .1)) (c .before .before .before .before .before .before .before .before .before .before .if2 .left) s2 cs2 (r .result) (λ e. r .ensures (q .sig) e (counted-kept (q .known .1) hc)) (length s2) (c .before .if3 .left) hs2
+put-three-requires c κs = three-room (at-right (else-right (c .before))) (c .before .if3 .left)
+
+abbrev written : tie.After-slice-known9 → tie.Else3
+written c = c .before .before .before .before
 
 same-length-7 : tie.Need-same-length-7
-same-length-7 c = c .before .before .before .before .before .before .before .before .before .before .flatten3 .kept .1 .1 .1 .0 ∙ c .before .before .before .before .before .before .before .before .before .before .before .before .before .before .before .before .before .before .before .flatten2 .kept .1 .1 .1 .0
+same-length-7 c = counters-kept (else-right (written c))
 
 same-length-8 : tie.Need-same-length-8
-same-length-8 c = c .before .before .put-three .kept .0 ∙ c .before .before .before .before .before .before .before .before .before .before .flatten3 .kept .1 .1 .1 .1 .0 ∙ c .before .before .before .before .before .before .before .before .before .before .before .before .before .before .before .before .before .before .before .flatten2 .kept .1 .1 .1 .1 .0
+same-length-8 c = c .before .before .put-three .kept .0 ∙ scratch-kept (else-right (written c))
 
 returns-4 : tie.Need-returns-4
 returns-4 c =
-    let a = c .before .before .before .before .before .before .before .before .before .before .before .before .before .before .before .before .before .before .before .before .before .before .before .before .before .before .before .args in
-    let ws = words (a .rule .now) in
-    let cs = words (a .counters .now) in
-    let s = words (a .scratch .now) in
-    let q = c .before .before .before .before .before .before .before .before .before .before .before .before .before .before .before .before .before .before .before .before .before .before .before .before .before .before .before .pre .0 in
-    let room = c .before .before .before .before .before .before .before .before .before .before .before .before .before .before .before .before .before .before .before .before .before .before .before .before .before .before .before .pre .1 in
-    let w = c .before .before .before .before .before .before .before .before .before .before .before .before .before .before .before .before .before .before .before .before .before .before .before .get .result in
-    let is : w ≡ getD ws (a .at) 0 = c .before .before .before .before .before .before .before .before .before .before .before .before .before .before .before .before .before .before .before .before .before .before .before .get .ensures .is in
-    let l = c .before .before .before .before .before .before .before .before .before .before .before .before .before .before .before .before .before .before .before .flatten2 in
-    let s1 = words (l .last .1 .1 .1 .1 .0) in
-    let cs1 = words (l .last .1 .1 .1 .0) in
-    let hc : length cs1 ≡ length cs = length-words-kept (l .last .1 .1 .1 .0) (a .counters .now) (l .kept .1 .1 .1 .0) in
-    let hs : length s1 ≡ length s = length-words-kept (l .last .1 .1 .1 .1 .0) (a .scratch .now) (l .kept .1 .1 .1 .1 .0) in
-    let r = c .before .before .before .before .before .before .before .before .before .before .flatten3 in
-    let s2 = words (r .last .1 .1 .1 .1 .0) in
-    let cs2 = words (r .last .1 .1 .1 .0) in
-    let hs2 : length s2 ≡ length s = length-words-kept (r .last .1 .1 .1 .1 .0) (l .last .1 .1 .1 .1 .0) (r .kept .1 .1 .1 .1 .0) ∙ hs in
-    λ sig x n. equal-way sig ws (a .at) (a .to) (a .sp) (a .log) s cs x n w is (c .before .before .before .before .before .before .before .before .before .before .before .before .before .before .before .before .before .before .before .before .before .before .if1 .left) room s1 cs1 (l .result) (λ e. l .ensures sig e n) (c .before .before .before .before .before .before .before .before .before .before .before .before .before .if2 .left) s2 cs2 (r .result) (λ e. r .ensures sig e (counted-kept n hc)) _ _ (c .before .before .before .before .if3 .left) (c .before .before .put-three .ensures .0) (c .before .before .put-three .ensures .1)
+    let p = c .before .before .put-three in
+    equal-answer (at-right (else-right (written c))) _ _ (written c .if3 .left) (p .ensures .0) (p .ensures .1)
 
 pub flatten-fact-spec : {M : Type 1} → statement M
 flatten-fact-spec =
