@@ -1,12 +1,12 @@
 -- A call whose arguments are all names and literals: what flattening makes of such words, and the two ways on from there.
 -- Assumes nothing.
 use mathlib.Core.Path.{_≡_, refl, sym, ap, _∙_, subst}
-use mathlib.Core.List.{List, []}
+use mathlib.Core.List.{List, [], _∷_, _++_}
 use Prim.Native.Nat.{ℕ, zero, suc, _+_, _-_, _*_, _≤_, _<_}
 use native.Mathlib.Omega.{arith}
-use lib.ListN.{length, getD}
+use lib.ListN.{length, getD, set}
 use Rattle.octets.specs.Regions.{splice, part}
-use Rattle.octets.proofs.Splice.{length-part, splice-nil}
+use Rattle.octets.proofs.Splice.{length-part, splice-nil, splice-itself, splice-one, splice-put, splice-carry}
 use Rattle.rules.specs.Words.{limit12, literalBase}
 use Rattle.rules.specs.Refusals.{Res, ok}
 use Rattle.rules.specs.Signature.{Sig, heads}
@@ -65,6 +65,15 @@ module _ (sig : Sig) (ws : List ℕ) (few : heads sig ≤ limit12) (d : ℕ) whe
 
 -- ---- the call whose arguments these are
 
+-- a word before n words that stand, and one behind them
+pub around : (l m k : List ℕ) (at head n out : ℕ) → at + n + 2 ≤ length l → length m ≡ length l → m ≡ set l at head → k ≡ set m (at + 1 + n) out
+    → k ≡ splice l at (head ∷ (part l (at + 1) n ++ (out ∷ [])))
+around l m k at head n out room size first last =
+    let one : m ≡ splice l at (head ∷ []) = first ∙ splice-one l at head (omega arith) in
+    let terms =
+    splice-carry l at (head ∷ []) (at + 1) [] (at + 1) n one (sym (splice-itself m (at + 1) n (omega arith))) refl (omega arith) (omega arith) in
+    splice-put _ _ _ _ _ terms last (omega (arith, length-part l (at + 1) n (omega arith))) (omega arith)
+
 -- room for its atom, which has two words more than it has arguments
 pub record AtomRoom (ws s : List ℕ) (n at to : ℕ) : Type 0 where
   pub inside : at + 1 + n ≤ length ws
@@ -97,7 +106,8 @@ module _ (sig : Sig) (ws : List ℕ) (d n k at to sp lg : ℕ) (s cs s1 : List �
       (omega arith) (omega (arith, room .stack, room .log)) (omega arith) e
 
   -- a walk of them writes over these words
-  pub walked-anew : {m : ℕ} {T : Piece → Type 0} {x : Res Piece} {s2 cs2 : List ℕ} {a : Walk} → Walked m T x (es .size) at to sp lg s1 cs s2 cs2 a → Walked m T x (es .size) at to sp lg s cs s2 cs2 a
+  pub walked-anew : {m : ℕ} {T : Piece → Type 0} {x : Res Piece} {s2 cs2 : List ℕ} {a : Walk}
+      → Walked m T x (es .size) at to sp lg s1 cs s2 cs2 a → Walked m T x (es .size) at to sp lg s cs s2 cs2 a
   walked-anew w =
       let i = es .inside in
       record { kept = kept-then (omega (arith, room .stack)) (leaves-kept k most put) (w .kept); ended = w .ended }

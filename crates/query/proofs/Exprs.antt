@@ -100,9 +100,10 @@ module _ (sig : Sig) (ws : List ℕ) (d at to sp lg : ℕ) (s cs : List ℕ) (x 
               }
 
           done : (es : ExprsAt sig ws (d - 1) n (at + 1)) → headBase ≤ w
-              → Walked 1 (InAnswer lg r) (_>>=_ (fresh at (headOf w) cs) (λ f. _>>=_ (flattenedAll (es .value) (f .next)) (λ q. ok (callPiece (headOf w) f q)))) (1 + es .size) at to sp lg s cs s3 cs2 r
+              → Walked 1 (InAnswer lg r) (_>>=_ (fresh at (headOf w) cs) (λ f. _>>=_ (flattenedAll (es .value) (f .next)) (λ q. ok (callPiece (headOf w) f q)))) (1 + es .size)
+              at to sp lg s cs s3 cs2 r
           done es high =
               let lp = length-part s2 from n inside in
               let ly : length ys ≡ n + 2 = omega (arith, length-append (part s2 from n) (v ∷ [])) in
-              first-done (es .size) at to sp lg v s cs s1 cs1 s2 cs2 a (rooms es .0) (rooms es .1) (rooms es .2) hc 1 (InAnswer lg r) s3 ys e v (fresh at (headOf w) cs) (flattenedAll (es .value))
-              (callPiece (headOf w)) (omega arith) (taken at) some (walk es) fine put (omega arith) (own high)
+              first-done (es .size) at to sp lg v s cs s1 cs1 s2 cs2 a (rooms es .0) (rooms es .1) (rooms es .2) hc 1 (InAnswer lg r) s3 ys e v
+              (fresh at (headOf w) cs) (flattenedAll (es .value)) (callPiece (headOf w)) (omega arith) (taken at) some (walk es) fine put (omega arith) (own high)

@@ -29,13 +29,17 @@ ownAtom h v ts = headWord h (suc (length ts)) ∷ ts ++ v ∷ []
 abbrev pub callPiece : ℕ → Fresh → Piece → Piece
 callPiece h f p = record { terms = f .var ∷ []; words = p .words ++ ownAtom h (f .var) (p .terms); count = p .count + 1; next = p .next }
 
+-- what its clause gives
+abbrev callFlat : ℕ → ℕ → Fresh → Flats → Flat
+callFlat p h f r = record { term = f .var; atoms = r .atoms ++ tab (record { place = p; head = h; ins = r .terms; out = f .var }) ∷ []; next = r .next }
+
 pub flattened-call : (p h : ℕ) (es : Exprs) (cs : List ℕ)
     → flattened (call p h es) cs ≡ _>>=_ (fresh p h cs) (λ f. _>>=_ (flattenedAll es (f .next)) (λ q. ok (callPiece h f q)))
 unfolding flattened flattenedAll
 flattened-call p h es cs = go (fresh p h cs)
   where
     last : (f : Fresh) (y : Res Flats)
-        → flatPiece (_>>=_ y (λ r. ok (record { term = f .var; atoms = r .atoms ++ tab (record { place = p; head = h; ins = r .terms; out = f .var }) ∷ []; next = r .next })))
+        → flatPiece (_>>=_ y (λ r. ok (callFlat p h f r)))
         ≡ _>>=_ (flatsPiece y) (λ q. ok (callPiece h f q))
     last f (ok r) =
         let t = tab (record { place = p; head = h; ins = r .terms; out = f .var }) in
@@ -43,24 +47,31 @@ flattened-call p h es cs = go (fresh p h cs)
     last f (refuse n q) = refl
 
     go : (x : Res Fresh)
-        → flatPiece (_>>=_ x (λ f. _>>=_ (flattenAll es (f .next)) (λ r. ok (record { term = f .var; atoms = r .atoms ++ tab (record { place = p; head = h; ins = r .terms; out = f .var }) ∷ []; next = r .next }))))
+        → flatPiece (_>>=_ x (λ f. _>>=_ (flattenAll es (f .next)) (λ r. ok (callFlat p h f r))))
         ≡ _>>=_ x (λ f. _>>=_ (flatsPiece (flattenAll es (f .next))) (λ q. ok (callPiece h f q)))
     go (ok f) = last f (flattenAll es (f .next))
     go (refuse n q) = refl
+
+-- an expression and those behind it
+abbrev rowFlats : Flat → Flats → Flats
+rowFlats r q = record { terms = r .term ∷ q .terms; atoms = r .atoms ++ q .atoms; next = q .next }
+
+abbrev termPiece : Flat → Piece
+termPiece r = record { terms = r .term ∷ []; words = wordsOf atomWords (r .atoms); count = length (r .atoms); next = r .next }
 
 pub flattened-row : Rowed flattened flattenedAll
 unfolding flattened flattenedAll
 flattened-row = record { none = λ cs. refl; more = λ e es cs. go es (flatten e cs) }
   where
     last : (r : Flat) (y : Res Flats)
-        → flatsPiece (_>>=_ y (λ q. ok (record { terms = r .term ∷ q .terms; atoms = r .atoms ++ q .atoms; next = q .next })))
-        ≡ _>>=_ (flatsPiece y) (λ q. ok (both (record { terms = r .term ∷ []; words = wordsOf atomWords (r .atoms); count = length (r .atoms); next = r .next }) q))
+        → flatsPiece (_>>=_ y (λ q. ok (rowFlats r q)))
+        ≡ _>>=_ (flatsPiece y) (λ q. ok (both (termPiece r) q))
     last r (ok q) =
         λ i. ok (record { terms = r .term ∷ q .terms; words = words-append atomWords (r .atoms) (q .atoms) i; count = length-append (r .atoms) (q .atoms) i; next = q .next })
     last r (refuse n q) = refl
 
     go : (es : Exprs) (x : Res Flat)
-        → flatsPiece (_>>=_ x (λ r. _>>=_ (flattenAll es (r .next)) (λ q. ok (record { terms = r .term ∷ q .terms; atoms = r .atoms ++ q .atoms; next = q .next }))))
+        → flatsPiece (_>>=_ x (λ r. _>>=_ (flattenAll es (r .next)) (λ q. ok (rowFlats r q))))
         ≡ andThen (flatPiece x) (λ l. flatsPiece (flattenAll es l))
     go es (ok r) = last r (flattenAll es (r .next))
     go es (refuse n q) = refl
@@ -83,13 +94,16 @@ flattened-holds e cs = go (flatten e cs)
 abbrev pub equated : Piece → Piece
 equated p = record { terms = []; words = p .words ++ equalityWord ∷ p .terms; count = p .count + 1; next = p .next }
 
+abbrev equalQuery : ℕ → Flat → Flat → Query
+equalQuery p r q = record { atoms = r .atoms ++ q .atoms ++ eqn p (r .term) (q .term) ∷ []; next = q .next }
+
 pub flattened-equal : (p : ℕ) (a b : Expr) (cs : List ℕ) → flattenedFact (equal p a b) cs ≡ _>>=_ (andThen (flattened a cs) (flattened b)) (λ q. ok (equated q))
 unfolding flattened flattenedFact
 flattened-equal p a b cs = go (flatten a cs)
   where
     last : (r : Flat) (y : Res Flat)
-        → queryPiece (_>>=_ y (λ q. ok (record { atoms = r .atoms ++ q .atoms ++ eqn p (r .term) (q .term) ∷ []; next = q .next })))
-        ≡ _>>=_ (_>>=_ (flatPiece y) (λ q. ok (both (record { terms = r .term ∷ []; words = wordsOf atomWords (r .atoms); count = length (r .atoms); next = r .next }) q))) (λ q. ok (equated q))
+        → queryPiece (_>>=_ y (λ q. ok (equalQuery p r q)))
+        ≡ _>>=_ (_>>=_ (flatPiece y) (λ q. ok (both (termPiece r) q))) (λ q. ok (equated q))
     last r (ok q) =
         let e = eqn p (r .term) (q .term) in
         let ws = words-one atomWords (r .atoms ++ q .atoms) e ∙ ap (λ (l : List ℕ). l ++ atomWords e) (words-append atomWords (r .atoms) (q .atoms)) in
@@ -98,10 +112,14 @@ flattened-equal p a b cs = go (flatten a cs)
     last r (refuse n q) = refl
 
     go : (x : Res Flat)
-        → queryPiece (_>>=_ x (λ r. _>>=_ (flatten b (r .next)) (λ q. ok (record { atoms = r .atoms ++ q .atoms ++ eqn p (r .term) (q .term) ∷ []; next = q .next }))))
+        → queryPiece (_>>=_ x (λ r. _>>=_ (flatten b (r .next)) (λ q. ok (equalQuery p r q))))
         ≡ _>>=_ (andThen (flatPiece x) (λ l. flatPiece (flatten b l))) (λ q. ok (equated q))
     go (ok r) = last r (flatten b (r .next))
     go (refuse n q) = refl
+
+-- a fact and those behind it
+abbrev bothQueries : Query → Query → Query
+bothQueries r q = record { atoms = r .atoms ++ q .atoms; next = q .next }
 
 pub query-none : (cs : List ℕ) → query [] cs ≡ ok (nothing cs)
 unfolding query
@@ -112,13 +130,13 @@ unfolding query flattenedFact
 query-more f fs cs = go (flattenFact f cs)
   where
     last : (r : Query) (y : Res Query)
-        → queryPiece (_>>=_ y (λ q. ok (record { atoms = r .atoms ++ q .atoms; next = q .next })))
+        → queryPiece (_>>=_ y (λ q. ok (bothQueries r q)))
         ≡ _>>=_ (queryPiece y) (λ q. ok (both (record { terms = []; words = wordsOf atomWords (r .atoms); count = length (r .atoms); next = r .next }) q))
     last r (ok q) = λ i. ok (record { terms = []; words = words-append atomWords (r .atoms) (q .atoms) i; count = length-append (r .atoms) (q .atoms) i; next = q .next })
     last r (refuse n q) = refl
 
     go : (x : Res Query)
-        → queryPiece (_>>=_ x (λ r. _>>=_ (toQuery fs (r .next)) (λ q. ok (record { atoms = r .atoms ++ q .atoms; next = q .next }))))
+        → queryPiece (_>>=_ x (λ r. _>>=_ (toQuery fs (r .next)) (λ q. ok (bothQueries r q))))
         ≡ andThen (queryPiece x) (λ l. queryPiece (toQuery fs l))
     go (ok r) = last r (toQuery fs (r .next))
     go (refuse n q) = refl

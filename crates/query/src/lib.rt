@@ -32,7 +32,8 @@ pub fn flatten(
     requires { ⌜ Under (λ sig. ExprAt sig (words (now rule)) depth at × Counted sig (words (now counters))) ⌝ }
     requires { ⌜ Room (length (words (now rule))) at to sp log (length (words (now scratch))) ⌝ }
     ensures { λ r. ⌜ ((sig : Sig) (x : ExprAt sig (words (now (rule .entry))) depth at) → Counted sig (words (now (counters .entry)))
-        → Walked 1 (InAnswer log r) (flattened (x .value) (words (now (counters .entry)))) (x .size) at to sp log (words (now (scratch .entry))) (words (now (counters .entry))) (words (now (scratch .exit))) (words (now (counters .exit))) r) ⌝ }
+        → Walked 1 (InAnswer log r) (flattened (x .value) (words (now (counters .entry)))) (x .size) at to sp log
+        (words (now (scratch .entry))) (words (now (counters .entry))) (words (now (scratch .exit))) (words (now (counters .exit))) r) ⌝ }
 {
     let w = octets::get(rule, at);
     if walks::LITERAL <= w {
@@ -51,7 +52,8 @@ pub fn flatten(
 // behind it.
 fn put_around(scratch: &mut [u8], at: usize, head: u32, n: usize, output: u32) -> usize
     requires { ⌜ at + n + 2 ≤ length (words (now scratch)) ⌝ }
-    ensures { λ r. ⌜ (r ≡ at + n + 2) × (words (now (scratch .exit)) ≡ splice (words (now (scratch .entry))) at (head ∷ (part (words (now (scratch .entry))) (at + 1) n ++ (output ∷ [])))) ⌝ }
+    ensures { λ r. ⌜ (r ≡ at + n + 2)
+        × (words (now (scratch .exit)) ≡ splice (words (now (scratch .entry))) at (head ∷ (part (words (now (scratch .entry))) (at + 1) n ++ (output ∷ [])))) ⌝ }
 {
     octets::put(scratch, at, head);
     let end = at + 1 + n;
@@ -77,7 +79,8 @@ pub fn flatten_call(
     requires { ⌜ Room (length (words (now rule))) at to sp log (length (words (now scratch))) ⌝ }
     requires { ⌜ (w ≡ getD (words (now rule)) at 0) × (w < literalBase) ⌝ }
     ensures { λ r. ⌜ ((sig : Sig) (x : ExprAt sig (words (now (rule .entry))) depth at) → Counted sig (words (now (counters .entry)))
-        → Walked 1 (InAnswer log r) (flattened (x .value) (words (now (counters .entry)))) (x .size) at to sp log (words (now (scratch .entry))) (words (now (counters .entry))) (words (now (scratch .exit))) (words (now (counters .exit))) r) ⌝ }
+        → Walked 1 (InAnswer log r) (flattened (x .value) (words (now (counters .entry)))) (x .size) at to sp log
+        (words (now (scratch .entry))) (words (now (counters .entry))) (words (now (scratch .exit))) (words (now (counters .exit))) r) ⌝ }
 {
     let h = (w - walks::HEAD) / walks::LIMIT_16;
     let n = (w - walks::HEAD) % walks::LIMIT_16;
@@ -141,7 +144,8 @@ pub fn flatten_all(
     requires { ⌜ Under (λ sig. ExprsAt sig (words (now rule)) depth n at × Counted sig (words (now counters))) ⌝ }
     requires { ⌜ Room (length (words (now rule))) at to sp log (length (words (now scratch))) ⌝ }
     ensures { λ r. ⌜ ((sig : Sig) (x : ExprsAt sig (words (now (rule .entry))) depth n at) → Counted sig (words (now (counters .entry)))
-        → Walked n (OnStack sp n log (words (now (scratch .exit))) r) (flattenedAll (x .value) (words (now (counters .entry)))) (x .size) at to sp log (words (now (scratch .entry))) (words (now (counters .entry))) (words (now (scratch .exit))) (words (now (counters .exit))) r) ⌝ }
+        → Walked n (OnStack sp n log (words (now (scratch .exit))) r) (flattenedAll (x .value) (words (now (counters .entry)))) (x .size) at to sp log
+        (words (now (scratch .entry))) (words (now (counters .entry))) (words (now (scratch .exit))) (words (now (counters .exit))) r) ⌝ }
 {
     let mut left = n;
     let mut next = at;
@@ -190,7 +194,8 @@ pub fn flatten_fact(
     requires { ⌜ Under (λ sig. FactAt sig (words (now rule)) at × Counted sig (words (now counters))) ⌝ }
     requires { ⌜ Room (length (words (now rule))) at to sp log (length (words (now scratch))) ⌝ }
     ensures { λ r. ⌜ ((sig : Sig) (x : FactAt sig (words (now (rule .entry))) at) → Counted sig (words (now (counters .entry)))
-        → Walked 0 NoTerms (flattenedFact (x .value) (words (now (counters .entry)))) (x .size) at to sp log (words (now (scratch .entry))) (words (now (counters .entry))) (words (now (scratch .exit))) (words (now (counters .exit))) r) ⌝ }
+        → Walked 0 NoTerms (flattenedFact (x .value) (words (now (counters .entry)))) (x .size) at to sp log
+        (words (now (scratch .entry))) (words (now (counters .entry))) (words (now (scratch .exit))) (words (now (counters .exit))) r) ⌝ }
 {
     let w = octets::get(rule, at);
     if w != EQUALITY {
@@ -246,7 +251,8 @@ pub fn to_query(
     requires { ⌜ Under (λ sig. FactsAt sig (words (now rule)) n at × Counted sig (words (now counters))) ⌝ }
     requires { ⌜ Room (length (words (now rule))) at to sp log (length (words (now scratch))) ⌝ }
     ensures { λ r. ⌜ ((sig : Sig) (x : FactsAt sig (words (now (rule .entry))) n at) → Counted sig (words (now (counters .entry)))
-        → Walked 0 NoTerms (query (x .value) (words (now (counters .entry)))) (x .size) at to sp log (words (now (scratch .entry))) (words (now (counters .entry))) (words (now (scratch .exit))) (words (now (counters .exit))) r) ⌝ }
+        → Walked 0 NoTerms (query (x .value) (words (now (counters .entry)))) (x .size) at to sp log
+        (words (now (scratch .entry))) (words (now (counters .entry))) (words (now (scratch .exit))) (words (now (counters .exit))) r) ⌝ }
 {
     let mut left = n;
     let mut walk = Walk {

@@ -1,41 +1,39 @@
 -- Flattening an expression: a name or a literal is its own term, and a call is flattened as its own contract says. Assumes nothing.
-use mathlib.Core.Path.{_≡_}
+use Prim.Native.Nat.{_<_}
 use native.Mathlib.Omega.{arith}
-use lib.ListN.{getD}
+use lib.ListN.{length}
 use Rattle.octets.specs.Words.{words}
 use Rattle.octets.proofs.Words.{length-words}
 use Rattle.walks.proofs.Asks.{expr-inside}
-use Rattle.query.proofs.Exprs.{leaf-way}
+use Rattle.query.proofs.Spots.{Spot}
+use Rattle.query.proofs.Calls.{leaf-answer}
 use borrow.Author.Needs.{needs}
 use Rattle.query.proofs.flatten.Statement.{statement}
 use Rattle.query.proofs.flatten.Tie as tie
-use Rattle.query.proofs.flatten.Reads as reads
-use Rattle.query.proofs.flatten.Lts as lts
-use Rattle.octets.proofs.get.Reads as get-reads
-use Rattle.query.proofs.flatten_call.Reads as flatten-call-reads
+
+abbrev spot : tie.Start → Spot
+spot c =
+    let a = c .args in
+    record { ws = words (a .rule .now); s = words (a .scratch .now); cs = words (a .counters .now); at = a .at; to = a .to; sp = a .sp; lg = a .log }
+
+inside : (c : tie.Start) → spot c .at < length (spot c .ws)
+inside c = let q = c .pre .0 in expr-inside (q .sig) (spot c .ws) (c .args .depth) (spot c .at) (q .known .0)
 
 get-requires : tie.Need-get-requires
-get-requires c κs =
-    let a = c .before .before .before .args in
-    let ws = words (a .rule .now) in
-    let q = c .before .before .before .pre .0 in
-    expr-inside (q .sig) ws (a .depth) (a .at) (q .known .0)
+get-requires c κs = inside (c .before .before .before)
+
+-- ---- a name or a literal
+
+abbrev start : tie.Then1 → tie.Start
+start c = c .before .before .before .before .before
 
 add-t11 : tie.Need-add-t11
-add-t11 c =
-    let a = c .before .before .before .before .before .args in
-    let ws = words (a .rule .now) in
-    let q = c .before .before .before .before .before .pre .0 in
-    omega (arith, expr-inside (q .sig) ws (a .depth) (a .at) (q .known .0), length-words (a .rule .now))
+add-t11 c = omega (arith, inside (start c), length-words (start c .args .rule .now))
 
 returns : tie.Need-returns
-returns c =
-    let a = c .before .before .before .before .before .args in
-    let ws = words (a .rule .now) in
-    let q = c .before .before .before .before .before .pre .0 in
-    let w = c .before .get .result in
-    let is : w ≡ getD ws (a .at) 0 = c .before .get .ensures .is in
-    λ sig x n. leaf-way sig ws (a .depth) (a .at) (a .to) (a .sp) (a .log) (words (a .scratch .now)) (words (a .counters .now)) x n w is (c .if1 .taken)
+returns c = leaf-answer (spot (start c)) (start c .args .depth) _ (c .before .get .ensures .is) (c .if1 .taken)
+
+-- ---- a call
 
 flatten-call-requires : tie.Need-flatten-call-requires
 flatten-call-requires c κs = search needs
