@@ -1,4 +1,6 @@
--- The tests before any work, step by step: what is known of the definition where the code is. Assumes nothing.
+-- The tests before the work, in the order of 01: signature, counters, scratch, length, record. They are one definition for the three calls, over how a
+-- rule is read and which signatures have counters enough. `Reached` says what is left of them at a place of the code, `Passed` what is known behind all
+-- of them. Assumes nothing.
 use Prim.Native.Nat.{ℕ, _≤_, _<_}
 use mathlib.Core.Path.{_≡_, refl, sym, _∙_, ap}
 use mathlib.Core.Bool.{Bool, true, false, _&&_}
@@ -6,134 +8,244 @@ use mathlib.Core.List.{List}
 use lib.ListN.{length}
 use native.Mathlib.Omega.{arith}
 use lib.Dec.{leb}
-use borrow.Author.Tests.{le-leb, lt-leb}
-use Rattle.rules.specs.Words.{maxFlat, scratchWords}
-use Rattle.rules.specs.Refusals.{Res, ok, refuse, _>>=_, demand, smallScratch, badLength}
+use borrow.Author.Tests.{le-leb, lt-leb, leb-true}
+use Rattle.rules.specs.Words.{limit12, maxFlat, maxWritten, scratchWords}
+use Rattle.rules.specs.Refusals.{Res, ok, refuse, _>>=_, demand, fewCounters, smallScratch, badLength}
 use Rattle.rules.specs.Signature.{Sig, heads, readSignature}
+use Rattle.rules.specs.Written.{Rule, readWritten}
 use Rattle.rules.specs.Flat.{FlatRule, readFlat}
-use Rattle.rules.specs.Calls.{scratchFits, lengthFits}
 use Rattle.records.specs.Signature.{signOf}
 use Rattle.records.specs.declared.signature.Signature.{Signature}
 use Rattle.records.specs.declared.written.Walk.{Walk}
 use Rattle.records.specs.Written.{withHeads, wholeOf}
+use Rattle.records.proofs.WrittenWhole.{written-with}
 use Rattle.records.proofs.flat.Whole.{flat-with}
-use Rattle.meaning.proofs.Numbers.{Among, signature-among, flat-among}
+use Rattle.meaning.proofs.Lists.{and-right}
+use Rattle.meaning.proofs.Numbers.{Among, signature-among, flat-among, written-among}
 use Rattle.meaning.proofs.SignatureLaws.{signature-sound}
-use Rattle.tulgarent.specs.Fronts.{flatFront}
 
 -- no refusal has number 0
 abbrev pub Some : ℕ → Type 0
 Some n = n ≡ 0 → ⊥
 
--- where the signature is turned back, so is the whole
-pub sign-stops : (x : Res Sig) (k : Sig → Res Sig) → (signOf x .refused ≡ 0 → ⊥) → signOf (_>>=_ x k) ≡ signOf x
-sign-stops (ok s) k h = absurd (h refl)
-sign-stops (refuse n p) k h = refl
-
-pub sign-known : (x : Res Sig) → Among Some x → signOf x .refused ≡ 0 → (s : Sig) × (x ≡ ok s)
-sign-known (ok s) a e = (s, refl)
-sign-known (refuse n p) a e = absurd (a e)
-
--- a record's walk says its refusal, or that it was read
-pub whole-stops : {A : Type 0} (ws : List ℕ) (x : Res A) → (wholeOf ws x .refused ≡ 0 → ⊥) → x ≡ refuse (wholeOf ws x .refused) (wholeOf ws x .at)
-whole-stops ws (ok a) h = absurd (h refl)
-whole-stops ws (refuse n p) h = refl
-
-pub whole-known : {A : Type 0} (ws : List ℕ) (x : Res A) → Among Some x → wholeOf ws x .refused ≡ 0 → (a : A) × (x ≡ ok a)
-whole-known ws (ok a) h e = (a, refl)
-whole-known ws (refuse n p) h e = absurd (h e)
-
--- ---- settling and free variables, once the signature is read
-
-module _ (sw rw : List ℕ) (n : ℕ) (s : Sig) (e : readSignature sw ≡ ok s) where
-  abbrev after : Bool → Bool → Res FlatRule → Res Sig
-  after b c x = _>>=_ (demand b smallScratch 0 n) (λ k. _>>=_ (demand c badLength 0 (length rw)) (λ l. _>>=_ x (λ f. ok s)))
-
-  abbrev fits : Bool
-  fits = leb 1 (length rw) && leb (length rw) maxFlat
-
-  front-is : flatFront sw rw n ≡ after (leb scratchWords n) fits (readFlat s rw)
-  front-is = ap (λ (x : Res Sig). _>>=_ x (λ t. _>>=_ (scratchFits n) (λ k. _>>=_ (lengthFits maxFlat rw) (λ l. _>>=_ (readFlat t rw) (λ f. ok t))))) e
-
-  pub front-small : n < scratchWords → flatFront sw rw n ≡ refuse smallScratch 0
-  front-small h = front-is ∙ ap (λ (b : Bool). after b fits (readFlat s rw)) (lt-leb scratchWords n h)
-
-  module _ (enough : scratchWords ≤ n) where
-    front-enough : (c : Bool) → fits ≡ c → flatFront sw rw n ≡ after true c (readFlat s rw)
-    front-enough c h = front-is ∙ ap (λ (b : Bool). after b fits (readFlat s rw)) (le-leb scratchWords n enough) ∙ ap (λ (b : Bool). after true b (readFlat s rw)) h
-
-    pub front-length : fits ≡ false → flatFront sw rw n ≡ refuse badLength 0
-    front-length h = front-enough false h
-
-    pub front-record : fits ≡ true → (k p : ℕ) → readFlat s rw ≡ refuse k p → flatFront sw rw n ≡ refuse k p
-    front-record h k p r = front-enough true h ∙ ap (λ (x : Res FlatRule). after true true x) r
-
-    pub front-good : fits ≡ true → (f : FlatRule) → readFlat s rw ≡ ok f → flatFront sw rw n ≡ ok s
-    front-good h f r = front-enough true h ∙ ap (λ (x : Res FlatRule). after true true x) r
-
--- the record as the code reads it, by the number of heads alone
-pub flat-read : (sw rw : List ℕ) (s : Sig) → readSignature sw ≡ ok s → readFlat (withHeads (heads s)) rw ≡ readFlat s rw
-flat-read sw rw s e = flat-with s rw (signature-sound sw s e .few-heads)
-
-pub signature-some : (ws : List ℕ) → Among Some (readSignature ws)
+signature-some : (ws : List ℕ) → Among Some (readSignature ws)
 signature-some ws = signature-among Some (λ e. let z : _≡_ {A = ℕ} 1 0 = e in omega arith) ws
 
 pub flat-some : (s : Sig) (ws : List ℕ) → Among Some (readFlat s ws)
 flat-some s ws = flat-among Some (λ e. omega arith) (λ e. omega arith) (λ e. omega arith) s ws
 
--- ---- what `flat_front` answers, by how far it came. r is the signature's answer, t what is given back
+pub written-some : (s : Sig) (ws : List ℕ) → Among Some (readWritten s ws)
+written-some s ws = written-among Some (λ e. omega arith) (λ e. omega arith) s ws
 
-module _ (sw rw : List ℕ) (n : ℕ) {r : Signature} (read : r ≡ signOf (readSignature sw)) where
-  pub stops-at-signature : (r .refused ≡ 0 → ⊥) → r ≡ signOf (flatFront sw rw n)
-  stops-at-signature h = read ∙ sym (sign-stops (readSignature sw) _ (λ z. h (ap (λ (x : Signature). x .refused) read ∙ z)))
+-- ---- the tests
 
-  module _ (good : r .refused ≡ 0) where
-    known : (s : Sig) × (readSignature sw ≡ ok s)
-    known = sign-known (readSignature sw) (signature-some sw) (sym (ap (λ (x : Signature). x .refused) read) ∙ good)
+-- how a rule is read, by the number of heads alone; which signatures have counters enough; the words; how many counters and words of scratch there are
+pub record Front (R : Type 0) : Type 0 where
+  pub read : Sig → List ℕ → Res R
+  pub by-heads : (s : Sig) (ws : List ℕ) → heads s ≤ limit12 → read (withHeads (heads s)) ws ≡ read s ws
+  pub some : (s : Sig) (ws : List ℕ) → Among Some (read s ws)
+  pub most : ℕ
+  pub counted : Sig → Bool
+  pub signature : List ℕ
+  pub rule : List ℕ
+  pub counters : ℕ
+  pub scratch : ℕ
 
-    heads-are : r .heads ≡ heads (known .0)
-    heads-are = ap (λ (x : Signature). x .heads) (read ∙ ap signOf (known .1))
+-- settling and free variables ask for no counters: as if there were enough
+abbrev pub flat : (signature rule : List ℕ) → (scratch : ℕ) → Front FlatRule
+flat sw rw n =
+    record {
+      read = readFlat;
+      by-heads = flat-with;
+      some = flat-some;
+      most = maxFlat;
+      counted = λ s. true;
+      signature = sw;
+      rule = rw;
+      counters = 0;
+      scratch = n;
+    }
 
-    pub stops-at-scratch : {t : Signature} → t ≡ signOf (refuse smallScratch 0) → n < scratchWords → t ≡ signOf (flatFront sw rw n)
-    stops-at-scratch e h = e ∙ ap signOf (sym (front-small sw rw n (known .0) (known .1) h))
+abbrev pub written : (signature rule : List ℕ) → (counters scratch : ℕ) → Front Rule
+written sw rw m n =
+    record {
+      read = readWritten;
+      by-heads = written-with;
+      some = written-some;
+      most = maxWritten;
+      counted = λ s. leb (heads s) m;
+      signature = sw;
+      rule = rw;
+      counters = m;
+      scratch = n;
+    }
 
-    module _ (enough : scratchWords ≤ n) {b : Bool} (test : b ≡ (leb 1 (length rw) && leb (length rw) maxFlat)) where
-      pub stops-at-length : {t : Signature} → t ≡ signOf (refuse badLength 0) → b ≡ false → t ≡ signOf (flatFront sw rw n)
-      stops-at-length e h = e ∙ ap signOf (sym (front-length sw rw n (known .0) (known .1) enough (sym test ∙ h)))
+module _ {R : Type 0} (f : Front R) where
+  abbrev pub fits : Bool
+  fits = leb 1 (length (f .rule)) && leb (length (f .rule)) (f .most)
 
-      module _ (fits : b ≡ true) {w : Walk} (walk : w ≡ wholeOf rw (readFlat (withHeads (r .heads)) rw)) where
-        same-read : readFlat (withHeads (r .heads)) rw ≡ readFlat (known .0) rw
-        same-read = ap (λ (k : ℕ). readFlat (withHeads k) rw) heads-are ∙ flat-read sw rw (known .0) (known .1)
+  -- the tests behind the signature, by how they come out, and then k
+  abbrev pub after : {A C : Type 0} → (Sig → R → Res A) → C → Sig → (counters scratch long : Bool) → Res R → Res A
+  after k c s a b l x =
+      _>>=_ (demand a fewCounters 0 c)
+      (λ q. _>>=_ (demand b smallScratch 0 (f .scratch)) (λ n. _>>=_ (demand l badLength 0 (length (f .rule))) (λ m. _>>=_ x (k s))))
 
-        walk-is : w ≡ wholeOf rw (readFlat (known .0) rw)
-        walk-is = walk ∙ ap (wholeOf rw) same-read
+  abbrev pub tested : {A C : Type 0} → (Sig → R → Res A) → C → Res A
+  tested k c = _>>=_ (readSignature (f .signature)) (λ s. after k c s (f .counted s) (leb scratchWords (f .scratch)) fits (f .read s (f .rule)))
 
-        pub stops-at-record : {t : Signature} → t ≡ signOf (refuse (w .refused) (w .at)) → (w .refused ≡ 0 → ⊥) → t ≡ signOf (flatFront sw rw n)
-        stops-at-record e h =
-            let x = readFlat (known .0) rw in
-            let z = whole-stops rw x (λ k. h (ap (λ (y : Walk). y .refused) walk-is ∙ k)) in
-            let q = front-record sw rw n (known .0) (known .1) enough (sym test ∙ fits) _ _ z in
-            e ∙ ap (λ (y : Walk). signOf (refuse (y .refused) (y .at))) walk-is ∙ ap signOf (sym q)
+  abbrev pub signed : Sig → R → Res Sig
+  signed s r = ok s
 
-        good-rule : w .refused ≡ 0 → (f : FlatRule) × (readFlat (known .0) rw ≡ ok f)
-        good-rule h = whole-known rw (readFlat (known .0) rw) (flat-some (known .0) rw) (sym (ap (λ (y : Walk). y .refused) walk-is) ∙ h)
+  -- the signature that they leave
+  abbrev pub front : Res Sig
+  front = tested signed (f .counters)
 
-        pub goes-through : w .refused ≡ 0 → r ≡ signOf (flatFront sw rw n)
-        goes-through h =
-            let f = good-rule h in
-            read ∙ ap signOf (known .1) ∙ ap signOf (sym (front-good sw rw n (known .0) (known .1) enough (sym test ∙ fits) (f .0) (f .1)))
+-- ---- behind all of them: the signature s and a rule were read, and y is what k makes of them
 
--- no refusal in front has number 0
-pub front-some : (sw rw : List ℕ) (n : ℕ) → Among Some (flatFront sw rw n)
-front-some sw rw n = go (readSignature sw) (signature-some sw) (leb scratchWords n) (leb 1 (length rw) && leb (length rw) maxFlat)
-  where
-    last : (s : Sig) (z : Res FlatRule) → Among Some z → Among Some (_>>=_ z (λ f. ok s))
-    last s (ok f) h = tt
-    last s (refuse k p) h = h
+pub record Passed {R A : Type 0} (f : Front R) (k : Sig → R → Res A) (y : Res A) (s : Sig) : Type 0 where
+  pub rule : R
+  pub signature : readSignature (f .signature) ≡ ok s
+  pub counters : f .counted s ≡ true
+  pub scratch : scratchWords ≤ f .scratch
+  pub short : length (f .rule) ≤ f .most
+  pub reads : f .read s (f .rule) ≡ ok rule
+  pub goes : y ≡ k s rule
 
-    go : (x : Res Sig) → Among Some x → (b c : Bool)
-        → Among Some (_>>=_ x (λ s. _>>=_ (demand b smallScratch 0 n) (λ k. _>>=_ (demand c badLength 0 (length rw)) (λ l. _>>=_ (readFlat s rw) (λ f. ok s)))))
-    go (refuse k p) h b c = h
-    go (ok s) h false c = λ e. omega arith
-    go (ok s) h true false = λ e. omega arith
-    go (ok s) h true true = last s (readFlat s rw) (flat-some s rw)
+-- where the tests refuse, so does all that comes behind them
+abbrev pub Fate : {R A : Type 0} → Front R → (Sig → R → Res A) → Res A → Res Sig → Type 0
+Fate f k y (ok s) = Passed f k y s
+Fate f k y (refuse n p) = Some n × (y ≡ refuse n p)
+
+module _ {R A C : Type 0} (f : Front R) (k : Sig → R → Res A) (c : C) where
+  fate-after : (s : Sig) → readSignature (f .signature) ≡ ok s → (a b l : Bool) → f .counted s ≡ a → leb scratchWords (f .scratch) ≡ b → fits f ≡ l
+      → (x : Res R) → f .read s (f .rule) ≡ x → Among Some x → Fate f k (after f k c s a b l x) (after f (signed f) (f .counters) s a b l x)
+  fate-after s e false b l ea eb el x r some = ((λ z. omega arith), refl)
+  fate-after s e true false l ea eb el x r some = ((λ z. omega arith), refl)
+  fate-after s e true true false ea eb el x r some = ((λ z. omega arith), refl)
+  fate-after s e true true true ea eb el (refuse n p) r some = (some, refl)
+  fate-after s e true true true ea eb el (ok v) r some =
+      record {
+        rule = v;
+        signature = e;
+        counters = ea;
+        scratch = leb-true scratchWords (f .scratch) eb;
+        short = leb-true (length (f .rule)) (f .most) (and-right (leb 1 (length (f .rule))) (leb (length (f .rule)) (f .most)) el);
+        reads = r;
+        goes = refl;
+      }
+
+  pub fate : Fate f k (tested f k c) (front f)
+  fate = go (readSignature (f .signature)) refl (signature-some (f .signature))
+    where
+      go : (x : Res Sig) → readSignature (f .signature) ≡ x → Among Some x
+          → Fate f k (_>>=_ x (λ s. after f k c s (f .counted s) (leb scratchWords (f .scratch)) (fits f) (f .read s (f .rule))))
+          (_>>=_ x (λ s. after f (signed f) (f .counters) s (f .counted s) (leb scratchWords (f .scratch)) (fits f) (f .read s (f .rule))))
+      go (refuse n p) e some = (some, refl)
+      go (ok s) e some =
+          fate-after s e (f .counted s) (leb scratchWords (f .scratch)) (fits f) refl refl refl (f .read s (f .rule)) refl (f .some s (f .rule))
+
+-- ---- at a place of the code: r tells of the signature, and these tests are left
+
+pub record Reached {R : Type 0} (f : Front R) (r : Signature) (left : Sig → Res Sig) : Type 0 where
+  pub sig : Sig
+  pub signature : readSignature (f .signature) ≡ ok sig
+  pub told : r ≡ signOf (ok sig)
+  pub is : front f ≡ left sig
+
+module _ {R : Type 0} (f : Front R) where
+  abbrev pub from-record : Sig → Res Sig
+  from-record s = after f (signed f) (f .counters) s true true true (f .read s (f .rule))
+
+  abbrev pub from-length : Sig → Res Sig
+  from-length s = after f (signed f) (f .counters) s true true (fits f) (f .read s (f .rule))
+
+  abbrev pub from-scratch : Sig → Res Sig
+  from-scratch s = after f (signed f) (f .counters) s true (leb scratchWords (f .scratch)) (fits f) (f .read s (f .rule))
+
+  abbrev pub from-counters : Sig → Res Sig
+  from-counters s = after f (signed f) (f .counters) s (f .counted s) (leb scratchWords (f .scratch)) (fits f) (f .read s (f .rule))
+
+  module _ {r : Signature} (read : r ≡ signOf (readSignature (f .signature))) where
+    pub bad-signature : (r .refused ≡ 0 → ⊥) → r ≡ signOf (front f)
+    bad-signature bad = read ∙ go (readSignature (f .signature)) (λ z. bad (ap (λ (x : Signature). x .refused) read ∙ z))
+      where
+        go : (x : Res Sig) → (signOf x .refused ≡ 0 → ⊥) → signOf x ≡ signOf (_>>=_ x from-counters)
+        go (ok s) h = absurd (h refl)
+        go (refuse n p) h = refl
+
+    pub good-signature : r .refused ≡ 0 → Reached f r from-counters
+    good-signature good = go (readSignature (f .signature)) refl (signature-some (f .signature))
+      where
+        go : (x : Res Sig) → readSignature (f .signature) ≡ x → Among Some x → Reached f r from-counters
+        go (ok s) e some = record { sig = s; signature = e; told = read ∙ ap signOf e; is = ap (λ (x : Res Sig). _>>=_ x from-counters) e }
+        go (refuse n p) e some = absurd (some (sym (ap (λ (x : Signature). x .refused) (read ∙ ap signOf e)) ∙ good))
+
+module _ {R : Type 0} {f : Front R} {r : Signature} where
+  -- a test refuses, and that is what is given back
+  stop : {left : Sig → Res Sig} (h : Reached f r left) {n p : ℕ} → left (h .sig) ≡ refuse n p → {t : Signature} → t ≡ signOf (refuse n p)
+      → t ≡ signOf (front f)
+  stop h e t = t ∙ ap signOf (sym (h .is ∙ e))
+
+  -- a test passes
+  pass : {left : Sig → Res Sig} (h : Reached f r left) {next : Sig → Res Sig} → left (h .sig) ≡ next (h .sig) → Reached f r next
+  pass h e = record { sig = h .sig; signature = h .signature; told = h .told; is = h .is ∙ e }
+
+  module _ (h : Reached f r (from-counters f)) where
+    by-counters : (b : Bool) → f .counted (h .sig) ≡ b
+        → from-counters f (h .sig) ≡ after f (signed f) (f .counters) (h .sig) b (leb scratchWords (f .scratch)) (fits f) (f .read (h .sig) (f .rule))
+    by-counters b e = ap (λ (a : Bool). after f (signed f) (f .counters) (h .sig) a (leb scratchWords (f .scratch)) (fits f) (f .read (h .sig) (f .rule))) e
+
+    pub few-counters : f .counted (h .sig) ≡ false → {t : Signature} → t ≡ signOf (refuse fewCounters 0) → t ≡ signOf (front f)
+    few-counters e = stop h (by-counters false e)
+
+    pub many-counters : f .counted (h .sig) ≡ true → Reached f r (from-scratch f)
+    many-counters e = pass h (by-counters true e)
+
+  module _ (h : Reached f r (from-scratch f)) where
+    by-scratch : (b : Bool) → leb scratchWords (f .scratch) ≡ b
+        → from-scratch f (h .sig) ≡ after f (signed f) (f .counters) (h .sig) true b (fits f) (f .read (h .sig) (f .rule))
+    by-scratch b e = ap (λ (a : Bool). after f (signed f) (f .counters) (h .sig) true a (fits f) (f .read (h .sig) (f .rule))) e
+
+    pub little-scratch : f .scratch < scratchWords → {t : Signature} → t ≡ signOf (refuse smallScratch 0) → t ≡ signOf (front f)
+    little-scratch l = stop h (by-scratch false (lt-leb scratchWords (f .scratch) l))
+
+    pub enough-scratch : scratchWords ≤ f .scratch → Reached f r (from-length f)
+    enough-scratch l = pass h (by-scratch true (le-leb scratchWords (f .scratch) l))
+
+  module _ (h : Reached f r (from-length f)) {b : Bool} (test : b ≡ fits f) where
+    pub wrong-length : b ≡ false → {t : Signature} → t ≡ signOf (refuse badLength 0) → t ≡ signOf (front f)
+    wrong-length e = stop h (ap (λ (a : Bool). after f (signed f) (f .counters) (h .sig) true true a (f .read (h .sig) (f .rule))) (sym test ∙ e))
+
+    pub right-length : b ≡ true → Reached f r (from-record f)
+    right-length e = pass h (ap (λ (a : Bool). after f (signed f) (f .counters) (h .sig) true true a (f .read (h .sig) (f .rule))) (sym test ∙ e))
+
+  module _ (h : Reached f r (from-record f)) {w : Walk} (walk : w ≡ wholeOf (f .rule) (f .read (withHeads (r .heads)) (f .rule))) where
+    walk-is : w ≡ wholeOf (f .rule) (f .read (h .sig) (f .rule))
+    walk-is =
+        walk ∙ ap (λ (k : ℕ). wholeOf (f .rule) (f .read (withHeads k) (f .rule))) (ap (λ (x : Signature). x .heads) (h .told))
+        ∙ ap (wholeOf (f .rule)) (f .by-heads (h .sig) (f .rule) (signature-sound (f .signature) (h .sig) (h .signature) .few-heads))
+
+    pub bad-record : (w .refused ≡ 0 → ⊥) → {t : Signature} → t ≡ signOf (refuse (w .refused) (w .at)) → t ≡ signOf (front f)
+    bad-record bad {t} e = go (f .read (h .sig) (f .rule)) walk-is (h .is)
+      where
+        go : (x : Res R) → w ≡ wholeOf (f .rule) x → front f ≡ after f (signed f) (f .counters) (h .sig) true true true x → t ≡ signOf (front f)
+        go (ok v) z i = absurd (bad (ap (λ (y : Walk). y .refused) z))
+        go (refuse n p) z i = e ∙ ap (λ (y : Walk). signOf (refuse (y .refused) (y .at))) z ∙ ap signOf (sym i)
+
+    pub good-record : w .refused ≡ 0 → r ≡ signOf (front f)
+    good-record good = go (f .read (h .sig) (f .rule)) walk-is (f .some (h .sig) (f .rule)) (h .is)
+      where
+        go : (x : Res R) → w ≡ wholeOf (f .rule) x → Among Some x → front f ≡ after f (signed f) (f .counters) (h .sig) true true true x → r ≡ signOf (front f)
+        go (ok v) z some i = h .told ∙ ap signOf (sym i)
+        go (refuse n p) z some i = absurd (some (sym (ap (λ (y : Walk). y .refused) z) ∙ good))
+
+-- lowering has a counter for each head
+module _ {sw rw : List ℕ} {m n : ℕ} {r : Signature} (h : Reached (written sw rw m n) r (from-counters (written sw rw m n))) where
+  heads-are : r .heads ≡ heads (h .sig)
+  heads-are = ap (λ (x : Signature). x .heads) (h .told)
+
+  pub counters-short : m < r .heads → {t : Signature} → t ≡ signOf (refuse fewCounters 0) → t ≡ signOf (front (written sw rw m n))
+  counters-short l = few-counters h (lt-leb (heads (h .sig)) m (omega (arith, heads-are)))
+
+  pub counters-there : r .heads ≤ m → Reached (written sw rw m n) r (from-scratch (written sw rw m n))
+  counters-there l = many-counters h (le-leb (heads (h .sig)) m (omega (arith, heads-are)))

@@ -1,235 +1,174 @@
--- What `tulgarent_lower` answers and leaves, by how far it came. Assumes nothing.
-use Prim.Native.Nat.{ℕ, _*_, _/_, _%_, _≤_, _<_}
+-- Lowering a written rule, as a call: what is asked of the work, what it gives, and when the counters are used. Assumes nothing.
+use Prim.Native.Nat.{ℕ, _*_, _/_, _≤_, _<_}
 use native.Mathlib.Omega.{arith}
-use mathlib.Core.Path.{_≡_, refl, sym, _∙_, ap, subst}
-use mathlib.Core.Bool.{Bool, true, false}
+use mathlib.Core.Path.{_≡_, refl, sym, _∙_, ap}
+use mathlib.Core.Bool.{Bool, true}
 use mathlib.Core.List.{List, [], _∷_}
-use lib.ListN.{length, getD, take}
-use lib.Dec.{leb, eqb}
-use borrow.Author.Tests.{leb-true, eqb-true}
+use lib.ListN.{length, take}
+use borrow.Author.Tests.{leb-true}
 use Rattle.octets.specs.Words.{words, bytesOf}
-use Rattle.octets.proofs.Words.{bytes-words, words-injective}
-use Rattle.rules.specs.Words.{maxWritten, scratchWords}
-use Rattle.rules.specs.Refusals.{Res, ok, refuse, _>>=_, demand, fewCounters, smallScratch, badLength, shortOutput, ragged}
-use Rattle.rules.specs.Signature.{Sig, heads, readSignature}
-use Rattle.rules.specs.Written.{Rule, readWritten}
+use Rattle.octets.proofs.Words.{bytes-words, words-injective, length-words, length-words-kept}
+use Rattle.rules.specs.Refusals.{Res, ok, refuse, _>>=_, shortOutput}
+use Rattle.rules.specs.Signature.{Sig, heads}
+use Rattle.rules.specs.Written.{Rule}
 use Rattle.rules.specs.ToCoreActions.{CoreRule, toCoreRule}
 use Rattle.rules.specs.RemoveDupVars.{settle}
-use Rattle.rules.specs.Calls.{Result, settledResult, lowerRule, scratchFits, lengthFits, outputFits, lowerWords, wholeWords, lowerRes, outcomeOf, lower}
+use Rattle.rules.specs.Calls.{Result, settledResult, lowerRule, wholeWords, lower}
 use Rattle.records.specs.Signature.{signOf}
 use Rattle.records.specs.declared.signature.Signature.{Signature}
-use Rattle.meaning.proofs.Lists.{and-left, and-right}
-use Rattle.meaning.proofs.Results.{bind-ok, ok-inj, demand-ok, refuse-ok}
 use Rattle.tulgarent.specs.declared.Answer.{Answer}
 use Rattle.tulgarent.specs.declared.lower.Lowered.{Lowered}
-use Rattle.tulgarent.specs.Answers.{refusedWith, wholeThree, answerOf, GivesBoth}
+use Rattle.tulgarent.specs.Answers.{wholeThree, scratchWritten, refusedWith, GivesBoth}
 use Rattle.tulgarent.specs.Fronts.{writtenFront}
 use Rattle.tulgarent.specs.Lower.{WrittenUnder, LowerAsks, LoweredTo, LowersTo}
-use Rattle.tulgarent.proofs.Fronts.{sign-known}
-use Rattle.tulgarent.proofs.WrittenFronts.{fits, after, front-some}
-use Rattle.tulgarent.proofs.Ends.{ends-short, ends-written}
-use Rattle.tulgarent.proofs.Lent.{front-words}
+use Rattle.tulgarent.proofs.Slices.{every-whole}
+use Rattle.tulgarent.proofs.Fronts.{written, front}
+use Rattle.tulgarent.proofs.Lent.{Lent, lent-words}
+use Rattle.tulgarent.proofs.Calls.{Given, Call, Answers, Whole, Ready, work-refuses, Done, Bytes, too-short, all-written}
 
--- ---- the definition, behind the tests in front
+abbrev pub lowering : Given → Call Rule
+lowering k =
+    record {
+      tests = written (words (k .signature)) (words (k .rule)) (length (words (k .counters))) (length (k .scratch) / 4);
+      make = λ s r. lowerRule s r (words (k .counters));
+      lengths = length (k .signature) ∷ length (k .rule) ∷ length (k .counters) ∷ length (k .output) ∷ length (k .scratch) ∷ [];
+      output = k .output;
+      counters = k .counters;
+    }
 
-module _ (sw rw cs : List ℕ) (room n : ℕ) where
-  abbrev lowering : Sig → Bool → Bool → Bool → Res Rule → Res Result
-  lowering s a b c x =
-      _>>=_ (demand a fewCounters 0 cs)
-      (λ q. _>>=_ (demand b smallScratch 0 n) (λ k. _>>=_ (demand c badLength 0 (length rw)) (λ l. _>>=_ x (λ r. _>>=_ (lowerRule s r cs) (λ o. outputFits room o)))))
-
-  front-refuses : (k p : ℕ) → writtenFront sw rw (length cs) n ≡ refuse k p → lowerWords sw rw cs room n ≡ refuse k p
-  front-refuses k p = go (readSignature sw)
-    where
-      last : (s : Sig) (z : Res Rule) → _>>=_ z (λ f. ok s) ≡ refuse k p → _>>=_ z (λ r. _>>=_ (lowerRule s r cs) (λ o. outputFits room o)) ≡ refuse k p
-      last s (ok f) e = absurd (refuse-ok k p s (sym e))
-      last s (refuse j q) e = cc
-
-      tests : (s : Sig) (a b c : Bool) → after rw (length cs) n s a b c (readWritten s rw) ≡ refuse k p → lowering s a b c (readWritten s rw) ≡ refuse k p
-      tests s false b c e = cc
-      tests s true false c e = cc
-      tests s true true false e = cc
-      tests s true true true e = last s (readWritten s rw) e
-
-      go : (x : Res Sig) → _>>=_ x (λ s. after rw (length cs) n s (leb (heads s) (length cs)) (leb scratchWords n) (fits rw) (readWritten s rw)) ≡ refuse k p
-          → _>>=_ x (λ s. lowering s (leb (heads s) (length cs)) (leb scratchWords n) (fits rw) (readWritten s rw)) ≡ refuse k p
-      go (ok s) e = tests s (leb (heads s) (length cs)) (leb scratchWords n) (fits rw) e
-      go (refuse j q) e = cc
-
-  record Passed (s : Sig) : Type 0 where
-    pub rule : Rule
-    pub signature : readSignature sw ≡ ok s
-    pub reads : readWritten s rw ≡ ok rule
-    pub many : heads s ≤ length cs
-    pub enough : scratchWords ≤ n
-    pub short : length rw ≤ maxWritten
-    pub gives : lowerWords sw rw cs room n ≡ _>>=_ (lowerRule s rule cs) (λ o. outputFits room o)
-
-  front-passes : (s : Sig) → writtenFront sw rw (length cs) n ≡ ok s → Passed s
-  front-passes s e =
-      let x = bind-ok (readSignature sw) _ s e in
-      let c = bind-ok (demand (leb (heads (x .0)) (length cs)) fewCounters 0 (length cs)) _ s (x .2) in
-      let k = bind-ok (scratchFits n) _ s (c .2) in
-      let y = bind-ok (lengthFits maxWritten rw) _ s (k .2) in
-      let z = bind-ok (readWritten (x .0) rw) _ s (y .2) in
-      let d1 = demand-ok (leb (heads (x .0)) (length cs)) fewCounters 0 (length cs) (c .0) (c .1) .0 in
-      let d2 = demand-ok (leb scratchWords n) smallScratch 0 n (k .0) (k .1) .0 in
-      let d3 = demand-ok (fits rw) badLength 0 (length rw) (y .0) (y .1) .0 in
-      let w = readWritten (x .0) rw in
-      subst (λ (t : Sig). Passed t) (ok-inj _ _ (z .2))
-      (record {
-        rule = z .0;
-        signature = x .1;
-        reads = z .1;
-        many = leb-true (heads (x .0)) (length cs) d1;
-        enough = leb-true scratchWords n d2;
-        short = leb-true (length rw) maxWritten (and-right (leb 1 (length rw)) (leb (length rw) maxWritten) d3);
-        gives =
-            ap (λ (u : Res Sig). _>>=_ u (λ t. lowering t (leb (heads t) (length cs)) (leb scratchWords n) (fits rw) (readWritten t rw))) (x .1)
-            ∙ ap (λ (b : Bool). lowering (x .0) b (leb scratchWords n) (fits rw) w) d1
-            ∙ ap (λ (b : Bool). lowering (x .0) true b (fits rw) w) d2
-            ∙ ap (λ (b : Bool). lowering (x .0) true true b w) d3
-            ∙ ap (λ (r : Res Rule). lowering (x .0) true true true r) (z .1);
-      })
-
--- ---- on bytes
-
-module _ (sb rb cb ob : List ℕ) (sc : ℕ) where
-  abbrev lengths : List ℕ
-  lengths = length sb ∷ length rb ∷ length cb ∷ length ob ∷ sc ∷ []
-
-  abbrev inner : Res Result
-  inner = lowerWords (words sb) (words rb) (words cb) (length ob / 4) (sc / 4)
-
-  -- a call that comes to this result
-  gives-of : {r : Answer} {m d : List ℕ} (x : Res Result) → lowerRes sb rb cb ob sc ≡ x → r ≡ answerOf (outcomeOf ob cb x) → m ≡ outcomeOf ob cb x .output → d ≡ outcomeOf ob cb x .counters
-      → GivesBoth (lower sb rb cb ob sc) r m d
+module _ (k : Given) where
+  -- the call's answer is the definition's
+  pub lower-gives : {r : Answer} {m d : List ℕ} → Answers (lowering k) r m d → GivesBoth (lower (k .signature) (k .rule) (k .counters) (k .output) (length (k .scratch))) r m d
   unfolding lower
-  gives-of x e a w d =
+  lower-gives g = g
+
+  -- the last two slices are tested first
+  pub lower-tested : {t b : Bool} → t ≡ wholeWords (length (k .output) ∷ length (k .scratch) ∷ [])
+      → b ≡ wholeThree (length (k .signature)) (length (k .rule)) (length (k .counters)) t → b ≡ wholeWords (lowering k .lengths)
+  lower-tested last three = three ∙ ap (wholeThree (length (k .signature)) (length (k .rule)) (length (k .counters))) last
+
+  pub lower-whole : {b : Bool} → b ≡ wholeWords (lowering k .lengths) → b ≡ true → Whole (lowering k)
+  lower-whole test h =
+      let all = sym test ∙ h in
+      record { all = all; output = every-whole (lowering k .lengths) all 3; counters = every-whole (lowering k .lengths) all 2 }
+
+  -- m counters and n words of scratch are counted
+  pub lower-front : {m n : ℕ} → m ≡ length (words (k .counters)) → n ≡ length (words (k .scratch)) → {g : Signature}
+      → g ≡ signOf (writtenFront (words (k .signature)) (words (k .rule)) m n) → g ≡ signOf (front (lowering k .tests))
+  lower-front {m} {n} em en is =
+      is ∙ ap (λ (i : ℕ). signOf (writtenFront (words (k .signature)) (words (k .rule)) i n)) em
+      ∙ ap (λ (i : ℕ). signOf (writtenFront (words (k .signature)) (words (k .rule)) (length (words (k .counters))) i)) (en ∙ length-words (k .scratch))
+
+  module _ {g : Signature} (y : Ready (lowering k) g) where
+    under : WrittenUnder (words (k .signature)) (words (k .rule)) g (y .sig) (y .passed .rule)
+    under =
+        record {
+          signed = y .passed .signature;
+          globals = ap (λ (x : Signature). x .globals) (y .told);
+          equals = ap (λ (x : Signature). x .equals) (y .told);
+          written = y .passed .reads;
+          short = y .passed .short;
+        }
+
+    -- the scratch has a front of 32 words for each of the n words of the rule
+    pub lower-lent : {n : ℕ} → n ≡ length (words (k .rule)) → Lent (scratchWritten (k .rule)) (k .scratch) (128 * n)
+    lower-lent e =
+        let p = y .passed in
+        record { is = omega arith; inside = omega (arith, p .scratch, p .short); fits = omega (arith, p .short) }
+
+    pub lower-asks : {cut : ℕ} → Lent (scratchWritten (k .rule)) (k .scratch) cut → LowerAsks (words (k .signature)) (words (k .rule)) g (words (k .counters)) (length (words (take cut (k .scratch))))
+    lower-asks l =
+        record {
+          sig = y .sig;
+          rule = y .passed .rule;
+          under = under;
+          counters = leb-true (heads (y .sig)) (length (words (k .counters))) (y .passed .counters);
+          scratch = omega (arith, lent-words l);
+        }
+
+    abbrev core : Res CoreRule
+    core = toCoreRule (y .sig) (y .passed .rule) (words (k .counters))
+
+-- ---- the rule is lowered: w, with the output m and the counters d left behind
+
+pub record Lowerings (k : Given) {g : Signature} (y : Ready (lowering k) g) (w : Lowered) (m d : List ℕ) : Type 0 where
+  pub lowers : LowersTo (y .sig) (core k y) (words (k .counters)) (words d) (k .output) m w
+  pub output : length m ≡ length (k .output)
+  pub counters : length d ≡ length (k .counters)
+  pub outputBefore : Bytes (k .output)
+  pub outputAfter : Bytes m
+  pub countersBefore : Bytes (k .counters)
+  pub countersAfter : Bytes d
+
+module _ (k : Given) {g : Signature} (y : Ready (lowering k) g) where
+  pub lowered : {w : Lowered} {m d : List ℕ}
+      → ((s : Sig) (r : Rule) → WrittenUnder (words (k .signature)) (words (k .rule)) g s r → LowersTo s (toCoreRule s r (words (k .counters))) (words (k .counters)) (words d) (k .output) m w)
+      → length m ≡ length (k .output) → length d ≡ length (k .counters) → Bytes (k .output) → Bytes m → Bytes (k .counters) → Bytes d → Lowerings k y w m d
+  lowered did em ed o m c d =
       record {
-        answer = a ∙ ap (λ (y : Res Result). answerOf (outcomeOf ob cb y)) (sym e);
-        writes = w ∙ ap (λ (y : Res Result). outcomeOf ob cb y .output) (sym e);
-        counts = d ∙ ap (λ (y : Res Result). outcomeOf ob cb y .counters) (sym e);
+        lowers = did (y .sig) (y .passed .rule) (under k y);
+        output = em;
+        counters = ed;
+        outputBefore = o;
+        outputAfter = m;
+        countersBefore = c;
+        countersAfter = d;
       }
 
-  module _ {b q : Bool} (two : q ≡ wholeWords (length ob ∷ sc ∷ [])) (three : b ≡ wholeThree (length sb) (length rb) (length cb) q) where
-    test : b ≡ wholeWords lengths
-    test = three ∙ ap (λ (z : Bool). wholeThree (length sb) (length rb) (length cb) z) two
+module _ {k : Given} {g : Signature} {y : Ready (lowering k) g} {w : Lowered} {m d : List ℕ} (o : Lowerings k y w m d) where
+  abbrev Core : Res CoreRule → Type 0
+  Core x = LowersTo (y .sig) x (words (k .counters)) (words d) (k .output) m w
 
-    pub not-whole : {r : Answer} → b ≡ false → r ≡ refusedWith ragged 0 → GivesBoth (lower sb rb cb ob sc) r ob cb
-    not-whole h a = gives-of (refuse ragged 0) (ap (λ (c : Bool). _>>=_ (demand c ragged 0 lengths) (λ ns. inner)) (sym test ∙ h)) a refl refl
+  abbrev resultOf : CoreRule → Result
+  resultOf c = settledResult (settle (y .sig) (c .body)) (c .head) (c .next)
 
-    module _ (h : b ≡ true) where
-      whole-is : lowerRes sb rb cb ob sc ≡ inner
-      whole-is = ap (λ (c : Bool). _>>=_ (demand c ragged 0 lengths) (λ ns. inner)) (sym test ∙ h)
+  abbrev settles : Res CoreRule → Res Result
+  settles x = _>>=_ x (λ c. ok (resultOf c))
 
-      behind : wholeWords (length cb ∷ length ob ∷ sc ∷ []) ≡ true
-      behind = and-right (eqb (length rb % 4) 0) _ (and-right (eqb (length sb % 4) 0) _ (sym test ∙ h))
+  -- counters with the same words are the same bytes
+  unused : words d ≡ words (k .counters) → d ≡ k .counters
+  unused e = words-injective d (k .counters) (o .countersAfter) (o .countersBefore) (omega (arith, o .counters, y .whole .counters)) (y .whole .counters) e
 
-      whole-counters : length cb % 4 ≡ 0
-      whole-counters = eqb-true (length cb % 4) 0 (and-left (eqb (length cb % 4) 0) _ behind)
+  pub rule-refused : (w .refused ≡ 0 → ⊥) → {r : Answer} → r ≡ refusedWith (w .refused) (w .place) → Answers (lowering k) r m d
+  rule-refused bad {r} a = go (core k y) refl (o .lowers)
+    where
+      go : (x : Res CoreRule) → core k y ≡ x → Core x → Answers (lowering k) r m d
+      go (ok c) e z = absurd (bad (z .fine))
+      go (refuse n p) e z =
+          work-refuses y (ap settles e) (a ∙ ap (λ (i : ℕ). refusedWith i (w .place)) (z .number′) ∙ ap (refusedWith n) (z .place′)) (z .output) (unused (z .counters))
 
-      whole-output : length ob % 4 ≡ 0
-      whole-output = eqb-true (length ob % 4) 0 (and-left (eqb (length ob % 4) 0) _ (and-right (eqb (length cb % 4) 0) _ behind))
+  module _ (fine : w .refused ≡ 0) where
+    known : (c : CoreRule) × (core k y ≡ ok c) × LoweredTo (y .sig) c (words (k .counters)) (words d) (k .output) m w
+    known = go (core k y) refl (o .lowers)
+      where
+        go : (x : Res CoreRule) → core k y ≡ x → Core x → (c : CoreRule) × (core k y ≡ ok c) × LoweredTo (y .sig) c (words (k .counters)) (words d) (k .output) m w
+        go (ok c) e z = (c, e, z)
+        go (refuse n p) e z = absurd (omega (arith, z .number′, z .some))
 
-      module _ {nc ns : ℕ} (ec : nc ≡ length (words cb)) (es : ns ≡ sc / 4) {g : Signature} (given : g ≡ signOf (writtenFront (words sb) (words rb) nc ns)) where
-        abbrev tests : Res Sig
-        tests = writtenFront (words sb) (words rb) (length (words cb)) (sc / 4)
+    abbrev lower-done : Done y (w .needed) (w .replacements) (w .passes) m
+    lower-done =
+        let z = known .2 in
+        record {
+          result = resultOf (known .0);
+          is = ap settles (known .1);
+          wrote = z .wrote;
+          replaced = z .replacements;
+          passed = z .passes;
+          size = o .output;
+        }
 
-        front : g ≡ signOf tests
-        front =
-            given ∙ ap (λ (i : ℕ). signOf (writtenFront (words sb) (words rb) i ns)) ec
-            ∙ ap (λ (i : ℕ). signOf (writtenFront (words sb) (words rb) (length (words cb)) i)) es
+    module _ {count : ℕ} (words-are : count ≡ length (words m)) where
+      words-kept : count ≡ length (words (k .output))
+      words-kept = words-are ∙ length-words-kept _ _ (o .output)
 
-        pub front-stops : (r : Answer) → (g .refused ≡ 0 → ⊥) → r ≡ refusedWith (g .refused) (g .place) → GivesBoth (lower sb rb cb ob sc) r ob cb
-        front-stops r k a = go tests refl
-          where
-            go : (x : Res Sig) → tests ≡ x → GivesBoth (lower sb rb cb ob sc) r ob cb
-            go (ok s) e = absurd (k (ap (λ (y : Signature). y .refused) (front ∙ ap signOf e)))
-            go (refuse n p) e =
-                gives-of (refuse n p) (whole-is ∙ front-refuses (words sb) (words rb) (words cb) (length ob / 4) (sc / 4) n p e)
-                (a ∙ ap (λ (y : Signature). refusedWith (y .refused) (y .place)) (front ∙ ap signOf e)) refl refl
+      -- no room: the counters are as they were
+      pub lower-short : count < w .needed → {r : Answer} → r ≡ refusedWith shortOutput (w .needed) → Answers (lowering k) r m d
+      lower-short l a = too-short lower-done words-are l a (unused (known .2 .uncounted (omega (arith, words-kept))))
 
-        module _ (k : g .refused ≡ 0) where
-          passed : (s : Sig) × (tests ≡ ok s)
-          passed = sign-known tests (front-some (words sb) (words rb) (length (words cb)) (sc / 4)) (sym (ap (λ (y : Signature). y .refused) front) ∙ k)
-
-          way : Passed (words sb) (words rb) (words cb) (length ob / 4) (sc / 4) (passed .0)
-          way = front-passes (words sb) (words rb) (words cb) (length ob / 4) (sc / 4) (passed .0) (passed .1)
-
-          under : WrittenUnder (words sb) (words rb) g (passed .0) (way .rule)
-          under =
-              record {
-                signed = way .signature;
-                globals = ap (λ (y : Signature). y .globals) (front ∙ ap signOf (passed .1));
-                equals = ap (λ (y : Signature). y .equals) (front ∙ ap signOf (passed .1));
-                written = way .reads;
-                short = way .short;
-              }
-
-          pub rule-short : length (words rb) ≤ maxWritten
-          rule-short = way .short
-
-          -- the scratch has a front of 32 words for each word of the rule
-          pub lent-fits : {cut : ℕ} → cut ≤ 128 * length (words rb) → cut ≤ sc
-          lent-fits h = omega (arith, way .enough, way .short)
-
-          pub asks-lower : (tb : List ℕ) {cut : ℕ} → cut ≤ length tb → 128 * length (words rb) ≤ cut → LowerAsks (words sb) (words rb) g (words cb) (length (words (take cut tb)))
-          asks-lower tb {cut} fits h = record {
-            sig = passed .0;
-            rule = way .rule;
-            under = under;
-            counters = way .many;
-            scratch = omega (arith, front-words cut tb fits);
-          }
-
-          module _ (w : Lowered) (m d : List ℕ)
-              (did : (s : Sig) (r : Rule) → WrittenUnder (words sb) (words rb) g s r → LowersTo s (toCoreRule s r (words cb)) (words cb) (words d) ob m w)
-              (same : length d ≡ length cb) (low : (i : ℕ) → getD cb i 0 < 256) (high : (i : ℕ) → getD d i 0 < 256) where
-            abbrev core : Res CoreRule
-            core = toCoreRule (passed .0) (way .rule) (words cb)
-
-            -- counters with the same words are the same bytes
-            unused : words d ≡ words cb → d ≡ cb
-            unused e = words-injective d cb high low (omega (arith, whole-counters)) whole-counters e
-
-            comes-to : (x : Res CoreRule) → core ≡ x
-                → lowerRes sb rb cb ob sc ≡ _>>=_ (_>>=_ x (λ c. ok (settledResult (settle (passed .0) (c .body)) (c .head) (c .next)))) (λ o. outputFits (length ob / 4) o)
-            comes-to x e =
-                whole-is ∙ way .gives
-                ∙ ap (λ (y : Res CoreRule). _>>=_ (_>>=_ y (λ c. ok (settledResult (settle (passed .0) (c .body)) (c .head) (c .next)))) (λ o. outputFits (length ob / 4) o)) e
-
-            pub rule-refused : (r : Answer) → (w .refused ≡ 0 → ⊥) → r ≡ refusedWith (w .refused) (w .place) → GivesBoth (lower sb rb cb ob sc) r m d
-            rule-refused r bad a = go core refl (did (passed .0) (way .rule) under)
-              where
-                go : (x : Res CoreRule) → core ≡ x → LowersTo (passed .0) x (words cb) (words d) ob m w → GivesBoth (lower sb rb cb ob sc) r m d
-                go (ok c) e z = absurd (bad (z .fine))
-                go (refuse n p) e z =
-                    gives-of (refuse n p) (comes-to (refuse n p) e) (a ∙ ap (λ (i : ℕ). refusedWith i (w .place)) (z .number′) ∙ ap (refusedWith n) (z .place′)) (z .output) (unused (z .counters))
-
-            module _ (fine : w .refused ≡ 0) where
-              known : (c : CoreRule) × (core ≡ ok c) × LoweredTo (passed .0) c (words cb) (words d) ob m w
-              known = go core refl (did (passed .0) (way .rule) under)
-                where
-                  go : (x : Res CoreRule) → core ≡ x → LowersTo (passed .0) x (words cb) (words d) ob m w → (c : CoreRule) × (core ≡ ok c) × LoweredTo (passed .0) c (words cb) (words d) ob m w
-                  go (ok c) e z = (c, e, z)
-                  go (refuse n p) e z = absurd (omega (arith, z .number′, z .some))
-
-              abbrev result : Result
-              result = settledResult (settle (passed .0) (known .0 .body)) (known .0 .head) (known .0 .next)
-
-              result-is : lowerRes sb rb cb ob sc ≡ outputFits (length ob / 4) result
-              result-is = comes-to (ok (known .0)) (known .1)
-
-              pub too-short : {r : Answer} → length (words ob) < w .needed → r ≡ refusedWith shortOutput (w .needed) → GivesBoth (lower sb rb cb ob sc) r m d
-              too-short l a =
-                  let z = ends-short result (w .needed) ob m (known .2 .wrote) l in
-                  gives-of (refuse shortOutput (w .needed)) (result-is ∙ z .0) a (z .1) (unused (known .2 .uncounted l))
-
-              pub all-written : {r : Answer} → w .needed ≤ length (words ob) → length m ≡ length ob → ((i : ℕ) → getD ob i 0 < 256) → ((i : ℕ) → getD m i 0 < 256)
-                  → r ≡ record { number = 0; place = 0; words = w .needed; replacements = w .replacements; passes = w .passes } → GivesBoth (lower sb rb cb ob sc) r m d
-              all-written l size below above a =
-                  let z = ends-written result (w .needed) ob m (known .2 .wrote) l whole-output size below above in
-                  let counts : d ≡ bytesOf (known .0 .next) = sym (bytes-words d high (omega (arith, whole-counters))) ∙ ap bytesOf (known .2 .counted l) in
-                  gives-of (ok result) (result-is ∙ z .0)
-                  (a ∙ (λ i. record { number = 0; place = 0; words = known .2 .wrote .needed i; replacements = known .2 .replacements i; passes = known .2 .passes i })) (z .1) counts
+      -- room for all of it: the counters are used
+      pub lower-written : w .needed ≤ count
+          → Answers (lowering k) (record { number = 0; place = 0; words = w .needed; replacements = w .replacements; passes = w .passes }) m d
+      lower-written l =
+          let counts : d ≡ bytesOf (known .0 .next) =
+          sym (bytes-words d (o .countersAfter) (omega (arith, o .counters, y .whole .counters))) ∙ ap bytesOf (known .2 .counted (omega (arith, words-kept))) in
+          all-written lower-done words-are l (o .outputBefore) (o .outputAfter) counts

@@ -1,49 +1,72 @@
--- `tulgarent::all_whole` meets its contract: it ends at the first slice that is not whole words. Assumes nothing.
-use denote.Ref.{now}
+-- The slices are tested in turn: behind each that is whole words the conjunction is what is left of it, and the first that is not makes it false. Assumes
+-- nothing.
+use Prim.Native.Nat.{_%_}
+use mathlib.Core.Path.{_≡_, sym, _∙_}
+use mathlib.Core.Bool.{Bool, _&&_}
 use lib.ListN.{length}
-use Rattle.tulgarent.proofs.Slices.{first-ragged, second-ragged, third-ragged, three-whole}
+use lib.Dec.{eqb}
+use denote.Ref.{now}
+use Rattle.tulgarent.specs.Answers.{wholeThree}
+use Rattle.tulgarent.proofs.Slices.{slice-ragged, slice-whole}
 use borrow.Author.Needs.{needs}
 use Rattle.tulgarent.proofs.all_whole.Statement.{statement}
 use Rattle.tulgarent.proofs.all_whole.Tie as tie
-use Rattle.tulgarent.proofs.all_whole.Reads as reads
-use Rattle.tulgarent.proofs.all_whole.Lts as lts
-use Rattle.tulgarent.proofs.whole.Reads as whole-reads
 
--- src/lib.rt:61:9
+-- ---- what is left of the conjunction, place by place
+
+abbrev start : tie.After-whole → tie.Start
+start c = c .before .before .before .before
+
+module _ (c : tie.After-whole) where
+  abbrev second : Bool
+  second = eqb (length (now (start c .args .b)) % 4) 0
+
+  abbrev third : Bool
+  third = eqb (length (now (start c .args .c)) % 4) 0
+
+  abbrev rest : Bool
+  rest = start c .args .rest
+
+  abbrev all : Bool
+  all = let a = start c .args in wholeThree (length (now (a .a))) (length (now (a .b))) (length (now (a .c))) rest
+
+abbrev back2 : tie.Else2 → tie.After-whole
+back2 c = c .before .before .before
+
+abbrev back3 : tie.Else3 → tie.After-whole
+back3 c = back2 (c .before .before)
+
+at-first : (c : tie.Else1) → let t = c .before in all t ≡ (second t && (third t && rest t))
+at-first c = slice-whole _ (c .before .whole .ensures) (c .if1 .left)
+
+at-second : (c : tie.Else2) → let t = back2 c in all t ≡ (third t && rest t)
+at-second c = at-first (c .before .before) ∙ slice-whole _ (c .before .whole2 .ensures) (c .if2 .left)
+
+at-third : (c : tie.Else3) → let t = back3 c in all t ≡ rest t
+at-third c = at-second (c .before .before) ∙ slice-whole _ (c .before .whole3 .ensures) (c .if3 .left)
+
+-- ---- each test
+
 whole-requires : tie.Need-whole-requires
 whole-requires c κs = search needs
 
--- src/lib.rt:62:9
 returns : tie.Need-returns
-returns c =
-    let a = c .before .before .before .before .before .args in
-    first-ragged (length (now (a .a))) (length (now (a .b))) (length (now (a .c))) (a .rest) (c .before .whole .ensures) (c .if1 .taken)
+returns c = sym (slice-ragged _ (c .before .whole .ensures) (c .if1 .taken))
 
--- src/lib.rt:64:9
 whole-requires-2 : tie.Need-whole-requires-2
 whole-requires-2 c κs = search needs
 
--- src/lib.rt:65:9
 returns-2 : tie.Need-returns-2
-returns-2 c =
-    let a = c .before .before .before .before .before .before .before .args in
-    second-ragged (length (now (a .a))) (length (now (a .b))) (length (now (a .c))) (a .rest) (c .before .before .before .whole .ensures) (c .before .before .if1 .left) (c .before .whole2 .ensures) (c .if2 .taken)
+returns-2 c = sym (at-first (c .before .before) ∙ slice-ragged _ (c .before .whole2 .ensures) (c .if2 .taken))
 
--- src/lib.rt:67:9
 whole-requires-3 : tie.Need-whole-requires-3
 whole-requires-3 c κs = search needs
 
--- src/lib.rt:68:9
 returns-3 : tie.Need-returns-3
-returns-3 c =
-    let a = c .before .before .before .before .before .before .before .before .before .args in
-    third-ragged (length (now (a .a))) (length (now (a .b))) (length (now (a .c))) (a .rest) (c .before .before .before .before .before .whole .ensures) (c .before .before .before .before .if1 .left) (c .before .before .before .whole2 .ensures) (c .before .before .if2 .left) (c .before .whole3 .ensures) (c .if3 .taken)
+returns-3 c = sym (at-second (c .before .before) ∙ slice-ragged _ (c .before .whole3 .ensures) (c .if3 .taken))
 
--- src/lib.rt:58:1
 returns-4 : tie.Need-returns-4
-returns-4 c =
-    let a = c .before .before .before .before .before .before .before .before .before .args in
-    three-whole (length (now (a .a))) (length (now (a .b))) (length (now (a .c))) (a .rest) (c .before .before .before .before .before .whole .ensures) (c .before .before .before .before .if1 .left) (c .before .before .before .whole2 .ensures) (c .before .before .if2 .left) (c .before .whole3 .ensures) (c .if3 .left)
+returns-4 c = sym (at-third c)
 
 pub all-whole-spec : {M : Type 1} → statement M
 all-whole-spec =

@@ -1,70 +1,68 @@
+-- The tests are the definition's, in its order: where one refuses, that refusal is given back, and behind all of them the signature. Assumes nothing.
 use borrow.Author.Tests.{not-true, not-false}
 use denote.Ref.{now}
 use Rattle.octets.specs.Words.{words}
-use Rattle.tulgarent.proofs.Fronts.{stops-at-signature, stops-at-scratch, stops-at-length, stops-at-record, goes-through}
+use Rattle.rules.specs.Flat.{FlatRule}
+use Rattle.tulgarent.proofs.Fronts.{Front, flat, Reached, from-scratch, from-length, from-record, bad-signature, good-signature}
+use Rattle.tulgarent.proofs.Fronts.{little-scratch, enough-scratch, wrong-length, right-length, bad-record, good-record}
 use borrow.Author.Needs.{needs}
 use Rattle.tulgarent.proofs.flat_front.Statement.{statement}
 use Rattle.tulgarent.proofs.flat_front.Tie as tie
-use Rattle.tulgarent.proofs.flat_front.Reads as reads
-use Rattle.tulgarent.proofs.flat_front.Lts as lts
-use Rattle.records.proofs.flat.flat.Reads as flat-reads
-use Rattle.records.proofs.length_fits.Reads as length-fits-reads
-use Rattle.records.proofs.signature.read.Reads as read-reads
-use Rattle.tulgarent.proofs.turned_back.Reads as turned-back-reads
 
--- src/lib.rt:75:9
+-- ---- what is left of the tests, place by place
+
+-- the tests, by what they are given
+abbrev tests : tie.After-read → Front FlatRule
+tests c = let a = c .before .before .before .args in flat (words (now (a .signature))) (words (now (a .rule))) (a .scratch)
+
+abbrev else-read : tie.Else1 → tie.After-read
+else-read c = c .before .before
+
+at-signature : (c : tie.Else1) → let t = else-read c in Reached (tests t) (t .read .result) (from-scratch (tests t))
+at-signature c = good-signature (tests (else-read c)) (else-read c .read .ensures) (c .if1 .left)
+
+at-scratch : (c : tie.Else2) → let t = else-read (c .before) in Reached (tests t) (t .read .result) (from-length (tests t))
+at-scratch c = enough-scratch (at-signature (c .before)) (c .if2 .left)
+
+at-length : (c : tie.Else3) → let t = else-read (c .before .before .before) in Reached (tests t) (t .read .result) (from-record (tests t))
+at-length c = right-length (at-scratch (c .before .before)) (c .before .length-fits .ensures) (not-false _ (c .if3 .left))
+
+-- ---- each test
+
 read-requires : tie.Need-read-requires
 read-requires c κs = search needs
 
--- src/lib.rt:77:9
 returns : tie.Need-returns
-returns c =
-    let a = c .before .before .before .before .before .args in
-    stops-at-signature (words (now (a .signature))) (words (now (a .rule))) (a .scratch) (c .before .before .read .ensures) (c .if1 .taken)
+returns c = let t = c .before .before in bad-signature (tests t) (t .read .ensures) (c .if1 .taken)
 
--- src/lib.rt:80:9
 turned-back-requires : tie.Need-turned-back-requires
 turned-back-requires c κs = search needs
 
--- src/lib.rt:80:9
 returns-2 : tie.Need-returns-2
-returns-2 c =
-    let a = c .before .before .before .before .before .before .before .args in
-    stops-at-scratch (words (now (a .signature))) (words (now (a .rule))) (a .scratch) (c .before .before .before .before .read .ensures) (c .before .before .if1 .left) (c .turned-back .ensures) (c .before .if2 .taken)
+returns-2 c = let t = c .before in little-scratch (at-signature (t .before)) (t .if2 .taken) (c .turned-back .ensures)
 
--- src/lib.rt:82:9
 length-fits-requires : tie.Need-length-fits-requires
 length-fits-requires c κs = search needs
 
--- src/lib.rt:83:9
 turned-back-requires-2 : tie.Need-turned-back-requires-2
 turned-back-requires-2 c κs = search needs
 
--- src/lib.rt:83:9
 returns-3 : tie.Need-returns-3
 returns-3 c =
-    let a = c .before .before .before .before .before .before .before .before .before .args in
-    stops-at-length (words (now (a .signature))) (words (now (a .rule))) (a .scratch) (c .before .before .before .before .before .before .read .ensures) (c .before .before .before .before .if1 .left) (c .before .before .before .if2 .left) (c .before .before .length-fits .ensures) (c .turned-back2 .ensures) (not-true _ (c .before .if3 .taken))
+    let t = c .before in
+    wrong-length (at-scratch (t .before .before)) (t .before .length-fits .ensures) (not-true _ (t .if3 .taken)) (c .turned-back2 .ensures)
 
--- src/lib.rt:85:9
 flat-requires : tie.Need-flat-requires
 flat-requires c κs = search needs
 
--- src/lib.rt:87:9
 turned-back-requires-3 : tie.Need-turned-back-requires-3
 turned-back-requires-3 c κs = search needs
 
--- src/lib.rt:87:9
 returns-4 : tie.Need-returns-4
-returns-4 c =
-    let a = c .before .before .before .before .before .before .before .before .before .before .before .before .args in
-    stops-at-record (words (now (a .signature))) (words (now (a .rule))) (a .scratch) (c .before .before .before .before .before .before .before .before .before .read .ensures) (c .before .before .before .before .before .before .before .if1 .left) (c .before .before .before .before .before .before .if2 .left) (c .before .before .before .before .before .length-fits .ensures) (not-false _ (c .before .before .before .before .if3 .left)) (c .before .before .before .flat .ensures) (c .turned-back3 .ensures) (c .before .if4 .taken)
+returns-4 c = let w = c .before .before .before in bad-record (at-length (w .before)) (w .flat .ensures) (c .before .if4 .taken) (c .turned-back3 .ensures)
 
--- src/lib.rt:72:1
 returns-5 : tie.Need-returns-5
-returns-5 c =
-    let a = c .before .before .before .before .before .before .before .before .before .before .before .args in
-    goes-through (words (now (a .signature))) (words (now (a .rule))) (a .scratch) (c .before .before .before .before .before .before .before .before .read .ensures) (c .before .before .before .before .before .before .if1 .left) (c .before .before .before .before .before .if2 .left) (c .before .before .before .before .length-fits .ensures) (not-false _ (c .before .before .before .if3 .left)) (c .before .before .flat .ensures) (c .if4 .left)
+returns-5 c = let w = c .before .before in good-record (at-length (w .before)) (w .flat .ensures) (c .if4 .left)
 
 pub flat-front-spec : {M : Type 1} → statement M
 flat-front-spec =

@@ -1,99 +1,101 @@
--- `tulgarent::tulgarent_free_vars` meets its contract: each test is the definition's, in its order. Assumes nothing.
-use Prim.Native.Nat.{_≤_, _<_}
-use mathlib.Core.Path.{_≡_, refl}
-use native.Mathlib.Omega.{arith}
-use lib.ListN.{length}
+-- Each test is the definition's, in its order; behind them the free variables are found, and written if there is room. Assumes nothing.
+use mathlib.Core.Path.{refl}
+use mathlib.Core.List.{[]}
 use borrow.Author.Tests.{not-true, not-false}
 use denote.Ref.{now}
-use Rattle.octets.specs.Words.{words}
-use Rattle.octets.proofs.Words.{length-words}
-use Rattle.tulgarent.proofs.FreeVars.{not-whole, front-stops, good-under, too-short, all-written}
+use Rattle.tulgarent.proofs.Calls.{Given, slices-ragged, Whole, Ready, front-refuses, ready, Done, too-short, all-written}
+use Rattle.tulgarent.proofs.FreeVars.{freeing, free-gives, free-whole, free-asks, free-done}
 use borrow.Author.Needs.{needs}
 use Rattle.tulgarent.proofs.tulgarent_free_vars.Statement.{statement}
 use Rattle.tulgarent.proofs.tulgarent_free_vars.Tie as tie
-use Rattle.tulgarent.proofs.tulgarent_free_vars.Reads as reads
-use Rattle.tulgarent.proofs.tulgarent_free_vars.Lts as lts
-use Rattle.free_vars.proofs.get_free_vars.Reads as get-free-vars-reads
-use Rattle.octets.proofs.count.Reads as count-reads
-use Rattle.tulgarent.proofs.all_whole.Reads as all-whole-reads
-use Rattle.tulgarent.proofs.flat_front.Reads as flat-front-reads
-use Rattle.tulgarent.proofs.refused.Reads as refused-reads
 
--- src/lib.rt:113:9
+-- the bytes that it is lent
+abbrev given : tie.After-all-whole → Given
+given c =
+    let a = c .before .before .before .before .before .args in
+    record { signature = now (a .signature); rule = now (a .rule); counters = []; output = now (a .output); scratch = [] }
+
+-- ---- the slices
+
 all-whole-requires : tie.Need-all-whole-requires
 all-whole-requires c κs = search needs
 
--- src/lib.rt:114:9
 refused-requires : tie.Need-refused-requires
 refused-requires c κs = search needs
 
--- src/lib.rt:114:9
 same-length : tie.Need-same-length
 same-length c = search needs
 
--- src/lib.rt:114:9
 returns : tie.Need-returns
 returns c =
-    let a = c .before .before .before .before .before .before .before .args in
-    not-whole (now (a .signature)) (now (a .rule)) (now (a .output)) (c .before .before .all-whole .ensures) (not-true _ (c .before .if1 .taken)) (c .refused .ensures)
+    let t = c .before in
+    free-gives (given (t .before)) (slices-ragged (freeing (given (t .before))) (t .before .all-whole .ensures) (not-true _ (t .if1 .taken)) (c .refused .ensures))
 
--- src/lib.rt:116:9
+-- ---- the tests in front
+
+at-whole : (c : tie.Else1) → Whole (freeing (given (c .before)))
+at-whole c = free-whole (given (c .before)) (c .before .all-whole .ensures) (not-false _ (c .if1 .left))
+
 flat-front-requires : tie.Need-flat-front-requires
 flat-front-requires c κs = search needs
 
--- src/lib.rt:118:9
 refused-requires-2 : tie.Need-refused-requires-2
 refused-requires-2 c κs = search needs
 
--- src/lib.rt:118:9
 same-length-2 : tie.Need-same-length-2
 same-length-2 c = search needs
 
--- src/lib.rt:118:9
 returns-2 : tie.Need-returns-2
 returns-2 c =
-    let a = c .before .before .before .before .before .before .before .before .before .before .args in
-    front-stops (now (a .signature)) (now (a .rule)) (now (a .output)) (c .before .before .before .before .before .all-whole .ensures) (not-false _ (c .before .before .before .before .if1 .left)) (c .before .before .before .flat-front .ensures) _ (c .before .if2 .taken) (c .refused2 .ensures)
+    let f = c .before .before .before in
+    free-gives (given (f .before .before)) (front-refuses (at-whole (f .before)) (f .flat-front .ensures) (c .before .if2 .taken) (c .refused2 .ensures))
 
--- src/lib.rt:120:9
+-- ---- the free variables
+
+abbrev else-front : tie.Else2 → tie.After-flat-front
+else-front c = c .before .before
+
+abbrev else-given : tie.Else2 → Given
+else-given c = given (else-front c .before .before)
+
+at-front : (c : tie.Else2) → Ready (freeing (else-given c)) (else-front c .flat-front .result)
+at-front c = ready (at-whole (else-front c .before)) (else-front c .flat-front .ensures) (c .if2 .left)
+
 get-free-vars-requires : tie.Need-get-free-vars-requires
-get-free-vars-requires c κs =
-    let a = c .before .before .before .before .before .before .before .before .before .before .args in
-    good-under (now (a .signature)) (now (a .rule)) (now (a .output)) (c .before .before .before .before .before .all-whole .ensures) (not-false _ (c .before .before .before .before .if1 .left)) (c .before .before .before .flat-front .ensures) (c .before .if2 .left)
+get-free-vars-requires c κs = free-asks (else-given (c .before)) (at-front (c .before))
 
--- src/lib.rt:121:8
+at-vars : (c : tie.After-get-free-vars) → Done (at-front (c .before .before)) (c .get-free-vars .result) 0 0 (c .get-free-vars .last .1 .1 .0)
+at-vars c = let v = c .get-free-vars in free-done (else-given (c .before .before)) (at-front (c .before .before)) (v .ensures) (v .kept .1 .1 .0)
+
+-- ---- room for them
+
+abbrev vars : tie.After-count → tie.After-get-free-vars
+vars c = c .before .before .before .before
+
 count-requires : tie.Need-count-requires
 count-requires c κs = search needs
 
--- src/lib.rt:122:9
 refused-requires-3 : tie.Need-refused-requires-3
 refused-requires-3 c κs = search needs
 
--- src/lib.rt:122:9
 same-length-3 : tie.Need-same-length-3
 same-length-3 c = search needs
 
--- src/lib.rt:122:9
 returns-3 : tie.Need-returns-3
 returns-3 c =
-    let a = c .before .before .before .before .before .before .before .before .before .before .before .before .before .before .before .before .before .args in
-    let m = c .before .before .before .before .before .before .get-free-vars .last .1 .1 .0 in
-    let k : length m ≡ length (now (a .output)) = c .before .before .before .before .before .before .get-free-vars .kept .1 .1 .0 in
-    let n : length (words (now (a .output))) < c .before .before .before .before .before .before .get-free-vars .result = omega (arith, c .before .before .count .ensures, c .before .if3 .taken, length-words m, length-words (now (a .output))) in
-    too-short (now (a .signature)) (now (a .rule)) (now (a .output)) (c .before .before .before .before .before .before .before .before .before .before .before .before .all-whole .ensures) (not-false _ (c .before .before .before .before .before .before .before .before .before .before .before .if1 .left)) (c .before .before .before .before .before .before .before .before .before .before .flat-front .ensures) (c .before .before .before .before .before .before .before .before .if2 .left) (c .before .before .before .before .before .before .get-free-vars .result) m (c .before .before .before .before .before .before .get-free-vars .ensures) n (c .refused3 .ensures)
+    let n = c .before .before in
+    free-gives (else-given (vars n .before .before)) (too-short (at-vars (vars n)) (n .count .ensures) (c .before .if3 .taken) (c .refused3 .ensures) refl)
 
--- src/lib.rt:109:1
 same-length-4 : tie.Need-same-length-4
 same-length-4 c = search needs
 
--- src/lib.rt:109:1
 returns-4 : tie.Need-returns-4
 returns-4 c =
-    let a = c .before .before .before .before .before .before .before .before .before .before .before .before .before .before .before .before .args in
-    let m = c .before .before .before .before .before .get-free-vars .last .1 .1 .0 in
-    let k : length m ≡ length (now (a .output)) = c .before .before .before .before .before .get-free-vars .kept .1 .1 .0 in
-    let n : c .before .before .before .before .before .get-free-vars .result ≤ length (words (now (a .output))) = omega (arith, c .before .count .ensures, c .if3 .left, length-words m, length-words (now (a .output))) in
-    all-written (now (a .signature)) (now (a .rule)) (now (a .output)) (c .before .before .before .before .before .before .before .before .before .before .before .all-whole .ensures) (not-false _ (c .before .before .before .before .before .before .before .before .before .before .if1 .left)) (c .before .before .before .before .before .before .before .before .before .flat-front .ensures) (c .before .before .before .before .before .before .before .if2 .left) (c .before .before .before .before .before .get-free-vars .result) m (c .before .before .before .before .before .get-free-vars .ensures) n k (λ i. c .before .before .before .before .before .before .before .before .before .before .before .before .before .slice-known .given i .fits) (λ i. c .before .before .before .slice-known2 .given i .fits) refl
+    let n = c .before in
+    let e = vars n .before .before in
+    free-gives (else-given e)
+    (all-written (at-vars (vars n)) (n .count .ensures) (c .if3 .left) (λ i. else-front e .before .before .before .before .slice-known .given i .fits)
+    (λ i. n .before .before .slice-known2 .given i .fits) refl)
 
 pub tulgarent-free-vars-spec : {M : Type 1} → statement M
 tulgarent-free-vars-spec =

@@ -1,85 +1,83 @@
--- `tulgarent::lower::written_front` meets its contract: each test is the definition's, in its order. Assumes nothing.
+-- The tests are the definition's, in its order: where one refuses, that refusal is given back, and behind all of them the signature. Assumes nothing.
 use borrow.Author.Tests.{not-true, not-false}
 use denote.Ref.{now}
 use Rattle.octets.specs.Words.{words}
-use Rattle.tulgarent.proofs.WrittenFronts.{stops-at-signature, stops-at-counters, stops-at-scratch, stops-at-length, stops-at-record, goes-through}
+use Rattle.rules.specs.Written.{Rule}
+use Rattle.tulgarent.proofs.Fronts.{Front, written, Reached, from-counters, from-scratch, from-length, from-record, bad-signature, good-signature}
+use Rattle.tulgarent.proofs.Fronts.{counters-short, counters-there, little-scratch, enough-scratch, wrong-length, right-length, bad-record, good-record}
 use borrow.Author.Needs.{needs}
 use Rattle.tulgarent.proofs.lower.written_front.Statement.{statement}
 use Rattle.tulgarent.proofs.lower.written_front.Tie as tie
-use Rattle.tulgarent.proofs.lower.written_front.Reads as reads
-use Rattle.tulgarent.proofs.lower.written_front.Lts as lts
-use Rattle.records.proofs.length_fits.Reads as length-fits-reads
-use Rattle.records.proofs.signature.read.Reads as read-reads
-use Rattle.records.proofs.written.written.Reads as written-reads
-use Rattle.tulgarent.proofs.turned_back.Reads as turned-back-reads
 
--- src/lower.rt:22:9
+-- ---- what is left of the tests, place by place
+
+-- the tests, by what they are given
+abbrev tests : tie.After-read → Front Rule
+tests c = let a = c .before .before .before .args in written (words (now (a .signature))) (words (now (a .rule))) (a .counters) (a .scratch)
+
+abbrev else-read : tie.Else1 → tie.After-read
+else-read c = c .before .before
+
+abbrev else2-read : tie.Else2 → tie.After-read
+else2-read c = else-read (c .before .before)
+
+at-signature : (c : tie.Else1) → let t = else-read c in Reached (tests t) (t .read .result) (from-counters (tests t))
+at-signature c = let t = else-read c in good-signature (tests t) (t .read .ensures) (c .if1 .left)
+
+at-counters : (c : tie.Else2) → let t = else2-read c in Reached (tests t) (t .read .result) (from-scratch (tests t))
+at-counters c = counters-there (at-signature (c .before .before)) (c .if2 .left)
+
+at-scratch : (c : tie.Else3) → let t = else2-read (c .before) in Reached (tests t) (t .read .result) (from-length (tests t))
+at-scratch c = enough-scratch (at-counters (c .before)) (c .if3 .left)
+
+at-length : (c : tie.Else4) → let t = else2-read (c .before .before .before) in Reached (tests t) (t .read .result) (from-record (tests t))
+at-length c = right-length (at-scratch (c .before .before)) (c .before .length-fits .ensures) (not-false _ (c .if4 .left))
+
+-- ---- each test
+
 read-requires : tie.Need-read-requires
 read-requires c κs = search needs
 
--- src/lower.rt:24:9
 returns : tie.Need-returns
-returns c =
-    let a = c .before .before .before .before .before .args in
-    stops-at-signature (words (now (a .signature))) (words (now (a .rule))) (a .counters) (a .scratch) (c .before .before .read .ensures) (c .if1 .taken)
+returns c = let t = c .before .before in bad-signature (tests t) (t .read .ensures) (c .if1 .taken)
 
--- src/lower.rt:26:19
 cast-if2 : tie.Need-cast-if2
 cast-if2 c = search needs
 
--- src/lower.rt:27:9
 turned-back-requires : tie.Need-turned-back-requires
 turned-back-requires c κs = search needs
 
--- src/lower.rt:27:9
 returns-2 : tie.Need-returns-2
-returns-2 c =
-    let a = c .before .before .before .before .before .before .before .before .args in
-    stops-at-counters (words (now (a .signature))) (words (now (a .rule))) (a .counters) (a .scratch) (c .before .before .before .before .before .read .ensures) (c .before .before .before .if1 .left) (c .turned-back .ensures) (c .before .if2 .taken)
+returns-2 c = let t = c .before in counters-short (at-signature (t .before .before)) (t .if2 .taken) (c .turned-back .ensures)
 
--- src/lower.rt:30:9
 turned-back-requires-2 : tie.Need-turned-back-requires-2
 turned-back-requires-2 c κs = search needs
 
--- src/lower.rt:30:9
 returns-3 : tie.Need-returns-3
-returns-3 c =
-    let a = c .before .before .before .before .before .before .before .before .before .args in
-    stops-at-scratch (words (now (a .signature))) (words (now (a .rule))) (a .counters) (a .scratch) (c .before .before .before .before .before .before .read .ensures) (c .before .before .before .before .if1 .left) (c .before .before .if2 .left) (c .turned-back2 .ensures) (c .before .if3 .taken)
+returns-3 c = let t = c .before in little-scratch (at-counters (t .before)) (t .if3 .taken) (c .turned-back2 .ensures)
 
--- src/lower.rt:32:9
 length-fits-requires : tie.Need-length-fits-requires
 length-fits-requires c κs = search needs
 
--- src/lower.rt:33:9
 turned-back-requires-3 : tie.Need-turned-back-requires-3
 turned-back-requires-3 c κs = search needs
 
--- src/lower.rt:33:9
 returns-4 : tie.Need-returns-4
 returns-4 c =
-    let a = c .before .before .before .before .before .before .before .before .before .before .before .args in
-    stops-at-length (words (now (a .signature))) (words (now (a .rule))) (a .counters) (a .scratch) (c .before .before .before .before .before .before .before .before .read .ensures) (c .before .before .before .before .before .before .if1 .left) (c .before .before .before .before .if2 .left) (c .before .before .before .if3 .left) (c .before .before .length-fits .ensures) (c .turned-back3 .ensures) (not-true _ (c .before .if4 .taken))
+    let t = c .before in
+    wrong-length (at-scratch (t .before .before)) (t .before .length-fits .ensures) (not-true _ (t .if4 .taken)) (c .turned-back3 .ensures)
 
--- src/lower.rt:35:9
 written-requires : tie.Need-written-requires
 written-requires c κs = search needs
 
--- src/lower.rt:37:9
 turned-back-requires-4 : tie.Need-turned-back-requires-4
 turned-back-requires-4 c κs = search needs
 
--- src/lower.rt:37:9
 returns-5 : tie.Need-returns-5
-returns-5 c =
-    let a = c .before .before .before .before .before .before .before .before .before .before .before .before .before .before .args in
-    stops-at-record (words (now (a .signature))) (words (now (a .rule))) (a .counters) (a .scratch) (c .before .before .before .before .before .before .before .before .before .before .before .read .ensures) (c .before .before .before .before .before .before .before .before .before .if1 .left) (c .before .before .before .before .before .before .before .if2 .left) (c .before .before .before .before .before .before .if3 .left) (c .before .before .before .before .before .length-fits .ensures) (not-false _ (c .before .before .before .before .if4 .left)) (c .before .before .before .written .ensures) (c .turned-back4 .ensures) (c .before .if5 .taken)
+returns-5 c = let w = c .before .before .before in bad-record (at-length (w .before)) (w .written .ensures) (c .before .if5 .taken) (c .turned-back4 .ensures)
 
--- src/lower.rt:19:1
 returns-6 : tie.Need-returns-6
-returns-6 c =
-    let a = c .before .before .before .before .before .before .before .before .before .before .before .before .before .args in
-    goes-through (words (now (a .signature))) (words (now (a .rule))) (a .counters) (a .scratch) (c .before .before .before .before .before .before .before .before .before .before .read .ensures) (c .before .before .before .before .before .before .before .before .if1 .left) (c .before .before .before .before .before .before .if2 .left) (c .before .before .before .before .before .if3 .left) (c .before .before .before .before .length-fits .ensures) (not-false _ (c .before .before .before .if4 .left)) (c .before .before .written .ensures) (c .if5 .left)
+returns-6 c = let w = c .before .before in good-record (at-length (w .before)) (w .written .ensures) (c .if5 .left)
 
 pub written-front-spec : {M : Type 1} → statement M
 written-front-spec =

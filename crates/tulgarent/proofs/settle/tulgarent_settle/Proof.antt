@@ -1,150 +1,179 @@
--- `tulgarent::settle::tulgarent_settle` meets its contract: each test is the definition's, in its order. Assumes nothing.
-use Prim.Native.Nat.{_*_, _≤_, _<_}
+-- Each test is the definition's, in its order; behind them a front of the scratch is lent, the rule is settled there, and written if there is room. Assumes
+-- nothing.
+use Prim.Native.Nat.{_*_}
 use mathlib.Core.Path.{_≡_, refl, sym}
 use native.Mathlib.Omega.{arith}
-use lib.ListN.{length}
-use lib.Seq.{length-take-le}
+use mathlib.Core.List.{[], _++_}
+use lib.ListN.{drop}
 use borrow.Author.Tests.{not-true, not-false}
 use denote.Ref.{now}
-use Rattle.octets.specs.Words.{words}
-use Rattle.octets.proofs.Words.{length-words}
-use Rattle.tulgarent.proofs.Lent.{beyond-front}
-use Rattle.tulgarent.proofs.Settled.{not-whole, front-stops, some-flat, rule-short, lent-fits, enough-scratch, too-short, all-written}
+use Rattle.rules.specs.Calls.{wholeWords}
+use Rattle.records.specs.Signature.{signOf}
+use Rattle.tulgarent.specs.Answers.{scratchFlat, Beyond}
+use Rattle.tulgarent.proofs.Fronts.{front}
+use Rattle.tulgarent.proofs.Lent.{Lent, lent-size, beyond-lent}
+use Rattle.tulgarent.proofs.Calls.{Given, slices-ragged, Whole, Ready, front-refuses, ready, Done, too-short, all-written}
+use Rattle.tulgarent.proofs.Settled.{settling, settle-gives, settle-tested, settle-whole, settle-front, settle-lent, settle-asks, settle-done}
 use borrow.Author.Needs.{needs}
 use Rattle.tulgarent.proofs.settle.tulgarent_settle.Statement.{statement}
 use Rattle.tulgarent.proofs.settle.tulgarent_settle.Tie as tie
-use Rattle.tulgarent.proofs.settle.tulgarent_settle.Reads as reads
-use Rattle.tulgarent.proofs.settle.tulgarent_settle.Lts as lts
-use Rattle.octets.proofs.count.Reads as count-reads
-use Rattle.tulgarent.proofs.all_whole.Reads as all-whole-reads
-use Rattle.tulgarent.proofs.flat_front.Reads as flat-front-reads
-use Rattle.tulgarent.proofs.refused.Reads as refused-reads
-use Rattle.tulgarent.proofs.settle.settle_good.Reads as settle-good-reads
-use Rattle.tulgarent.proofs.whole.Reads as whole-reads
 
--- src/settle.rt:80:9
+-- the bytes that it is lent
+abbrev known : tie.After-all-whole → tie.After-slice-known
+known c = let w = c .before .before in w .before .before .before
+
+abbrev start : tie.After-all-whole → tie.Start
+start c = known c .before .before .before
+
+abbrev given : tie.After-all-whole → Given
+given c =
+    let a = start c .args in
+    record { signature = now (a .signature); rule = now (a .rule); counters = []; output = now (a .output); scratch = now (a .scratch) }
+
+-- ---- the slices
+
+at-all : (c : tie.After-all-whole) → c .all-whole .result ≡ wholeWords (settling (given c) .lengths)
+at-all c = settle-tested (given c) (c .before .before .whole .ensures) (c .all-whole .ensures)
+
 whole-requires : tie.Need-whole-requires
 whole-requires c κs = search needs
 
--- src/settle.rt:81:9
 all-whole-requires : tie.Need-all-whole-requires
 all-whole-requires c κs = search needs
 
--- src/settle.rt:82:9
 refused-requires : tie.Need-refused-requires
 refused-requires c κs = search needs
 
--- src/settle.rt:82:9
 same-length : tie.Need-same-length
 same-length c = search needs
 
--- src/settle.rt:82:9
 same-length-2 : tie.Need-same-length-2
 same-length-2 c = search needs
 
--- src/settle.rt:82:9
 returns : tie.Need-returns
 returns c =
-    let a = c .before .before .before .before .before .before .before .before .before .before .args in
-    (not-whole (now (a .signature)) (now (a .rule)) (now (a .output)) (now (a .scratch)) (c .before .before .before .before .whole .ensures) (c .before .before .all-whole .ensures) (not-true _ (c .before .if1 .taken)) (c .refused .ensures), refl)
+    let w = c .before .before in
+    (settle-gives (given w) (slices-ragged (settling (given w)) (at-all w) (not-true _ (c .before .if1 .taken)) (c .refused .ensures)), refl)
 
--- src/settle.rt:84:44
+-- ---- the tests in front
+
+at-whole : (c : tie.Else1) → Whole (settling (given (c .before)))
+at-whole c = settle-whole (given (c .before)) (at-all (c .before)) (not-false _ (c .if1 .left))
+
+abbrev front-else : tie.After-flat-front → tie.Else1
+front-else c = c .before .before .before
+
+abbrev front-given : tie.After-flat-front → Given
+front-given c = given (front-else c .before)
+
+at-tests : (c : tie.After-flat-front) → c .flat-front .result ≡ signOf (front (settling (front-given c) .tests))
+at-tests c = settle-front (front-given c) (c .before .count .ensures) (c .flat-front .ensures)
+
 count-requires : tie.Need-count-requires
 count-requires c κs = search needs
 
--- src/settle.rt:84:9
 flat-front-requires : tie.Need-flat-front-requires
 flat-front-requires c κs = search needs
 
--- src/settle.rt:86:9
 refused-requires-2 : tie.Need-refused-requires-2
 refused-requires-2 c κs = search needs
 
--- src/settle.rt:86:9
 same-length-3 : tie.Need-same-length-3
 same-length-3 c = search needs
 
--- src/settle.rt:86:9
 same-length-4 : tie.Need-same-length-4
 same-length-4 c = search needs
 
--- src/settle.rt:86:9
 returns-2 : tie.Need-returns-2
 returns-2 c =
-    let a = c .before .before .before .before .before .before .before .before .before .before .before .before .before .before .before .args in
-    (front-stops (now (a .signature)) (now (a .rule)) (now (a .output)) (now (a .scratch)) (c .before .before .before .before .before .before .before .before .before .whole .ensures) (c .before .before .before .before .before .before .before .all-whole .ensures) (not-false _ (c .before .before .before .before .before .before .if1 .left)) (c .before .before .before .before .count .ensures) (c .before .before .before .flat-front .ensures) _ (c .before .if2 .taken) (c .refused2 .ensures), refl)
+    let f = c .before .before .before in
+    (settle-gives (front-given f) (front-refuses (at-whole (front-else f)) (at-tests f) (c .before .if2 .taken) (c .refused2 .ensures)), refl)
 
--- src/settle.rt:88:9
+-- ---- the front of the scratch that is lent
+
+abbrev else-front : tie.Else2 → tie.After-flat-front
+else-front c = c .before .before
+
+abbrev else-given : tie.Else2 → Given
+else-given c = front-given (else-front c)
+
+at-front : (c : tie.Else2) → Ready (settling (else-given c)) (else-front c .flat-front .result)
+at-front c = let f = else-front c in ready (at-whole (front-else f)) (at-tests f) (c .if2 .left)
+
+at-lent : (c : tie.After-count2) → let k = else-given (c .before) in Lent (scratchFlat (k .rule)) (k .scratch) (64 * c .count2 .result)
+at-lent c = settle-lent (else-given (c .before)) (at-front (c .before)) (c .count2 .ensures)
+
 count-requires-2 : tie.Need-count-requires-2
 count-requires-2 c κs = search needs
 
--- src/settle.rt:89:64
 mul-settle-good : tie.Need-mul-settle-good
-mul-settle-good c =
-    let a = c .before .before .before .before .before .before .before .before .before .before .before .before .before .before .before .before .args in
-    omega (arith, c .before .count2 .ensures, rule-short (now (a .signature)) (now (a .rule)) (now (a .output)) (now (a .scratch)) (c .before .before .before .before .before .before .before .before .before .before .whole .ensures) (c .before .before .before .before .before .before .before .before .all-whole .ensures) (not-false _ (c .before .before .before .before .before .before .before .if1 .left)) (c .before .before .before .before .before .count .ensures) (c .before .before .before .before .flat-front .ensures) (c .before .before .if2 .left))
+mul-settle-good c = omega (arith, at-lent (c .before) .fits)
 
--- src/settle.rt:89:49
 slice-relend-prefix-settle-good : tie.Need-slice-relend-prefix-settle-good
-slice-relend-prefix-settle-good c =
-    let a = c .before .before .before .before .before .before .before .before .before .before .before .before .before .before .before .before .args in
-    lent-fits (now (a .signature)) (now (a .rule)) (now (a .output)) (now (a .scratch)) (c .before .before .before .before .before .before .before .before .before .before .whole .ensures) (c .before .before .before .before .before .before .before .before .all-whole .ensures) (not-false _ (c .before .before .before .before .before .before .before .if1 .left)) (c .before .before .before .before .before .count .ensures) (c .before .before .before .before .flat-front .ensures) (c .before .before .if2 .left) (omega (arith, c .before .count2 .ensures))
+slice-relend-prefix-settle-good c = at-lent (c .before) .inside
 
--- src/settle.rt:89:49
 slice-aggregate-settle-good : tie.Need-slice-aggregate-settle-good
-slice-aggregate-settle-good c =
-    let a = c .before .before .before .before .before .before .before .before .before .before .before .before .before .before .before .before .before .args in
-    sym (length-take-le _ _ (slice-relend-prefix-settle-good (c .before)))
+slice-aggregate-settle-good c = sym (lent-size (at-lent (c .before .before)))
 
--- src/settle.rt:89:9
 settle-good-requires : tie.Need-settle-good-requires
-settle-good-requires c κs =
-    let a = c .before .before .before .before .before .before .before .before .before .before .before .before .before .before .before .before .before .args in
-    (some-flat (now (a .signature)) (now (a .rule)) (now (a .output)) (now (a .scratch)) (c .before .before .before .before .before .before .before .before .before .before .before .whole .ensures) (c .before .before .before .before .before .before .before .before .before .all-whole .ensures) (not-false _ (c .before .before .before .before .before .before .before .before .if1 .left)) (c .before .before .before .before .before .before .count .ensures) (c .before .before .before .before .before .flat-front .ensures) (c .before .before .before .if2 .left), enough-scratch (now (a .signature)) (now (a .rule)) (now (a .output)) (now (a .scratch)) (c .before .before .before .before .before .before .before .before .before .before .before .whole .ensures) (c .before .before .before .before .before .before .before .before .before .all-whole .ensures) (not-false _ (c .before .before .before .before .before .before .before .before .if1 .left)) (c .before .before .before .before .before .before .count .ensures) (c .before .before .before .before .before .flat-front .ensures) (c .before .before .before .if2 .left) (slice-relend-prefix-settle-good (c .before)) (omega (arith, c .before .before .count2 .ensures)))
+settle-good-requires c κs = let n = c .before .before in settle-asks (else-given (n .before)) (at-front (n .before)) (at-lent n)
 
--- src/settle.rt:90:8
+-- ---- the rule is settled, and the front is back
+
+abbrev good-front : tie.After-settle-good → tie.Else2
+good-front c = c .before .before .before .before
+
+at-good : (c : tie.After-settle-good)
+    → let g = c .settle-good in Done (at-front (good-front c)) (g .result .needed) (g .result .replacements) (g .result .passes) (g .last .1 .1 .0)
+at-good c = let g = c .settle-good in settle-done (else-given (good-front c)) (at-front (good-front c)) (g .ensures) (g .kept .1 .1 .0)
+
+-- what lies behind the front is as it was
+at-beyond : (c : tie.After-settle-good) → let k = else-given (good-front c) in
+    Beyond (scratchFlat (k .rule)) (k .scratch) (c .settle-good .last .1 .1 .1 .0 ++ drop (64 * c .before .before .before .count2 .result) (k .scratch))
+at-beyond c = let g = c .settle-good in beyond-lent (at-lent (c .before .before .before)) (g .last .1 .1 .1 .0) (g .kept .1 .1 .1 .0)
+
+abbrev count-good : tie.After-count3 → tie.After-settle-good
+count-good c = c .before .before .before .before .before .before
+
+-- ---- room for it
+
 count-requires-3 : tie.Need-count-requires-3
 count-requires-3 c κs = search needs
 
--- src/settle.rt:91:9
 refused-requires-3 : tie.Need-refused-requires-3
 refused-requires-3 c κs = search needs
 
--- src/settle.rt:91:9
 same-length-5 : tie.Need-same-length-5
 same-length-5 c = search needs
 
--- src/settle.rt:91:9
 same-length-6 : tie.Need-same-length-6
 same-length-6 c = search needs
 
--- src/settle.rt:91:9
 returns-3 : tie.Need-returns-3
 returns-3 c =
-    let a = c .before .before .before .before .before .before .before .before .before .before .before .before .before .before .before .before .before .before .before .before .before .before .before .before .before .before .before .args in
-    let k = c .before .before .before .before .before .before .before .before .before .settle-good in
-    let m = k .last .1 .1 .0 in
-    let same : length m ≡ length (now (a .output)) = k .kept .1 .1 .0 in
-    let n : length (words (now (a .output))) < k .result .needed = omega (arith, c .before .before .before .count3 .ensures, c .before .if3 .taken, length-words m, length-words (now (a .output))) in
-    (too-short (now (a .signature)) (now (a .rule)) (now (a .output)) (now (a .scratch)) (c .before .before .before .before .before .before .before .before .before .before .before .before .before .before .before .before .before .before .before .before .before .whole .ensures) (c .before .before .before .before .before .before .before .before .before .before .before .before .before .before .before .before .before .before .before .all-whole .ensures) (not-false _ (c .before .before .before .before .before .before .before .before .before .before .before .before .before .before .before .before .before .before .if1 .left)) (c .before .before .before .before .before .before .before .before .before .before .before .before .before .before .before .before .count .ensures) (c .before .before .before .before .before .before .before .before .before .before .before .before .before .before .before .flat-front .ensures) (c .before .before .before .before .before .before .before .before .before .before .before .before .before .if2 .left) (k .result) m (k .ensures) n (c .refused3 .ensures), beyond-front (64 * length (words (now (a .rule)))) (now (a .scratch)) (k .last .1 .1 .1 .0) (slice-relend-prefix-settle-good (c .before .before .before .before .before .before .before .before .before .before .before)) (omega (arith, c .before .before .before .before .before .before .before .before .before .before .before .before .count2 .ensures)) (k .kept .1 .1 .1 .0))
+    let n = c .before .before .before in
+    let g = count-good n in
+    let k = else-given (good-front g) in (
+      settle-gives k (too-short (at-good g) (n .count3 .ensures) (c .before .if3 .taken) (c .refused3 .ensures) refl),
+      at-beyond g,
+    )
 
--- src/settle.rt:70:1
 same-length-7 : tie.Need-same-length-7
 same-length-7 c = search needs
 
--- src/settle.rt:70:1
 same-length-8 : tie.Need-same-length-8
 same-length-8 c = search needs
 
--- src/settle.rt:70:1
 returns-4 : tie.Need-returns-4
 returns-4 c =
-    let a = c .before .before .before .before .before .before .before .before .before .before .before .before .before .before .before .before .before .before .before .before .before .before .before .before .before .before .args in
-    let k = c .before .before .before .before .before .before .before .before .settle-good in
-    let m = k .last .1 .1 .0 in
-    let same : length m ≡ length (now (a .output)) = k .kept .1 .1 .0 in
-    let n : k .result .needed ≤ length (words (now (a .output))) = omega (arith, c .before .before .count3 .ensures, c .if3 .left, length-words m, length-words (now (a .output))) in
-    (all-written (now (a .signature)) (now (a .rule)) (now (a .output)) (now (a .scratch)) (c .before .before .before .before .before .before .before .before .before .before .before .before .before .before .before .before .before .before .before .before .whole .ensures) (c .before .before .before .before .before .before .before .before .before .before .before .before .before .before .before .before .before .before .all-whole .ensures) (not-false _ (c .before .before .before .before .before .before .before .before .before .before .before .before .before .before .before .before .before .if1 .left)) (c .before .before .before .before .before .before .before .before .before .before .before .before .before .before .before .count .ensures) (c .before .before .before .before .before .before .before .before .before .before .before .before .before .before .flat-front .ensures) (c .before .before .before .before .before .before .before .before .before .before .before .before .if2 .left) (k .result) m (k .ensures) n same (λ i. c .before .before .before .before .before .before .before .before .before .before .before .before .before .before .before .before .before .before .before .before .before .before .before .slice-known .given i .fits) (λ i. c .before .before .before .before .before .before .slice-known3 .given i .fits) refl, beyond-front (64 * length (words (now (a .rule)))) (now (a .scratch)) (k .last .1 .1 .1 .0) (slice-relend-prefix-settle-good (c .before .before .before .before .before .before .before .before .before .before)) (omega (arith, c .before .before .before .before .before .before .before .before .before .before .before .count2 .ensures)) (k .kept .1 .1 .1 .0))
+    let n = c .before .before in
+    let g = count-good n in
+    let w = known (front-else (else-front (good-front g)) .before) in (
+      settle-gives (else-given (good-front g))
+          (all-written (at-good g) (n .count3 .ensures) (c .if3 .left) (λ i. w .slice-known .given i .fits)
+          (λ i. n .before .before .before .before .slice-known3 .given i .fits) refl),
+      at-beyond g,
+    )
 
 pub tulgarent-settle-spec : {M : Type 1} → statement M
 tulgarent-settle-spec =
