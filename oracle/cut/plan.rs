@@ -4,13 +4,14 @@ use super::cutter::{Cut, Edit, Form, Module};
 use std::ffi::OsString;
 use std::path::{Path, PathBuf};
 
-/// Names the folder that holds src/core.rs and the other files; a relative path is read from the oracle's folder.
+/// Names the folder that holds src/core.rs and the other files; a relative path is read from the repository's root, which
+/// is the folder above the oracle's. The gate reads it so too.
 pub const SOURCE_VARIABLE: &str = "TULGARENT_SOURCE";
 
-const DEFAULT_SOURCE: &str = "../../shared/docs/src";
+const DEFAULT_SOURCE: &str = "../shared/docs/src";
 
 pub fn source_folder(named: Option<OsString>, oracle: &Path) -> PathBuf {
-    oracle.join(named.unwrap_or_else(|| DEFAULT_SOURCE.into()))
+    oracle.join("..").join(named.unwrap_or_else(|| DEFAULT_SOURCE.into()))
 }
 
 /// The files that src/source.rs includes.

@@ -119,5 +119,5 @@ fn the_folder_is_the_named_one_or_the_default() {
     let oracle = Path::new("/r/oracle");
     assert_eq!(plan::source_folder(None, oracle), Path::new("/r/oracle/../../shared/docs/src"));
     assert_eq!(plan::source_folder(Some("/s".into()), oracle), Path::new("/s"));
-    assert_eq!(plan::source_folder(Some("s".into()), oracle), Path::new("/r/oracle/s"));
+    assert_eq!(plan::source_folder(Some("s".into()), oracle), Path::new("/r/oracle/../s"));
 }
