@@ -21,7 +21,7 @@ use Rattle.core_actions.specs.Scopes.{Scoped, ScopeRoom}
 use Rattle.core_actions.specs.Lowered.{loweredAll}
 use Rattle.core_actions.specs.Acts.{ChangeAt, changePiece, changed, Gave}
 use Rattle.core_actions.specs.declared.actions.Acted.{Acted}
-use Rattle.core_actions.proofs.Sites.{Site, Tree, tree, Known, Given, given-as, asks}
+use Rattle.core_actions.proofs.Sites.{Site, Tree, tree, Known, Begun, begun-as, asks}
 
 -- ---- where it stands
 
@@ -32,28 +32,28 @@ pub record Headed (k : Site) (j d n w : ℕ) (sig : Sig) : Type 0 where
   pub exprs : ExprsAt sig (k .ws) d n (k .at + j)
 
 -- what lowering the expressions asks
-pub exprs-ask : {k : Site} {j d n w : ℕ} → Given k (Headed k j d n w)
+pub exprs-ask : {k : Site} {j d n w : ℕ} → Begun k (Headed k j d n w)
     → Known k (λ sig. ExprsAt sig (k .ws) d n (k .at + j))
     × (Room (length (k .ws)) (k .at + j) (k .to) (k .sp) (k .lg) (length (k .s)) × ScopeRoom (length (k .ws)) (k .at + j) (k .to) (k .sp) (k .scope))
-exprs-ask {k} {j} {d} {n} g = asks (given-as {Y = λ sig. ExprsAt sig (k .ws) d n (k .at + j)} g (λ sig x. x .exprs)) (k .at + j) (omega arith)
+exprs-ask {k} {j} {d} {n} g = asks (begun-as {Y = λ sig. ExprsAt sig (k .ws) d n (k .at + j)} g (λ sig x. x .exprs)) (k .at + j) (omega arith)
 
 -- ---- the expressions are lowered: a, with s1 and cs1 left behind
 
 pub record Argued (k : Site) (j d n w : ℕ) (s1 cs1 : List ℕ) (a : Walk) : Type 0 where
-  pub given : Given k (Headed k j d n w)
+  pub begun : Begun k (Headed k j d n w)
   pub walk : (t : Tree k (Headed k j d n w))
       → Walked n (OnStack (k .sp) n (k .lg) s1 a) (loweredAll (t .sig) (t .bound) (t .it .exprs .value) (k .cs)) (t .it .exprs .size)
       (k .at + j) (k .to) (k .sp) (k .lg) (k .s) (k .cs) s1 cs1 a
   pub size : length s1 ≡ length (k .s)
   pub counters : length cs1 ≡ length (k .cs)
 
-pub argued : {k : Site} {j d n w : ℕ} {s1 cs1 : List ℕ} {a : Walk} → Given k (Headed k j d n w) → length s1 ≡ length (k .s) → length cs1 ≡ length (k .cs)
+pub argued : {k : Site} {j d n w : ℕ} {s1 cs1 : List ℕ} {a : Walk} → Begun k (Headed k j d n w) → length s1 ≡ length (k .s) → length cs1 ≡ length (k .cs)
     → ((sig : Sig) (x : ExprsAt sig (k .ws) d n (k .at + j)) (bound : List ℕ) → Counted sig (k .cs) → Scoped sig bound (k .s) (k .scope)
     → Walked n (OnStack (k .sp) n (k .lg) s1 a) (loweredAll sig bound (x .value) (k .cs)) (x .size)
     (k .at + j) (k .to) (k .sp) (k .lg) (k .s) (k .cs) s1 cs1 a)
     → Argued k j d n w s1 cs1 a
 argued g es ec walk =
-    record { given = g; walk = λ t. walk (t .sig) (t .it .exprs) (t .bound) (t .counted) (t .scoped); size = es; counters = ec }
+    record { begun = g; walk = λ t. walk (t .sig) (t .it .exprs) (t .bound) (t .counted) (t .scoped); size = es; counters = ec }
 
 -- an answer that is a refusal
 abbrev pub ended : Walk → Acted
@@ -73,7 +73,7 @@ pub record Fine {k : Site} {j d n w : ℕ} {s1 cs1 : List ℕ} {a : Walk} (m : A
 
 pub is-fine : {k : Site} {j d n w : ℕ} {s1 cs1 : List ℕ} {a : Walk} (m : Argued k j d n w s1 cs1 a) → 2 ≤ j → a .refused ≡ 0 → Fine m
 is-fine {k} {j} {d} {n} m more fine =
-    let g = m .given in
+    let g = m .begun in
     let t = g .tree in
     let x = t .it .exprs in
     let o = went (loweredAll (t .sig) (t .bound) (x .value) (k .cs)) (m .walk t) fine in
@@ -181,7 +181,7 @@ change-at {k} {more} {w} is sig x =
     }
 
 pub record Changing (k : Site) (code more w : ℕ) : Type 0 where
-  pub given : Given k (Change k more w)
+  pub begun : Begun k (Change k more w)
   pub is : w ≡ getD (k .ws) (k .at + 1) 0
   pub few : more ≤ 1
 
@@ -219,7 +219,7 @@ module _ {k : Site} {code more w : ℕ} (h : Changing k code more w) where
           fine = fine;
           many = exprs-many (t .sig) (k .ws) maxDepth (countOf w + more) (k .at + 2) (t .it .exprs);
           inside = omega arith;
-          room = m .given .room;
+          room = m .begun .room;
         }
 
     module _ (fine : a .refused ≡ 0) {s2 cs2 : List ℕ} {u : ℕ} (o : Used w (a .log) s1 cs1 s2 cs2 u) where

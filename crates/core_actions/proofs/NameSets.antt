@@ -23,7 +23,7 @@ use Rattle.core_actions.specs.Acts.{NameCallAt, Gave, Acts}
 use Rattle.core_actions.specs.declared.actions.Acted.{Acted}
 use Rattle.core_actions.proofs.Scopes.{scope-fits}
 use Rattle.core_actions.proofs.Pieces.{lowered-leaf, done-set, same-set}
-use Rattle.core_actions.proofs.Sites.{Site, Tree, tree, tree-as, Given}
+use Rattle.core_actions.proofs.Sites.{Site, Tree, tree, tree-as, Begun}
 use Rattle.core_actions.proofs.Acting.{acts-stop, acts-same, scope-after}
 use Rattle.core_actions.proofs.Changes.{Headed, Argued, Fine, ended, Used, Termed, closing, closed-full, closed}
 
@@ -51,7 +51,7 @@ name-call-at {k} {v} {w} isv isw sig x =
     }
 
 pub record Naming (k : Site) (v w : ℕ) : Type 0 where
-  pub given : Given k (Call k w)
+  pub begun : Begun k (Call k w)
   pub isv : v ≡ getD (k .ws) (k .at + 1) 0
   pub isw : w ≡ getD (k .ws) (k .at + 2) 0
 
@@ -101,7 +101,7 @@ module _ {k : Site} {v w : ℕ} (h : Naming k v w) where
       let x = t .it .call .exprs in
       let i = x .inside in
       acts-same (t .sig) (t .bound) (k .scope) (length (k .ws)) (lowering t)
-      (same-set (t .sig) (t .bound) (k .at + 2) (headOf w) (x .value) (leaf (k .at + 1) v) (k .cs)) none (h .given .scopeRoom) (omega arith) (t .scoped)
+      (same-set (t .sig) (t .bound) (k .at + 2) (headOf w) (x .value) (leaf (k .at + 1) v) (k .cs)) none (h .begun .scopeRoom) (omega arith) (t .scoped)
       (rw (done-set (t .sig) (t .bound) (k .at + 2) (headOf w) (x .value) (leaf (k .at + 1) v) (k .cs)) walk)
 
   -- ---- the arguments are lowered: a, with s1 and cs1 left behind
@@ -128,9 +128,9 @@ module _ {k : Site} {v w : ℕ} (h : Naming k v w) where
       -- what the test asks
       pub name-asks : ScopeFits s1 (k .scope)
       name-asks =
-          let x = h .given .tree .it .exprs .inside in
+          let x = h .begun .tree .it .exprs .inside in
           let e = m .size in
-          let fits : ScopeFits (k .s) (k .scope) = scope-fits (h .given .scopeRoom) (h .given .room) (omega arith) in
+          let fits : ScopeFits (k .s) (k .scope) = scope-fits (h .begun .scopeRoom) (h .begun .room) (omega arith) in
           record { few = fits .few; body = omega (arith, fits .body); names = omega (arith, fits .names) }
 
       -- the arguments as if they started one word earlier, so that the name can be read behind them
@@ -147,7 +147,7 @@ module _ {k : Site} {v w : ℕ} (h : Naming k v w) where
         tested t =
             let x = t .it .call .exprs in
             let i = x .inside in
-            test (t .sig) (t .bound) (scope-after (length (k .ws)) (x .size) (h .given .scopeRoom) (omega arith) (walk t .kept) (t .scoped)) (t .it .old)
+            test (t .sig) (t .bound) (scope-after (length (k .ws)) (x .size) (h .begun .scopeRoom) (omega arith) (walk t .kept) (t .scoped)) (t .it .old)
 
         pub name-refused : b ≡ false → Answers k s1 cs1 (ended (record { next = k .at + 1; to = a .to; log = a .log; term = 0; refused = unbound }))
         name-refused not = answers (λ t. refused t (stopped t) (λ z. omega arith))
@@ -170,7 +170,7 @@ module _ {k : Site} {v w : ℕ} (h : Naming k v w) where
                 let many = exprs-many (t .sig) (k .ws) (maxDepth - 1) (countOf w) (k .at + 3) x in
                 let halted : Walked (countOf w + 1) (λ p. ⊥) (andThen (args t) (name t)) (x .size + 1) (k .at + 2) (k .to) (k .sp) (k .lg) (k .s) (k .cs) s1 cs1 ans =
                 walk-then (x .size) 1 (k .at + 2) (k .to) (k .sp) (k .sp + countOf w) (k .lg) (k .s) (k .cs) s1 cs1 s1 cs1 (early t) ans
-                (omega (arith, h .given .room .stack)) (omega arith) (omega arith) (countOf w + 1) (λ p. ⊥) (args t) (name t) (omega arith) (first t) refl (second t) (λ p q t u. u) in
+                (omega (arith, h .begun .room .stack)) (omega arith) (omega arith) (countOf w + 1) (λ p. ⊥) (args t) (name t) (omega arith) (first t) refl (second t) (λ p q t u. u) in
                 stop (3 + x .size) (k .at) (andThen (args t) (name t)) (closing (actionWord 2) 1 (k .at + 2) (headOf w)) halted (λ z. omega arith) (omega arith)
 
         -- ---- the name is put behind them, which leaves s2, and a fresh variable u is taken
@@ -191,7 +191,7 @@ module _ {k : Site} {v w : ℕ} (h : Naming k v w) where
               let lf = o .logFrom in
               let lu = o .logUpTo in
               let z = m .size in
-              let r = h .given .room in
+              let r = h .begun .room in
               let r1 : k .to + 4 * (3 + x .size) ≤ k .sp = omega (arith, r .words) in
               let r2 : k .sp + (3 + x .size) ≤ k .lg = omega (arith, r .stack) in
               let r3 : k .lg + (3 + x .size) ≤ length (k .s) = omega (arith, r .log) in

@@ -1,123 +1,30 @@
 -- Literals and globals in front of a row of expressions: a walk over the expressions behind them, with these words on the stack, is a walk over
 -- the whole row. Assumes nothing.
 use mathlib.Core.Path.{_≡_, refl, sym, ap, _∙_, subst}
-use mathlib.Core.Bool.{Bool, true, false, _&&_}
+use mathlib.Core.Bool.{true}
 use mathlib.Core.List.{List, [], _∷_, _++_}
 use Prim.Native.Nat.{ℕ, zero, suc, _+_, _-_, _≤_, _<_}
 use native.Mathlib.Numerals.{add-one}
 use native.Mathlib.Omega.{arith}
-use lib.Dec.{leb, ltb}
 use lib.ListN.{length, getD, set}
-use borrow.Author.Tests.{leb-true, ltb-true, lt-leb, le-leb, lt-ltb, le-ltb}
 use Rattle.octets.specs.Regions.{splice, part}
-use Rattle.octets.proofs.Splice.{length-part, getD-part, part-more, part-one, part-join, splice-nil, splice-snoc, length-splice, getD-splice-before, getD-splice-after}
-use Rattle.rules.specs.Words.{limit12, literalBase, nameBase}
+use Rattle.octets.proofs.Splice.{length-part, part-more, splice-nil, splice-snoc, length-splice, getD-splice-before, getD-splice-after}
+use Rattle.rules.specs.Words.{nameBase}
 use Rattle.rules.specs.Signature.{Sig}
+use Rattle.walks.specs.Leaves.{leavesUpTo}
 use Rattle.walks.specs.Steps.{Walked, OnStack, Kept, Room, Under, Counted, ExprsAt}
 use Rattle.walks.specs.declared.Walk.{Walk}
+use Rattle.walks.proofs.LeavesUpTo.{Leaf, leaves-most, leaves-each}
 use Rattle.walks.proofs.Log.{undone-none}
 use Rattle.walks.proofs.Read.{exprs-many}
 use Rattle.walks.proofs.Rows.{Left, left-all, left-next}
-use Rattle.core_actions.specs.Scopes.{isPlain, plainFront, Scoped, ScopeRoom, Names}
+use Rattle.core_actions.specs.Scopes.{Scoped, ScopeRoom, Names}
 use Rattle.core_actions.specs.Lowered.{lowered, loweredAll}
 use Rattle.core_actions.specs.declared.scope.Scope.{Scope}
 use Rattle.core_actions.proofs.Scopes.{scoped-kept, reads-low}
 use Rattle.core_actions.proofs.Pieces.{lowered-row}
 use Rattle.core_actions.proofs.Expressions.{standing, read-way}
-use Rattle.core_actions.proofs.Sites.{Site, Tree, Given}
-
--- ---- how many they are
-
-front-none : (g : ℕ) → plainFront g [] ≡ 0
-unfolding plainFront
-front-none g = refl
-
-front-more : (g w : ℕ) (ws : List ℕ) → isPlain g w ≡ true → plainFront g (w ∷ ws) ≡ suc (plainFront g ws)
-unfolding plainFront
-front-more g w ws e = rw e
-
-front-no-more : (g w : ℕ) (ws : List ℕ) → isPlain g w ≡ false → plainFront g (w ∷ ws) ≡ 0
-unfolding plainFront
-front-no-more g w ws e = rw e
-
--- a word in front of a part
-part-first : (l : List ℕ) (p n : ℕ) → 0 < n → p < length l → part l p n ≡ getD l p 0 ∷ part l (p + 1) (n - 1)
-part-first l p n h r =
-    let e : n ≡ 1 + (n - 1) = omega arith in
-    ap (part l p) e ∙ part-join l p 1 (n - 1) ∙ ap (λ (xs : List ℕ). xs ++ part l (p + 1) (n - 1)) (part-one l p (getD l p 0) r refl)
-
--- after k turns of the loop that puts them onto the stack
-pub record Fronted (g : ℕ) (ws : List ℕ) (at n k : ℕ) : Type 0 where
-  pub count : plainFront g (part ws at n) ≡ k + plainFront g (part ws (at + k) (n - k))
-
-pub fronted-start : (g : ℕ) (ws : List ℕ) (at n : ℕ) → Fronted g ws at n 0
-fronted-start g ws at n =
-    let e : at ≡ at + 0 = omega arith in
-    let f : n ≡ n - 0 = omega arith in
-    let h : plainFront g (part ws at n) ≡ plainFront g (part ws (at + 0) (n - 0)) = λ i. plainFront g (part ws (e i) (f i)) in
-    record { count = omega (arith, h) }
-
-module _ (g : ℕ) (ws : List ℕ) (at n k w : ℕ) (f : Fronted g ws at n k) (room : at + n ≤ length ws) where
-  pub fronted-next : k < n → w ≡ getD ws (at + k) 0 → literalBase ≤ w → w < nameBase + g → Fronted g ws at n (k + 1)
-  fronted-next h is low high =
-      let plain : isPlain g (getD ws (at + k) 0) ≡ true = ap (isPlain g) (sym is) ∙ rw (le-leb literalBase w low, lt-ltb w (nameBase + g) high) in
-      let one = ap (plainFront g) (part-first ws (at + k) (n - k) (omega arith) (omega arith)) ∙ front-more g (getD ws (at + k) 0) (part ws (at + k + 1) (n - k - 1)) plain in
-      let e : at + k + 1 ≡ at + (k + 1) = omega arith in
-      let z : n - k - 1 ≡ n - (k + 1) = omega arith in
-      let there : plainFront g (part ws (at + k + 1) (n - k - 1)) ≡ plainFront g (part ws (at + (k + 1)) (n - (k + 1))) = λ i. plainFront g (part ws (e i) (z i)) in
-      record { count = omega (arith, f .count, one, there) }
-
-  -- a word that is none of them, below or above
-  fronted-other : k < n → w ≡ getD ws (at + k) 0 → isPlain g w ≡ false → k ≡ plainFront g (part ws at n)
-  fronted-other h is other =
-      let none = ap (plainFront g) (part-first ws (at + k) (n - k) (omega arith) (omega arith)) ∙ front-no-more g (getD ws (at + k) 0) (part ws (at + k + 1) (n - k - 1)) (ap (isPlain g) (sym is) ∙ other) in
-      omega (arith, f .count, none)
-
-  pub fronted-below : k < n → w ≡ getD ws (at + k) 0 → w < literalBase → k ≡ plainFront g (part ws at n)
-  fronted-below h is low = fronted-other h is (rw (lt-leb literalBase w low))
-
-  pub fronted-above : k < n → w ≡ getD ws (at + k) 0 → literalBase ≤ w → nameBase + g ≤ w → k ≡ plainFront g (part ws at n)
-  fronted-above h is low high = fronted-other h is (rw (le-leb literalBase w low, le-ltb w (nameBase + g) high))
-
-pub fronted-end : (g : ℕ) (ws : List ℕ) (at n k : ℕ) → Fronted g ws at n k → n ≤ k → k ≡ plainFront g (part ws at n)
-fronted-end g ws at n k f h =
-    let z : n - k ≡ 0 = omega arith in
-    let none : plainFront g (part ws (at + k) (n - k)) ≡ 0 = ap (λ (i : ℕ). plainFront g (part ws (at + k) i)) z ∙ front-none g in
-    omega (arith, f .count)
-
--- ---- what they are
-
-front-most : (g : ℕ) (ws : List ℕ) → plainFront g ws ≤ length ws
-front-most g [] = omega (arith, front-none g)
-front-most g (w ∷ ws) = go (isPlain g w) refl (front-most g ws)
-  where
-    go : (b : Bool) → isPlain g w ≡ b → plainFront g ws ≤ length ws → plainFront g (w ∷ ws) ≤ length (w ∷ ws)
-    go true e h = omega (arith, front-more g w ws e)
-    go false e h = omega (arith, front-no-more g w ws e)
-
--- a word that may be read whatever is bound
-pub record PlainWord (g w : ℕ) : Type 0 where
-  pub low : literalBase ≤ w
-  pub high : w < nameBase + g
-
-plain-word : (g w : ℕ) → isPlain g w ≡ true → PlainWord g w
-plain-word g w e = go (leb literalBase w) refl (ltb w (nameBase + g)) refl e
-  where
-    go : (a : Bool) → leb literalBase w ≡ a → (b : Bool) → ltb w (nameBase + g) ≡ b → a && b ≡ true → PlainWord g w
-    go true ea true eb e = record { low = leb-true literalBase w ea; high = ltb-true w (nameBase + g) eb }
-    go true ea false eb e = absurd (let z : _≡_ {A = ℕ} 0 1 = cc in omega arith)
-    go false ea b eb e = absurd (let z : _≡_ {A = ℕ} 0 1 = cc in omega arith)
-
-front-plain : (g : ℕ) (ws : List ℕ) (i : ℕ) → i < plainFront g ws → PlainWord g (getD ws i 0)
-front-plain g [] i h = absurd (omega (arith, front-none g))
-front-plain g (w ∷ ws) i h = go (isPlain g w) refl i h (λ j. front-plain g ws j)
-  where
-    go : (b : Bool) → isPlain g w ≡ b → (i : ℕ) → i < plainFront g (w ∷ ws) → ((j : ℕ) → j < plainFront g ws → PlainWord g (getD ws j 0)) → PlainWord g (getD (w ∷ ws) i 0)
-    go true e zero h f = plain-word g w e
-    go true e (suc j) h f = f j (omega (arith, front-more g w ws e))
-    go false e i h f = absurd (omega (arith, front-no-more g w ws e))
-
--- ---- the walk over the whole row
+use Rattle.core_actions.proofs.Sites.{Site, Tree, Begun}
 
 -- words go onto the stack, and nothing else is done
 kept-stack : (to te sp se lg le : ℕ) (xs s cs s′ : List ℕ) → to ≤ sp → sp + length xs ≤ se → sp + length xs ≤ length s → lg ≤ le → s′ ≡ splice s sp xs → Kept to te sp se lg le s cs s′ cs lg
@@ -140,40 +47,41 @@ kept-stack to te sp se lg le xs s cs s′ a b r h e =
 pub record Row (k : Site) (d n : ℕ) (sig : Sig) : Type 0 where
   pub exprs : ExprsAt sig (k .ws) d n (k .at)
 
-module _ {k : Site} {d n : ℕ} (g : Given k (Row k d n)) where
-  -- what putting them onto the stack asks
-  pub front-room : (k .at + n ≤ length (k .ws)) × (k .sp + n ≤ length (k .s)) × (k .scope .globals ≤ limit12)
+-- the last word that may be read whatever is bound: the last of the scope's globals, or of the literals where there is none
+abbrev pub last : Site → ℕ
+last k = nameBase + k .scope .globals - 1
+
+module _ {k : Site} {d n : ℕ} (g : Begun k (Row k d n)) where
+  -- what putting the words up to it onto the stack asks
+  pub front-room : (k .at + n ≤ length (k .ws)) × (k .sp + n ≤ length (k .s))
   front-room =
       let x = g .tree .it .exprs in
       let i : k .at + n ≤ length (k .ws) = omega (arith, exprs-many (g .tree .sig) (k .ws) d n (k .at) x, x .inside) in
-      (i, omega (arith, g .room .stack, g .room .log), g .scopeRoom .few)
+      (i, omega (arith, g .room .stack, g .room .log))
 
 -- the first i of them are on the stack, which leaves s0
-pub record Stacked {k : Site} {d n : ℕ} (g : Given k (Row k d n)) (i : ℕ) (s0 : List ℕ) : Type 0 where
-  pub plain : (j : ℕ) → j < i → PlainWord (k .scope .globals) (getD (k .ws) (k .at + j) 0)
+pub record Stacked {k : Site} {d n : ℕ} (g : Begun k (Row k d n)) (i : ℕ) (s0 : List ℕ) : Type 0 where
+  pub plain : (j : ℕ) → j < i → Leaf (last k) (getD (k .ws) (k .at + j) 0)
   pub put : s0 ≡ splice (k .s) (k .sp) (part (k .ws) (k .at) i)
   pub size : length s0 ≡ length (k .s)
   pub most : i ≤ n
   pub inside : k .at + n ≤ length (k .ws)
   pub stack : k .sp + n ≤ length (k .s)
 
-pub stacked : {k : Site} {d n : ℕ} (g : Given k (Row k d n)) {i : ℕ} {s0 : List ℕ} → length s0 ≡ length (k .s)
-    → (i ≡ plainFront (k .scope .globals) (part (k .ws) (k .at) n)) × (s0 ≡ splice (k .s) (k .sp) (part (k .ws) (k .at) i)) → Stacked g i s0
+pub stacked : {k : Site} {d n : ℕ} (g : Begun k (Row k d n)) {i : ℕ} {s0 : List ℕ} → length s0 ≡ length (k .s)
+    → (i ≡ leavesUpTo (last k) (part (k .ws) (k .at) n)) × (s0 ≡ splice (k .s) (k .sp) (part (k .ws) (k .at) i)) → Stacked g i s0
 stacked {k} {d} {n} g {i} size e =
     let r = front-room g in
-    record { plain = plain; put = e .1; size = size; most = most; inside = r .0; stack = r .1 }
-  where
-    xs : List ℕ
-    xs = part (k .ws) (k .at) n
+    record {
+      plain = λ j h. leaves-each (last k) (k .ws) (k .at) n (r .0) j (subst (λ (m : ℕ). j < m) (e .0) h);
+      put = e .1;
+      size = size;
+      most = omega (arith, e .0, leaves-most (last k) (k .ws) (k .at) n (r .0));
+      inside = r .0;
+      stack = r .1;
+    }
 
-    most : i ≤ n
-    most = omega (arith, e .0, front-most (k .scope .globals) xs, length-part (k .ws) (k .at) n (front-room g .0))
-
-    plain : (j : ℕ) → j < i → PlainWord (k .scope .globals) (getD (k .ws) (k .at + j) 0)
-    plain j h =
-        subst (PlainWord (k .scope .globals)) (getD-part (k .ws) (k .at) n j (omega (arith, most))) (front-plain (k .scope .globals) xs j (omega (arith, e .0)))
-
-module _ {k : Site} {d n : ℕ} {g : Given k (Row k d n)} {i : ℕ} {s0 : List ℕ} (f : Stacked g i s0) where
+module _ {k : Site} {d n : ℕ} {g : Begun k (Row k d n)} {i : ℕ} {s0 : List ℕ} (f : Stacked g i s0) where
   module _ (t : Tree k (Row k d n)) where
     abbrev Rest : (left top : ℕ) → List ℕ → Walk → Type 0
     Rest left top s1 w =
@@ -215,7 +123,7 @@ module _ {k : Site} {d n : ℕ} {g : Given k (Row k d n)} {i : ℕ} {s0 : List �
         (n - j) (k .sp + j) sj (k .cs) (standing at (k .to) (k .lg)) (turns j sj (omega arith) refl) (omega arith) now
         sj (k .cs) (record { next = at + 1; to = k .to; log = k .lg; term = w; refused = 0 })
         (λ y. read-way (t .sig) (t .bound) (k .ws) d at (k .to) (k .sp + j) (k .lg) sj (k .cs) y (t .counted) w refl (plain .low) true
-        (λ old. reads-low (t .sig) (t .bound) (k .s) (k .scope) w (t .scoped) (plain .high)) refl)
+        (λ old. reads-low (t .sig) (t .bound) (k .s) (k .scope) w (t .scoped) (omega (arith, plain .high))) refl)
         s1 refl put)
 
     front-left : Rest (n - i) (k .sp + i) s0 (standing (k .at + i) (k .to) (k .lg))

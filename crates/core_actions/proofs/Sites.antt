@@ -32,7 +32,7 @@ pub record Tree (k : Site) (X : Sig → Type 0) : Type 0 where
   pub scoped : Scoped sig bound (k .s) (k .scope)
 
 -- what is given at a site
-pub record Given (k : Site) (X : Sig → Type 0) : Type 0 where
+pub record Begun (k : Site) (X : Sig → Type 0) : Type 0 where
   pub tree : Tree k X
   pub room : Room (length (k .ws)) (k .at) (k .to) (k .sp) (k .lg) (length (k .s))
   pub scopeRoom : ScopeRoom (length (k .ws)) (k .at) (k .to) (k .sp) (k .scope)
@@ -42,9 +42,9 @@ pub record Given (k : Site) (X : Sig → Type 0) : Type 0 where
 abbrev pub Known : Site → (Sig → Type 0) → Type 0
 Known k X = Under (λ sig. X sig × Counted sig (k .cs) × Names sig (k .s) (k .scope))
 
-pub given : {k : Site} {X : Sig → Type 0} → Known k X → Room (length (k .ws)) (k .at) (k .to) (k .sp) (k .lg) (length (k .s))
-    → ScopeRoom (length (k .ws)) (k .at) (k .to) (k .sp) (k .scope) → length (k .ws) < 2 ^ 64 → length (k .s) < 2 ^ 64 → Given k X
-given q room sr fr fs =
+pub begun : {k : Site} {X : Sig → Type 0} → Known k X → Room (length (k .ws)) (k .at) (k .to) (k .sp) (k .lg) (length (k .s))
+    → ScopeRoom (length (k .ws)) (k .at) (k .to) (k .sp) (k .scope) → length (k .ws) < 2 ^ 64 → length (k .s) < 2 ^ 64 → Begun k X
+begun q room sr fr fs =
     let n = q .known .2 in
     record {
       tree = record { sig = q .sig; bound = n .bound; it = q .known .0; counted = q .known .1; scoped = n .scoped };
@@ -57,14 +57,14 @@ given q room sr fr fs =
 abbrev pub tree : {k : Site} {X : Sig → Type 0} (sig : Sig) → X sig → (bound : List ℕ) → Counted sig (k .cs) → Scoped sig bound (k .s) (k .scope) → Tree k X
 tree sig x bound n sc = record { sig = sig; bound = bound; it = x; counted = n; scoped = sc }
 
--- the same tree, and the same that is given, read as something else
+-- the same tree, and the same start, read as something else
 abbrev pub tree-as : {k : Site} {X Y : Sig → Type 0} → Tree k X → ((sig : Sig) → X sig → Y sig) → Tree k Y
 tree-as t f = record { sig = t .sig; bound = t .bound; it = f (t .sig) (t .it); counted = t .counted; scoped = t .scoped }
 
-pub given-as : {k : Site} {X Y : Sig → Type 0} → Given k X → ((sig : Sig) → X sig → Y sig) → Given k Y
-given-as g f = record { tree = tree-as (g .tree) f; room = g .room; scopeRoom = g .scopeRoom; ruleFits = g .ruleFits; scratchFits = g .scratchFits }
+pub begun-as : {k : Site} {X Y : Sig → Type 0} → Begun k X → ((sig : Sig) → X sig → Y sig) → Begun k Y
+begun-as g f = record { tree = tree-as (g .tree) f; room = g .room; scopeRoom = g .scopeRoom; ruleFits = g .ruleFits; scratchFits = g .scratchFits }
 
-module _ {k : Site} {X : Sig → Type 0} (g : Given k X) where
+module _ {k : Site} {X : Sig → Type 0} (g : Begun k X) where
   -- what a call for it asks at a place p that is not before the site
   pub asks : (p : ℕ) → k .at ≤ p
       → Known k X × (Room (length (k .ws)) p (k .to) (k .sp) (k .lg) (length (k .s)) × ScopeRoom (length (k .ws)) p (k .to) (k .sp) (k .scope))

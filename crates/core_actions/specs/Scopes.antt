@@ -1,13 +1,12 @@
 -- 01, "Lowering the head": bound at first are the variables of the flat atoms, then the names that were let. How the scratch says which.
 -- Assumes nothing: these are definitions.
 use mathlib.Core.Path.{_≡_}
-use mathlib.Core.List.{List, [], _∷_}
-use mathlib.Core.Bool.{Bool, _||_, _&&_, cond}
-use Prim.Native.Nat.{ℕ, suc, _+_, _*_, _<_, _≤_}
-use lib.Dec.{leb, ltb}
+use mathlib.Core.List.{List}
+use mathlib.Core.Bool.{Bool, _||_}
+use Prim.Native.Nat.{ℕ, _+_, _*_, _<_, _≤_}
 use lib.ListN.{length}
 use Rattle.octets.specs.Regions.{part}
-use Rattle.rules.specs.Words.{limit12, literalBase, nameBase, freshBase}
+use Rattle.rules.specs.Words.{limit12, nameBase, freshBase}
 use Rattle.rules.specs.Signature.{Sig, elem}
 use Rattle.core_actions.specs.declared.scope.Scope.{Scope}
 
@@ -42,12 +41,3 @@ pub record ScopeRoom (n at to sp : ℕ) (c : Scope) : Type 0 where
 pub record Names (sig : Sig) (s : List ℕ) (c : Scope) : Type 0 where
   pub bound : List ℕ
   pub scoped : Scoped sig bound s c
-
--- a literal, or one of g globals: it may be read whatever is bound
-abbrev pub isPlain : ℕ → ℕ → Bool
-isPlain g w = leb literalBase w && ltb w (nameBase + g)
-
--- how many of them stand in front
-unfoldable pub plainFront : ℕ → List ℕ → ℕ
-plainFront g [] = 0
-plainFront g (w ∷ ws) = cond (isPlain g w) (suc (plainFront g ws)) 0

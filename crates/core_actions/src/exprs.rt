@@ -4,14 +4,13 @@ use crate::scope::may_read;
 use walks::Walk;
 ghost use mathlib.Core.Path.{_≡_};
 ghost use mathlib.Core.List.{List};
-ghost use Prim.Native.Nat.{ℕ, _+_, _<_, _≤_};
+ghost use Prim.Native.Nat.{ℕ, _+_, _<_};
 ghost use lib.ListN.{length, getD};
 ghost use Rattle.octets.specs.Words.{words};
-ghost use Rattle.octets.specs.Regions.{splice, part};
-ghost use Rattle.rules.specs.Words.{limit12, literalBase, countOf};
+ghost use Rattle.rules.specs.Words.{literalBase, countOf};
 ghost use Rattle.rules.specs.Signature.{Sig};
 ghost use Rattle.walks.specs.Steps.{Walked, InAnswer, OnStack, Room, Under, Counted, ExprAt, ExprsAt};
-ghost use Rattle.core_actions.specs.Scopes.{plainFront, Scoped, ScopeRoom, Names};
+ghost use Rattle.core_actions.specs.Scopes.{Scoped, ScopeRoom, Names};
 ghost use Rattle.core_actions.specs.Lowered.{lowered, loweredAll};
 
 // Action 7: a call whose answer is bound.
@@ -183,35 +182,8 @@ fn lower_all(
     walk
 }
 
-// Puts the literals and globals that stand in front of the n expressions at `at` onto the stack, without a walk over each: they may always be
-// read, and are their own terms. Returns how many they are.
-fn lower_plain(
-    rule: &[u8],
-    at: usize,
-    n: usize,
-    globals: u32,
-    scratch: &mut [u8],
-    sp: usize,
-) -> usize
-    requires { ⌜ (at + n ≤ length (words (now rule))) × (sp + n ≤ length (words (now scratch))) × (globals ≤ limit12) ⌝ }
-    ensures { λ r. ⌜ (r ≡ plainFront globals (part (words (now (rule .entry))) at n)) × (words (now (scratch .exit)) ≡ splice (words (now (scratch .entry))) sp (part (words (now (rule .entry))) at r)) ⌝ }
-{
-    let mut k = 0;
-    while k < n {
-        let w = octets::get(rule, at + k);
-        if w < walks::LITERAL {
-            return k;
-        }
-        if walks::NAME + globals <= w {
-            return k;
-        }
-        octets::put(scratch, sp + k, w);
-        k += 1;
-    }
-    k
-}
-
-// Lowers the n expressions from `at` on as `lower_all` does. The literals and globals in front need no walk.
+// Lowers the n expressions from `at` on as `lower_all` does. The literals and globals in front need no walk: they may always be read, and are
+// their own terms.
 pub fn lower_arguments(
     rule: &[u8],
     at: usize,
@@ -232,7 +204,7 @@ pub fn lower_arguments(
         → Walked n (OnStack sp n log (words (now (scratch .exit))) r) (loweredAll sig bound (x .value) (words (now (counters .entry)))) (x .size)
         at to sp log (words (now (scratch .entry))) (words (now (counters .entry))) (words (now (scratch .exit))) (words (now (counters .exit))) r) ⌝ }
 {
-    let k = lower_plain(rule, at, n, scope.globals, scratch, sp);
+    let k = walks::leaves(rule, at, n, walks::NAME + scope.globals - 1, scratch, sp);
     lower_all(
         rule,
         at + k,

@@ -8,7 +8,7 @@ use Rattle.octets.specs.Words.{words}
 use Rattle.octets.proofs.Words.{length-words, length-words-kept}
 use Rattle.rules.specs.Words.{maxDepth, countOf}
 use Rattle.core_actions.specs.Acts.{ChangeAt}
-use Rattle.core_actions.proofs.Sites.{Site, site-of, given, given-as}
+use Rattle.core_actions.proofs.Sites.{Site, site-of, begun, begun-as}
 use Rattle.core_actions.proofs.Changes.{exprs-ask, Argued, argued, Fine, is-fine, Used}
 use Rattle.core_actions.proofs.Changes.{change-at, Changing, change-refused, change-full, change-done}
 use borrow.Author.Needs.{needs}
@@ -24,9 +24,9 @@ at-start : (c : tie.Start) (w : ℕ) → w ≡ getD (words (c .args .rule .now))
 at-start c w is =
     let k = site c in
     record {
-      given =
-          given-as
-          (given {X = λ sig. ChangeAt sig (k .ws) (c .args .more) (k .at)} (c .pre .0) (c .pre .1 .0) (c .pre .1 .1 .0)
+      begun =
+          begun-as
+          (begun {X = λ sig. ChangeAt sig (k .ws) (c .args .more) (k .at)} (c .pre .0) (c .pre .1 .0) (c .pre .1 .1 .0)
           (omega (arith, length-words (c .args .rule .now), c .good)) (omega (arith, length-words (c .args .scratch .now), c .good)))
           (change-at is);
       is = is;
@@ -34,10 +34,10 @@ at-start c w is =
     }
 
 add-get : tie.Need-add-get
-add-get c = omega (arith, at-start (c .before .before .before) _ refl .given)
+add-get c = omega (arith, at-start (c .before .before .before) _ refl .begun)
 
 get-requires : tie.Need-get-requires
-get-requires c κs = omega (arith, at-start (c .before .before .before) _ refl .given)
+get-requires c κs = omega (arith, at-start (c .before .before .before) _ refl .begun)
 
 abbrev start : tie.After-get → tie.Start
 start c = c .before .before .before .before
@@ -46,10 +46,10 @@ at-get : (c : tie.After-get) → Changing (site (start c)) (start c .args .code)
 at-get c = at-start (start c) _ (c .get .ensures .is)
 
 sub-h : tie.Need-sub-h
-sub-h c = at-get c .given .tree .it .high
+sub-h c = at-get c .begun .tree .it .high
 
 sub-n : tie.Need-sub-n
-sub-n c = at-get c .given .tree .it .high
+sub-n c = at-get c .begun .tree .it .high
 
 cast-n : tie.Need-cast-n
 cast-n c = search needs
@@ -58,10 +58,10 @@ add-n : tie.Need-add-n
 add-n c = omega (arith, at-get c .few)
 
 add-lower-arguments : tie.Need-add-lower-arguments
-add-lower-arguments c = omega (arith, at-get c .given)
+add-lower-arguments c = omega (arith, at-get c .begun)
 
 lower-arguments-requires : tie.Need-lower-arguments-requires
-lower-arguments-requires c κs = exprs-ask (at-get (c .before .before) .given)
+lower-arguments-requires c κs = exprs-ask (at-get (c .before .before) .begun)
 
 -- ---- the expressions
 
@@ -75,7 +75,7 @@ at-args : (c : tie.After-lower-arguments)
     (words (a .last .1 .1 .1 .1 .1 .1 .0)) (words (a .last .1 .1 .1 .1 .1 .0)) (a .result)
 at-args c =
     let a = c .lower-arguments in
-    argued (at-get (args-get c) .given) (length-words-kept _ _ (a .kept .1 .1 .1 .1 .1 .1 .0)) (length-words-kept _ _ (a .kept .1 .1 .1 .1 .1 .0)) (a .ensures)
+    argued (at-get (args-get c) .begun) (length-words-kept _ _ (a .kept .1 .1 .1 .1 .1 .1 .0)) (length-words-kept _ _ (a .kept .1 .1 .1 .1 .1 .0)) (a .ensures)
 
 same-length : tie.Need-same-length
 same-length c = search needs

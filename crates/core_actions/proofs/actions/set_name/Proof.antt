@@ -8,7 +8,7 @@ use Rattle.octets.specs.Words.{words}
 use Rattle.octets.proofs.Words.{length-words, length-words-kept}
 use Rattle.rules.specs.Words.{maxDepth, countOf}
 use Rattle.core_actions.specs.Acts.{NameCallAt}
-use Rattle.core_actions.proofs.Sites.{Site, site-of, given, given-as}
+use Rattle.core_actions.proofs.Sites.{Site, site-of, begun, begun-as}
 use Rattle.core_actions.proofs.Changes.{exprs-ask, Argued, argued, Fine, is-fine, Used}
 use Rattle.core_actions.proofs.NameSets.{name-call-at, Naming, args-refused, name-asks, name-refused, used-up, set-done}
 use borrow.Author.Needs.{needs}
@@ -25,9 +25,9 @@ at-start : (c : tie.Start) (v w : ℕ) → v ≡ getD (words (c .args .rule .now
 at-start c v w isv isw =
     let k = site c in
     record {
-      given =
-          given-as
-          (given {X = λ sig. NameCallAt sig (k .ws) (k .at)} (c .pre .0) (c .pre .1 .0) (c .pre .1 .1)
+      begun =
+          begun-as
+          (begun {X = λ sig. NameCallAt sig (k .ws) (k .at)} (c .pre .0) (c .pre .1 .0) (c .pre .1 .1)
           (omega (arith, length-words (c .args .rule .now), c .good)) (omega (arith, length-words (c .args .scratch .now), c .good)))
           (λ sig x. name-call-at isv isw sig x .call);
       isv = isv;
@@ -35,40 +35,40 @@ at-start c v w isv isw =
     }
 
 add-get : tie.Need-add-get
-add-get c = omega (arith, at-start (c .before .before .before) _ _ refl refl .given)
+add-get c = omega (arith, at-start (c .before .before .before) _ _ refl refl .begun)
 
 get-requires : tie.Need-get-requires
-get-requires c κs = omega (arith, at-start (c .before .before .before) _ _ refl refl .given)
+get-requires c κs = omega (arith, at-start (c .before .before .before) _ _ refl refl .begun)
 
 abbrev start : tie.After-get → tie.Start
 start c = c .before .before .before .before
 
 add-get-2 : tie.Need-add-get-2
-add-get-2 c = omega (arith, at-start (start c) _ _ refl refl .given)
+add-get-2 c = omega (arith, at-start (start c) _ _ refl refl .begun)
 
 get-requires-2 : tie.Need-get-requires-2
-get-requires-2 c κs = omega (arith, at-start (start c) _ _ refl refl .given)
+get-requires-2 c κs = omega (arith, at-start (start c) _ _ refl refl .begun)
 
 at-get : (c : tie.After-get2) → Naming (site (start (c .before))) (c .before .get .result) (c .get2 .result)
 at-get c = at-start (start (c .before)) _ _ (c .before .get .ensures .is) (c .get2 .ensures .is)
 
 sub-h : tie.Need-sub-h
-sub-h c = at-get c .given .tree .it .high
+sub-h c = at-get c .begun .tree .it .high
 
 sub-n : tie.Need-sub-n
-sub-n c = at-get c .given .tree .it .high
+sub-n c = at-get c .begun .tree .it .high
 
 cast-n : tie.Need-cast-n
 cast-n c = search needs
 
 add-lower-arguments : tie.Need-add-lower-arguments
-add-lower-arguments c = omega (arith, at-get c .given)
+add-lower-arguments c = omega (arith, at-get c .begun)
 
 sub-lower-arguments : tie.Need-sub-lower-arguments
 sub-lower-arguments c = search needs
 
 lower-arguments-requires : tie.Need-lower-arguments-requires
-lower-arguments-requires c κs = exprs-ask (at-get (c .before .before) .given)
+lower-arguments-requires c κs = exprs-ask (at-get (c .before .before) .begun)
 
 -- ---- the arguments
 
@@ -81,7 +81,7 @@ at-args : (c : tie.After-lower-arguments)
     Argued (site (start (args-get c .before))) 3 (maxDepth - 1) (countOf w) w (words (a .last .1 .1 .1 .1 .1 .1 .0)) (words (a .last .1 .1 .1 .1 .1 .0)) (a .result)
 at-args c =
     let a = c .lower-arguments in
-    argued (at-get (args-get c) .given) (length-words-kept _ _ (a .kept .1 .1 .1 .1 .1 .1 .0)) (length-words-kept _ _ (a .kept .1 .1 .1 .1 .1 .0)) (a .ensures)
+    argued (at-get (args-get c) .begun) (length-words-kept _ _ (a .kept .1 .1 .1 .1 .1 .1 .0)) (length-words-kept _ _ (a .kept .1 .1 .1 .1 .1 .0)) (a .ensures)
 
 same-length : tie.Need-same-length
 same-length c = search needs
