@@ -1,7 +1,7 @@
 -- The row of a call's arguments, as the loop over it walks it: what is so between two turns, and what each turn leaves. Assumes nothing.
 use mathlib.Core.Path.{_≡_}
 use mathlib.Core.List.{List}
-use Prim.Native.Nat.{ℕ, _+_, _-_, _≤_, _<_}
+use Prim.Native.Nat.{ℕ, _+_, _-_, _^_, _≤_, _<_}
 use native.Mathlib.Omega.{arith}
 use lib.ListN.{length, set}
 use Rattle.rules.specs.Signature.{Sig}
@@ -20,6 +20,7 @@ use Rattle.core_actions.proofs.Expressions.{standing, scope-room, scope
 pub record Row (ws : List ℕ) (d n at to sp lg : ℕ) (sc : Scope) (s cs : List ℕ) (left top : ℕ) (s1 cs1 : List ℕ) (w : Walk) : Type 0 where
   pub start : Room (length ws) at to sp lg (length s)
   pub scope : ScopeRoom (length ws) at to sp sc
+  pub fits : length s < 2 ^ 64
   pub known : Under (λ sig. ExprsAt sig ws d n at × Counted sig cs × Names sig s sc)
   pub going : Going at to sp lg s cs top s1 cs1 w
   pub rest : (sig : Sig) (x : ExprsAt sig ws d n at) (bound : List ℕ) → Counted sig cs → Scoped sig bound s sc
@@ -27,11 +28,12 @@ pub record Row (ws : List ℕ) (d n at to sp lg : ℕ) (sc : Scope) (s cs : List
 
 -- at the start all are left
 pub row-start : {ws : List ℕ} {d n at to sp lg : ℕ} {sc : Scope} {s cs : List ℕ} → Room (length ws) at to sp lg (length s) → ScopeRoom (length ws) at to sp sc
-    → Under (λ sig. ExprsAt sig ws d n at × Counted sig cs × Names sig s sc) → Row ws d n at to sp lg sc s cs n sp s cs (standing at to lg)
-row-start {ws} {d} {n} {at} {to} {sp} {lg} {sc} {s} {cs} room scope known =
+    → length s < 2 ^ 64 → Under (λ sig. ExprsAt sig ws d n at × Counted sig cs × Names sig s sc) → Row ws d n at to sp lg sc s cs n sp s cs (standing at to lg)
+row-start {ws} {d} {n} {at} {to} {sp} {lg} {sc} {s} {cs} room scope fits known =
     record {
       start = room;
       scope = scope;
+      fits = fits;
       known = known;
       going = going-start at to sp lg 0 s cs;
       rest = λ sig x bound c i. left-all (lowered sig bound) (loweredAll sig bound) (lowered-row sig bound) sig ws d n at to sp lg s cs x 0;
@@ -56,6 +58,13 @@ module _ {ws : List ℕ} {d n at to sp lg : ℕ} {sc : Scope} {s cs : List ℕ} 
   row-scope = scope-room (length ws) (row .scope) (row .going)
 
   module _ (m : Turn ws d at left top s cs s1 cs1 w) where
+    -- the place of its term lies in the scratch
+    pub top-inside : top < length s1
+    top-inside = omega (arith, m .room .stack, m .room .log, m .inside)
+
+    pub top-fits : top + 1 < 2 ^ 64
+    top-fits = omega (arith, top-inside, m .scratch, row .fits)
+
     -- and what was in scope at the start is in scope there
     in-scope : {sig : Sig} {bound : List ℕ} → Scoped sig bound s sc → Scoped sig bound s1 sc
     in-scope x =
@@ -89,6 +98,7 @@ module _ {ws : List ℕ} {d n at to sp lg : ℕ} {sc : Scope} {s cs : List ℕ} 
           record {
             start = row .start;
             scope = row .scope;
+            fits = row .fits;
             known = q;
             going =
                 left-going (lowered (q .sig) b) (loweredAll (q .sig) b) (lowered-row (q .sig) b) (q .sig) ws d n at to sp lg s cs (q .known .0) left top s1 cs1 w

@@ -1,17 +1,20 @@
--- Lowering an expression and a row of arguments: the one proof of their cycle. The depth falls at each call's arguments. What is known at a place of
--- the code is said once, as a record of `Arguments` or `Calls`, and the needs behind that place cite it. Assumes nothing.
+-- Lowering an expression and a row of arguments: the one proof of their cycle. The depth falls at each call's arguments; a name or a literal is its own
+-- term, a call's term is the variable that its action binds, and what is left of a row makes the whole. Assumes nothing.
 use Prim.Native.Nat.{ℕ, _+_, _*_, _-_, _<_}
 use mathlib.Core.Path.{_≡_, refl, _∙_}
+use mathlib.Core.List.{List}
 use native.Mathlib.Omega.{arith}
-use lib.ListN.{length}
+use lib.ListN.{length, getD}
 use Rattle.octets.specs.Words.{words}
 use Rattle.octets.proofs.Words.{length-words, length-words-kept}
-use Rattle.walks.proofs.Asks.{expr-inside, CallFacts, call-facts}
+use Rattle.rules.specs.Signature.{Sig}
 use Rattle.walks.proofs.Turns.{Turn}
+use Rattle.core_actions.specs.Scopes.{Scoped}
 use Rattle.core_actions.proofs.Scopes.{scope-fits}
-use Rattle.core_actions.proofs.Expressions.{scope-in, read-way, unbound-way}
-use Rattle.core_actions.proofs.Arguments.{Row, row-start, row-done, row-turn, row-scope, row-known, row-stop, row-next}
-use Rattle.core_actions.proofs.Calls.{Argued, argued-stop, argued-room, argued-full, argued-done}
+use Rattle.core_actions.proofs.Expressions.{scope-in}
+use Rattle.core_actions.proofs.Arguments.{Row, row-start, row-done, row-turn, top-inside, top-fits, row-scope, row-known, row-stop, row-next}
+use Rattle.core_actions.proofs.Calls.{Place, place, Begun, word-inside, args-room, leaf-read, leaf-unbound, Called, called, Argued, args-refused}
+use Rattle.core_actions.proofs.Calls.{Fine, is-fine, Used, used-up, call-done}
 use borrow.Author.Needs.{needs}
 use borrow.Fn.Kinds.{In}
 use borrow.Fn.PlainCycle.{Measures, is, falls, and}
@@ -68,240 +71,319 @@ lower-calls t = (
 abbrev lower-all-calls : ℕ → lower-all-lts.Claims
 lower-all-calls t = (lower-below t, lower.Post, put-reads.Asked, put-reads.Learnt)
 
--- ---- lower: a name or a literal by its scope, and a call by the walk of its arguments
+-- ---- lower: what is known, place by place
 
--- its word stands in the rule
-lower-inside : (t : ℕ) (c : lower-lts.Start (lower-calls t) (lower-at t) lower.Post) → c .args .at < length (words (c .args .rule .now))
-lower-inside t c = expr-inside (c .pre .1 .0 .sig) (words (c .args .rule .now)) (c .args .depth) (c .args .at) (c .pre .1 .0 .known .0)
+module _ (t : ℕ) where
+  -- the expression, by its word w
+  abbrev expr : lower-lts.Start (lower-calls t) (lower-at t) lower.Post → ℕ → Place
+  expr c w =
+      let a = c .args in
+      place (words (a .rule .now)) (words (a .scratch .now)) (words (a .counters .now)) (a .depth) (a .at) (a .to) (a .sp) (a .log) w
 
--- where it is no name or literal, it is a call's
-lower-call : (t : ℕ) (c : lower-lts.Else1 (lower-calls t) (lower-at t) lower.Post)
-    → let s = c .before .before .before .before .before in
-    let a = s .args in
-    CallFacts (s .pre .1 .0 .sig) (words (a .rule .now)) (a .depth) (a .at) (c .before .get .result) (words (a .counters .now))
-lower-call t c =
-    let s = c .before .before .before .before .before in
-    let a = s .args in
-    let q = s .pre .1 .0 in
-    let g = c .before .get in
-    call-facts (q .sig) (words (a .rule .now)) (a .depth) (a .at) (words (a .counters .now)) (g .result) (q .known .0) (q .known .1) (g .ensures .is) (c .if1 .left)
+  -- which names are bound, the scratch says
+  abbrev Bound : lower-lts.Start (lower-calls t) (lower-at t) lower.Post → Sig → List ℕ → Type 0
+  Bound c sig bound = Scoped sig bound (words (c .args .scratch .now)) (c .args .scope)
 
--- and what is known behind the walk of its arguments
-lower-argued : (t : ℕ) (c : lower-lts.After-lower-all (lower-calls t) (lower-at t) lower.Post)
-    → let a = c .before .before .before .before .before .before .before .before .before .args in
-    let k = c .lower-all in
-    Argued (words (a .rule .now)) (words (a .scratch .now)) (words (a .counters .now)) (a .depth) (a .at) (a .to) (a .sp) (a .log) (c .before .before .before .before .before .get .result) (a .scope) (k .result)
-    (words (k .last .1 .1 .1 .1 .1 .1 .0)) (words (k .last .1 .1 .1 .1 .1 .0))
-lower-argued t c =
-    let s = c .before .before .before .before .before .before .before .before .before in
-    let a = s .args in
-    let k = c .lower-all in
-    record {
-      known = s .pre .1 .0;
-      is = c .before .before .before .before .before .get .ensures .is;
-      low = c .before .before .before .before .if1 .left;
-      room = s .pre .1 .1 .0;
-      counters = length-words-kept (k .last .1 .1 .1 .1 .1 .0) (a .counters .now) (k .kept .1 .1 .1 .1 .1 .0);
-      scratch = length-words-kept (k .last .1 .1 .1 .1 .1 .1 .0) (a .scratch .now) (k .kept .1 .1 .1 .1 .1 .1 .0);
-      walk = k .ensures;
-    }
+  lower-start : (c : lower-lts.Start (lower-calls t) (lower-at t) lower.Post) (w : ℕ) → w ≡ getD (words (c .args .rule .now)) (c .args .at) 0 → Begun (expr c w) (Bound c)
+  lower-start c w is =
+      let q = c .pre .1 .0 in
+      record {
+        known = record { sig = q .sig; known = (q .known .0, q .known .1) };
+        bound = q .known .2 .bound;
+        binds = q .known .2 .scoped;
+        room = c .pre .1 .1 .0;
+        ruleFits = omega (arith, length-words (c .args .rule .now), c .good);
+        scratchFits = omega (arith, length-words (c .args .scratch .now), c .good);
+        is = is;
+      }
 
-lower-get-requires : (t : ℕ) → lower-lts.Need-get-requires (lower-calls t) (lower-at t) lower.Post
-lower-get-requires t c κs = lower-inside t (c .before .before .before)
+  abbrev start : lower-lts.After-get (lower-calls t) (lower-at t) lower.Post → lower-lts.Start (lower-calls t) (lower-at t) lower.Post
+  start c = c .before .before .before .before
 
-lower-may-read-requires : (t : ℕ) → lower-lts.Need-may-read-requires (lower-calls t) (lower-at t) lower.Post
-lower-may-read-requires t c κs = scope-fits (c .before .before .before .before .before .before .pre .1 .1 .1) (c .before .before .before .before .before .before .pre .1 .1 .0) (omega (arith, lower-inside t (c .before .before .before .before .before .before)))
+  -- its word is read
+  lower-word : (c : lower-lts.After-get (lower-calls t) (lower-at t) lower.Post) → Begun (expr (start c) (c .get .result)) (Bound (start c))
+  lower-word c = lower-start (start c) (c .get .result) (c .get .ensures .is)
 
-lower-add-t20 : (t : ℕ) → lower-lts.Need-add-t20 (lower-calls t) (lower-at t) lower.Post
-lower-add-t20 t c = omega (arith, lower-inside t (c .before .before .before .before .before .before .before .before), length-words (c .before .before .before .before .before .before .before .before .args .rule .now), c .before .before .before .before .before .before .before .before .good)
+  -- where it is no name or literal, it is a call's
+  lower-call : (c : lower-lts.Else1 (lower-calls t) (lower-at t) lower.Post) → Called (lower-word (c .before))
+  lower-call c = called (lower-word (c .before)) (c .if1 .left)
 
-lower-same-length : (t : ℕ) → lower-lts.Need-same-length (lower-calls t) (lower-at t) lower.Post
-lower-same-length t c = search needs
+  -- back from behind the arguments to where the call is known
+  abbrev args-call : lower-lts.After-lower-all (lower-calls t) (lower-at t) lower.Post → lower-lts.Else1 (lower-calls t) (lower-at t) lower.Post
+  args-call c = c .before .before .before .before
 
-lower-returns : (t : ℕ) → lower-lts.Need-returns (lower-calls t) (lower-at t) lower.Post
-lower-returns t c =
-    let a = c .before .before .before .before .before .before .before .before .args in
-    let g = c .before .before .before .before .get in
-    let m = c .before .may-read in
-    λ sig x bound n sc. read-way sig bound _ (a .depth) (a .at) (a .to) (a .sp) (a .log) _ _ x n (g .result) (g .ensures .is) (c .before .before .before .if1 .taken) (m .result) (m .ensures sig bound sc) (c .if2 .taken)
+  -- the arguments are walked
+  lower-argued : (c : lower-lts.After-lower-all (lower-calls t) (lower-at t) lower.Post)
+      → let k = c .lower-all in Argued (lower-call (args-call c)) (words (k .last .1 .1 .1 .1 .1 .1 .0)) (words (k .last .1 .1 .1 .1 .1 .0)) (k .result)
+  lower-argued c =
+      let k = c .lower-all in
+      record { walk = k .ensures; counters = length-words-kept _ _ (k .kept .1 .1 .1 .1 .1 .0); scratch = length-words-kept _ _ (k .kept .1 .1 .1 .1 .1 .1 .0) }
 
-lower-same-length-2 : (t : ℕ) → lower-lts.Need-same-length-2 (lower-calls t) (lower-at t) lower.Post
-lower-same-length-2 t c = search needs
+  abbrev fine-args : lower-lts.Else4 (lower-calls t) (lower-at t) lower.Post → lower-lts.After-lower-all (lower-calls t) (lower-at t) lower.Post
+  fine-args c = c .before .before .before .before .before .before
 
-lower-returns-2 : (t : ℕ) → lower-lts.Need-returns-2 (lower-calls t) (lower-at t) lower.Post
-lower-returns-2 t c =
-    let a = c .before .before .before .before .before .before .before .before .args in
-    let g = c .before .before .before .before .get in
-    let m = c .before .may-read in
-    λ sig x bound n sc. unbound-way sig bound _ (a .depth) (a .at) (a .to) (a .sp) (a .log) _ _ x n (g .result) (g .ensures .is) (c .before .before .before .if1 .taken) (m .result) (m .ensures sig bound sc) (c .if2 .left)
+  -- and they are fine
+  lower-fine : (c : lower-lts.Else4 (lower-calls t) (lower-at t) lower.Post) → Fine (lower-argued (fine-args c))
+  lower-fine c = is-fine (lower-argued (fine-args c)) (c .if4 .left)
 
-lower-sub-h : (t : ℕ) → lower-lts.Need-sub-h (lower-calls t) (lower-at t) lower.Post
-lower-sub-h t c = omega (arith, lower-call t c .high)
+  abbrev take-fine : lower-lts.After-take (lower-calls t) (lower-at t) lower.Post → lower-lts.Else4 (lower-calls t) (lower-at t) lower.Post
+  take-fine c = c .before .before .before
 
-lower-sub-n : (t : ℕ) → lower-lts.Need-sub-n (lower-calls t) (lower-at t) lower.Post
-lower-sub-n t c = omega (arith, lower-call t c .high)
+  -- a fresh variable is taken
+  lower-used : (c : lower-lts.After-take (lower-calls t) (lower-at t) lower.Post)
+      → Used (lower-fine (take-fine c)) (words (c .take .last .1 .0)) (words (c .take .last .0)) (c .take .result)
+  lower-used c =
+      let v = c .take in
+      record { taken = v .ensures; size = length-words-kept _ _ (v .kept .1 .0); counters = length-words-kept _ _ (v .kept .0) }
 
-lower-lower-bare-requires : (t : ℕ) → lower-lts.Need-lower-bare-requires (lower-calls t) (lower-at t) lower.Post
-lower-lower-bare-requires t c κs =
-    let s = c .before .before .before .before .before .before .before .before in
-    let q = s .pre .1 .0 in
-    (record { sig = q .sig; known = (q .known .0, q .known .1) }, (s .pre .1 .1 .0, (c .before .before .before .before .get .ensures .is, c .before .before .before .if1 .left, c .before .before .if3 .taken)))
+  -- both slices are as long as at the start
+  counters-kept : (c : lower-lts.After-take (lower-calls t) (lower-at t) lower.Post)
+      → length (c .take .last .0) ≡ length (start (args-call (fine-args (take-fine c)) .before) .args .counters .now)
+  counters-kept c = c .take .kept .0 ∙ fine-args (take-fine c) .lower-all .kept .1 .1 .1 .1 .1 .0
 
-lower-same-length-3 : (t : ℕ) → lower-lts.Need-same-length-3 (lower-calls t) (lower-at t) lower.Post
-lower-same-length-3 t c = search needs
+  scratch-kept : (c : lower-lts.After-take (lower-calls t) (lower-at t) lower.Post)
+      → length (c .take .last .1 .0) ≡ length (start (args-call (fine-args (take-fine c)) .before) .args .scratch .now)
+  scratch-kept c = c .take .kept .1 .0 ∙ fine-args (take-fine c) .lower-all .kept .1 .1 .1 .1 .1 .1 .0
 
-lower-same-length-4 : (t : ℕ) → lower-lts.Need-same-length-4 (lower-calls t) (lower-at t) lower.Post
-lower-same-length-4 t c = search needs
+  -- ---- a name or a literal
 
-lower-returns-3 : (t : ℕ) → lower-lts.Need-returns-3 (lower-calls t) (lower-at t) lower.Post
-lower-returns-3 t c = λ sig x bound n sc. c .before .before .before .before .lower-bare .ensures sig x bound n
+  lower-get-requires : lower-lts.Need-get-requires (lower-calls t) (lower-at t) lower.Post
+  lower-get-requires c κs = word-inside (lower-start (c .before .before .before) _ refl)
 
-lower-add-lower-all : (t : ℕ) → lower-lts.Need-add-lower-all (lower-calls t) (lower-at t) lower.Post
-lower-add-lower-all t c = omega (arith, lower-call t (c .before) .inside, length-words (c .before .before .before .before .before .before .args .rule .now))
+  lower-may-read-requires : lower-lts.Need-may-read-requires (lower-calls t) (lower-at t) lower.Post
+  lower-may-read-requires c κs =
+      let g = c .before .before in
+      scope-fits (start g .pre .1 .1 .1) (start g .pre .1 .1 .0) (omega (arith, word-inside (lower-word g)))
 
-lower-cast-lower-all : (t : ℕ) → lower-lts.Need-cast-lower-all (lower-calls t) (lower-at t) lower.Post
-lower-cast-lower-all t c = search needs
+  lower-add-t20 : lower-lts.Need-add-t20 (lower-calls t) (lower-at t) lower.Post
+  lower-add-t20 c = let g = lower-word (c .before .before .before .before) in omega (arith, word-inside g, g .ruleFits)
 
-lower-sub-lower-all : (t : ℕ) → lower-lts.Need-sub-lower-all (lower-calls t) (lower-at t) lower.Post
-lower-sub-lower-all t c = omega (arith, lower-call t (c .before) .deep)
+  lower-same-length : lower-lts.Need-same-length (lower-calls t) (lower-at t) lower.Post
+  lower-same-length c = search needs
 
-lower-lower-all-requires : (t : ℕ) → lower-lts.Need-lower-all-requires (lower-calls t) (lower-at t) lower.Post
-lower-lower-all-requires t c κs =
-    let s = c .before .before .before .before .before .before .before .before in
-    let q = s .pre .1 .0 in
-    let room = s .pre .1 .1 .0 in
-    let f = lower-call t (c .before .before .before) in (
-      omega (arith, s .pre .0, f .inside, f .deep),
-      (
-        record { sig = q .sig; known = (f .args, q .known .1, q .known .2) },
-        (record { words = omega (arith, room .words); stack = omega (arith, room .stack); log = omega (arith, room .log) }, scope-in (s .pre .1 .1 .1)),
-      ),
-    )
+  lower-returns : lower-lts.Need-returns (lower-calls t) (lower-at t) lower.Post
+  lower-returns c = let l = c .before .before .before in leaf-read (lower-word (l .before)) (l .if1 .taken) (c .before .may-read .ensures) (c .if2 .taken)
 
-lower-same-length-5 : (t : ℕ) → lower-lts.Need-same-length-5 (lower-calls t) (lower-at t) lower.Post
-lower-same-length-5 t c = search needs
+  lower-same-length-2 : lower-lts.Need-same-length-2 (lower-calls t) (lower-at t) lower.Post
+  lower-same-length-2 c = search needs
 
-lower-same-length-6 : (t : ℕ) → lower-lts.Need-same-length-6 (lower-calls t) (lower-at t) lower.Post
-lower-same-length-6 t c = search needs
+  lower-returns-2 : lower-lts.Need-returns-2 (lower-calls t) (lower-at t) lower.Post
+  lower-returns-2 c = let l = c .before .before .before in leaf-unbound (lower-word (l .before)) (l .if1 .taken) (c .before .may-read .ensures) (c .if2 .left)
 
-lower-returns-4 : (t : ℕ) → lower-lts.Need-returns-4 (lower-calls t) (lower-at t) lower.Post
-lower-returns-4 t c = argued-stop (lower-argued t (c .before .before .before .before .before .before)) (c .if4 .taken)
+  -- ---- a call without arguments
 
-lower-take-requires : (t : ℕ) → lower-lts.Need-take-requires (lower-calls t) (lower-at t) lower.Post
-lower-take-requires t c κs =
-    let f = lower-call t (c .before .before .before .before .before .before .before .before .before .before .before .before) in
-    let b = lower-argued t (c .before .before .before .before .before .before .before .before) in
-    (f .small, omega (arith, f .low, b .counters), argued-room b (c .before .before .if4 .left) _ refl .0)
+  lower-sub-h : lower-lts.Need-sub-h (lower-calls t) (lower-at t) lower.Post
+  lower-sub-h c = omega (arith, lower-call c .facts .high)
 
-lower-same-length-7 : (t : ℕ) → lower-lts.Need-same-length-7 (lower-calls t) (lower-at t) lower.Post
-lower-same-length-7 t c = c .before .before .before .before .before .take .kept .0 ∙ c .before .before .before .before .before .before .before .before .before .before .before .before .before .before .lower-all .kept .1 .1 .1 .1 .1 .0
+  lower-sub-n : lower-lts.Need-sub-n (lower-calls t) (lower-at t) lower.Post
+  lower-sub-n c = omega (arith, lower-call c .facts .high)
 
-lower-same-length-8 : (t : ℕ) → lower-lts.Need-same-length-8 (lower-calls t) (lower-at t) lower.Post
-lower-same-length-8 t c = c .before .before .before .before .before .take .kept .1 .0 ∙ c .before .before .before .before .before .before .before .before .before .before .before .before .before .before .lower-all .kept .1 .1 .1 .1 .1 .1 .0
+  lower-lower-bare-requires : lower-lts.Need-lower-bare-requires (lower-calls t) (lower-at t) lower.Post
+  lower-lower-bare-requires c κs =
+      let z = c .before .before in
+      let g = lower-word (z .before .before) in
+      (g .known, (g .room, (g .is, lower-call (z .before) .low, z .if3 .taken)))
 
-lower-returns-5 : (t : ℕ) → lower-lts.Need-returns-5 (lower-calls t) (lower-at t) lower.Post
-lower-returns-5 t c = let v = c .before .before .before .before .before .take in argued-full (lower-argued t (c .before .before .before .before .before .before .before .before .before .before .before .before .before .before)) (c .before .before .before .before .before .before .before .before .if4 .left) (v .result) (words (v .last .1 .0)) (words (v .last .0)) (v .ensures) (c .if5 .taken)
+  lower-same-length-3 : lower-lts.Need-same-length-3 (lower-calls t) (lower-at t) lower.Post
+  lower-same-length-3 c = search needs
 
-lower-cast-put-call : (t : ℕ) → lower-lts.Need-cast-put-call (lower-calls t) (lower-at t) lower.Post
-lower-cast-put-call t c = search needs
+  lower-same-length-4 : lower-lts.Need-same-length-4 (lower-calls t) (lower-at t) lower.Post
+  lower-same-length-4 c = search needs
 
-lower-put-call-requires : (t : ℕ) → lower-lts.Need-put-call-requires (lower-calls t) (lower-at t) lower.Post
-lower-put-call-requires t c κs =
-    let v = c .before .before .before .before .before .before .take in
-    let r = argued-room (lower-argued t (c .before .before .before .before .before .before .before .before .before .before .before .before .before .before .before)) (c .before .before .before .before .before .before .before .before .before .if4 .left) _ (length-words-kept (v .last .1 .0) (c .before .before .before .before .before .before .before .before .before .before .before .before .before .before .before .lower-all .last .1 .1 .1 .1 .1 .1 .0) (v .kept .1 .0)) in
-    (r .1, r .2)
+  lower-returns-3 : lower-lts.Need-returns-3 (lower-calls t) (lower-at t) lower.Post
+  lower-returns-3 c = λ sig x bound n sc. c .before .before .before .before .lower-bare .ensures sig x bound n
 
-lower-add-t27 : (t : ℕ) → lower-lts.Need-add-t27 (lower-calls t) (lower-at t) lower.Post
-lower-add-t27 t c =
-    let b = lower-argued t (c .before .before .before .before .before .before .before .before .before .before .before .before .before .before .before .before .before .before .before) in
-    omega (arith, argued-room b (c .before .before .before .before .before .before .before .before .before .before .before .before .before .if4 .left) _ refl .0, length-words (c .before .before .before .before .before .before .before .before .before .before .before .before .before .before .before .before .before .before .before .before .before .before .before .before .before .before .before .before .args .scratch .now), b .scratch, c .before .before .before .before .before .before .before .before .before .before .before .before .before .before .before .before .before .before .before .before .before .before .before .before .before .before .before .before .good)
+  -- ---- a call: its arguments
 
-lower-same-length-9 : (t : ℕ) → lower-lts.Need-same-length-9 (lower-calls t) (lower-at t) lower.Post
-lower-same-length-9 t c = c .before .before .before .before .before .before .before .before .before .before .take .kept .0 ∙ c .before .before .before .before .before .before .before .before .before .before .before .before .before .before .before .before .before .before .before .lower-all .kept .1 .1 .1 .1 .1 .0
+  lower-add-lower-all : lower-lts.Need-add-lower-all (lower-calls t) (lower-at t) lower.Post
+  lower-add-lower-all c = let g = lower-word (c .before .before) in omega (arith, word-inside g, g .ruleFits)
 
-lower-same-length-10 : (t : ℕ) → lower-lts.Need-same-length-10 (lower-calls t) (lower-at t) lower.Post
-lower-same-length-10 t c = c .before .before .before .put-call .kept .0 ∙ c .before .before .before .before .before .before .before .before .before .before .take .kept .1 .0 ∙ c .before .before .before .before .before .before .before .before .before .before .before .before .before .before .before .before .before .before .before .lower-all .kept .1 .1 .1 .1 .1 .1 .0
+  lower-cast-lower-all : lower-lts.Need-cast-lower-all (lower-calls t) (lower-at t) lower.Post
+  lower-cast-lower-all c = search needs
 
-lower-returns-6 : (t : ℕ) → lower-lts.Need-returns-6 (lower-calls t) (lower-at t) lower.Post
-lower-returns-6 t c =
-    let v = c .before .before .before .before .before .before .before .before .before .before .take in
-    let p = c .before .before .before .put-call in
-    argued-done (lower-argued t (c .before .before .before .before .before .before .before .before .before .before .before .before .before .before .before .before .before .before .before)) (c .before .before .before .before .before .before .before .before .before .before .before .before .before .if4 .left) (v .result) (words (v .last .1 .0)) (words (v .last .0)) (v .ensures) _ _ (c .before .before .before .before .before .if5 .left)
-    (length-words-kept (v .last .0) _ (v .kept .0)) (length-words-kept (v .last .1 .0) _ (v .kept .1 .0)) (p .ensures .0) (p .ensures .1)
+  lower-sub-lower-all : lower-lts.Need-sub-lower-all (lower-calls t) (lower-at t) lower.Post
+  lower-sub-lower-all c = omega (arith, lower-call (c .before) .facts .deep)
 
--- ---- lower_all: what is left of the row makes the whole, and no turn changes how long the lists are
+  lower-lower-all-requires : lower-lts.Need-lower-all-requires (lower-calls t) (lower-at t) lower.Post
+  lower-lower-all-requires c κs =
+      let e = c .before .before .before in
+      let s = start (e .before) in
+      let g = lower-word (e .before) in
+      let f = lower-call e .facts in (
+        omega (arith, s .pre .0, f .inside, f .deep),
+        (
+          record { sig = g .known .sig; known = (f .args, g .known .known .1, record { bound = g .bound; scoped = g .binds }) },
+          (args-room g, scope-in (s .pre .1 .1 .1)),
+        ),
+      )
 
-abbrev lower-all-Inv-loop : lower-all-lts.InvT-loop
-lower-all-Inv-loop rule at n depth scope counters₀ scratch₀ to sp log left₀ top₀ walk₀ counters scratch left top walk =
+  lower-same-length-5 : lower-lts.Need-same-length-5 (lower-calls t) (lower-at t) lower.Post
+  lower-same-length-5 c = search needs
+
+  lower-same-length-6 : lower-lts.Need-same-length-6 (lower-calls t) (lower-at t) lower.Post
+  lower-same-length-6 c = search needs
+
+  lower-returns-4 : lower-lts.Need-returns-4 (lower-calls t) (lower-at t) lower.Post
+  lower-returns-4 c = args-refused (lower-argued (c .before .before .before .before .before .before)) (c .if4 .taken)
+
+  -- ---- its fresh variable
+
+  lower-take-requires : lower-lts.Need-take-requires (lower-calls t) (lower-at t) lower.Post
+  lower-take-requires c κs =
+      let e = c .before .before in
+      (lower-call (args-call (fine-args e)) .facts .small, lower-fine e .head, lower-fine e .log)
+
+  lower-same-length-7 : lower-lts.Need-same-length-7 (lower-calls t) (lower-at t) lower.Post
+  lower-same-length-7 c = counters-kept (c .before .before .before .before .before)
+
+  lower-same-length-8 : lower-lts.Need-same-length-8 (lower-calls t) (lower-at t) lower.Post
+  lower-same-length-8 c = scratch-kept (c .before .before .before .before .before)
+
+  lower-returns-5 : lower-lts.Need-returns-5 (lower-calls t) (lower-at t) lower.Post
+  lower-returns-5 c = used-up (lower-used (c .before .before .before .before .before)) (c .if5 .taken)
+
+  -- ---- its own action
+
+  abbrev put-take : lower-lts.Else5 (lower-calls t) (lower-at t) lower.Post → lower-lts.After-take (lower-calls t) (lower-at t) lower.Post
+  put-take c = c .before .before .before .before .before
+
+  lower-cast-put-call : lower-lts.Need-cast-put-call (lower-calls t) (lower-at t) lower.Post
+  lower-cast-put-call c = search needs
+
+  lower-put-call-requires : lower-lts.Need-put-call-requires (lower-calls t) (lower-at t) lower.Post
+  lower-put-call-requires c κs =
+      let v = put-take (c .before) in
+      let f = lower-fine (take-fine v) in
+      (f .words, omega (arith, f .stack, lower-used v .size))
+
+  -- back from its end to where it is written
+  abbrev end-put : lower-lts.After-struct-known2 (lower-calls t) (lower-at t) lower.Post → lower-lts.Else5 (lower-calls t) (lower-at t) lower.Post
+  end-put c = c .before .before .before .before .before
+
+  lower-add-t27 : lower-lts.Need-add-t27 (lower-calls t) (lower-at t) lower.Post
+  lower-add-t27 c = omega (arith, lower-fine (take-fine (put-take (end-put c))))
+
+  lower-same-length-9 : lower-lts.Need-same-length-9 (lower-calls t) (lower-at t) lower.Post
+  lower-same-length-9 c = counters-kept (put-take (end-put c))
+
+  lower-same-length-10 : lower-lts.Need-same-length-10 (lower-calls t) (lower-at t) lower.Post
+  lower-same-length-10 c = c .before .before .before .put-call .kept .0 ∙ scratch-kept (put-take (end-put c))
+
+  lower-returns-6 : lower-lts.Need-returns-6 (lower-calls t) (lower-at t) lower.Post
+  lower-returns-6 c = call-done (lower-used (put-take (end-put c))) (end-put c .if5 .left) (c .before .before .before .put-call .ensures)
+
+-- ---- lower_all: what is left of the row makes the whole, and no turn changes how long the slices are
+
+abbrev Inv : lower-all-lts.InvT-loop
+Inv rule at n depth scope counters₀ scratch₀ to sp log left₀ top₀ walk₀ counters scratch left top walk =
     (length counters ≡ length counters₀) × (length scratch ≡ length scratch₀)
     × (Row (words rule) depth n at to sp log scope (words scratch₀) (words counters₀) left top (words scratch) (words counters) walk)
 
-abbrev lower-all-μ-loop : lower-all-lts.MeasureT-loop
-lower-all-μ-loop rule at n depth scope counters₀ scratch₀ to sp log left₀ top₀ walk₀ counters scratch left top walk = left
+abbrev μ : lower-all-lts.MeasureT-loop
+μ rule at n depth scope counters₀ scratch₀ to sp log left₀ top₀ walk₀ counters scratch left top walk = left
 
-lower-all-loop-holds : (t : ℕ) → lower-all-lts.Need-loop-holds (lower-all-calls t) (lower-all-at t) lower-all.Post lower-all-Inv-loop lower-all-μ-loop
-lower-all-loop-holds t c = (refl, refl, row-start (c .before .before .before .pre .1 .1 .0) (c .before .before .before .pre .1 .1 .1) (c .before .before .before .pre .1 .0))
+module _ (t : ℕ) where
+  lower-all-loop-holds : lower-all-lts.Need-loop-holds (lower-all-calls t) (lower-all-at t) lower-all.Post Inv μ
+  lower-all-loop-holds c =
+      let s = c .before .before .before in
+      (refl, refl, row-start (s .pre .1 .1 .0) (s .pre .1 .1 .1) (omega (arith, length-words (s .args .scratch .now), s .good)) (s .pre .1 .0))
 
--- what each turn's calls ask
-lower-all-turn : (t : ℕ) (c : lower-all-lts.In-loop (lower-all-calls t) (lower-all-at t) lower-all.Post lower-all-Inv-loop lower-all-μ-loop)
-    → let a = c .before .before .before .before .before .args in
-    let l = c .before .loop in
-    Turn (words (a .rule .now)) (a .depth) (a .at) (l .left) (l .top) (words (a .scratch .now)) (words (a .counters .now)) (words (l .scratch)) (words (l .counters)) (l .walk)
-lower-all-turn t c =
-    let a = c .before .before .before .before .before .args in
-    let l = c .before .loop in
-    row-turn (l .inv .2) (c .loop-test .taken) (length-words-kept (l .counters) (a .counters .now) (l .inv .0)) (length-words-kept (l .scratch) (a .scratch .now) (l .inv .1))
+  -- a turn
 
-lower-all-lower-requires : (t : ℕ) → lower-all-lts.Need-lower-requires (lower-all-calls t) (lower-all-at t) lower-all.Post lower-all-Inv-loop lower-all-μ-loop
-lower-all-lower-requires t c κs =
-    let l = c .before .before .before .loop in
-    let m = lower-all-turn t (c .before .before) in
-    (omega (arith, c .before .before .before .before .before .before .before .pre .0, m .on), (row-known (l .inv .2) m, (m .room, row-scope (l .inv .2))))
+  abbrev row-at : lower-all-lts.In-loop (lower-all-calls t) (lower-all-at t) lower-all.Post Inv μ → lower-all-lts.Start (lower-all-calls t) (lower-all-at t) lower-all.Post Inv μ
+  row-at c = c .before .before .before .before .before
 
-lower-all-same-length : (t : ℕ) → lower-all-lts.Need-same-length (lower-all-calls t) (lower-all-at t) lower-all.Post lower-all-Inv-loop lower-all-μ-loop
-lower-all-same-length t c = c .before .before .before .before .before .before .lower .kept .1 .1 .1 .1 .0 ∙ c .before .before .before .before .before .before .before .before .before .before .loop .inv .0
+  -- what its calls ask
+  lower-all-turn : (c : lower-all-lts.In-loop (lower-all-calls t) (lower-all-at t) lower-all.Post Inv μ)
+      → let a = row-at c .args in
+      let l = c .before .loop in
+      Turn (words (a .rule .now)) (a .depth) (a .at) (l .left) (l .top) (words (a .scratch .now)) (words (a .counters .now)) (words (l .scratch)) (words (l .counters)) (l .walk)
+  lower-all-turn c =
+      let l = c .before .loop in
+      row-turn (l .inv .2) (c .loop-test .taken) (length-words-kept _ _ (l .inv .0)) (length-words-kept _ _ (l .inv .1))
 
-lower-all-same-length-2 : (t : ℕ) → lower-all-lts.Need-same-length-2 (lower-all-calls t) (lower-all-at t) lower-all.Post lower-all-Inv-loop lower-all-μ-loop
-lower-all-same-length-2 t c = c .before .before .before .before .before .before .lower .kept .1 .1 .1 .1 .1 .0 ∙ c .before .before .before .before .before .before .before .before .before .before .loop .inv .1
+  lower-all-lower-requires : lower-all-lts.Need-lower-requires (lower-all-calls t) (lower-all-at t) lower-all.Post Inv μ
+  lower-all-lower-requires c κs =
+      let i = c .before .before in
+      let row = i .before .loop .inv .2 in
+      let m = lower-all-turn i in
+      (omega (arith, row-at i .pre .0, m .on), (row-known row m, (m .room, row-scope row)))
 
-lower-all-returns : (t : ℕ) → lower-all-lts.Need-returns (lower-all-calls t) (lower-all-at t) lower-all.Post lower-all-Inv-loop lower-all-μ-loop
-lower-all-returns t c = let k = c .before .before .before .before .before .before .lower in row-stop (c .before .before .before .before .before .before .before .before .before .before .loop .inv .2) (lower-all-turn t (c .before .before .before .before .before .before .before .before .before)) (words (k .last .1 .1 .1 .1 .1 .0)) (words (k .last .1 .1 .1 .1 .0)) (k .result) (k .ensures) (c .if1 .taken)
+  -- the argument is lowered
+  abbrev turn-of : lower-all-lts.After-lower (lower-all-calls t) (lower-all-at t) lower-all.Post Inv μ → lower-all-lts.In-loop (lower-all-calls t) (lower-all-at t) lower-all.Post Inv μ
+  turn-of c = c .before .before .before
 
-lower-all-put-requires : (t : ℕ) → lower-all-lts.Need-put-requires (lower-all-calls t) (lower-all-at t) lower-all.Post lower-all-Inv-loop lower-all-μ-loop
-lower-all-put-requires t c κs =
-    let m = lower-all-turn t (c .before .before .before .before .before .before .before .before .before .before) in
-    let k = c .before .before .before .before .before .before .before .lower in
-    omega (arith, m .room .stack, m .room .log, m .inside, length-words-kept (k .last .1 .1 .1 .1 .1 .0) (c .before .before .before .before .before .before .before .before .before .before .before .loop .scratch) (k .kept .1 .1 .1 .1 .1 .0))
+  row-counters : (c : lower-all-lts.After-lower (lower-all-calls t) (lower-all-at t) lower-all.Post Inv μ)
+      → length (c .lower .last .1 .1 .1 .1 .0) ≡ length (row-at (turn-of c) .args .counters .now)
+  row-counters c = c .lower .kept .1 .1 .1 .1 .0 ∙ turn-of c .before .loop .inv .0
 
-lower-all-add-top : (t : ℕ) → lower-all-lts.Need-add-top (lower-all-calls t) (lower-all-at t) lower-all.Post lower-all-Inv-loop lower-all-μ-loop
-lower-all-add-top t c =
-    let m = lower-all-turn t (c .before .before .before .before .before .before .before .before .before .before .before .before .before) in
-    omega (arith, m .room .stack, m .room .log, m .inside, m .scratch, length-words (c .before .before .before .before .before .before .before .before .before .before .before .before .before .before .before .before .before .before .args .scratch .now), c .before .before .before .before .before .before .before .before .before .before .before .before .before .before .before .before .before .before .good)
+  row-scratch : (c : lower-all-lts.After-lower (lower-all-calls t) (lower-all-at t) lower-all.Post Inv μ)
+      → length (c .lower .last .1 .1 .1 .1 .1 .0) ≡ length (row-at (turn-of c) .args .scratch .now)
+  row-scratch c = c .lower .kept .1 .1 .1 .1 .1 .0 ∙ turn-of c .before .loop .inv .1
 
-lower-all-sub-left : (t : ℕ) → lower-all-lts.Need-sub-left (lower-all-calls t) (lower-all-at t) lower-all.Post lower-all-Inv-loop lower-all-μ-loop
-lower-all-sub-left t c = omega (arith, c .before .before .before .before .before .before .before .before .before .before .before .before .before .loop-test .taken)
+  -- it is refused
 
-lower-all-loop-less : (t : ℕ) → lower-all-lts.Need-loop-less (lower-all-calls t) (lower-all-at t) lower-all.Post lower-all-Inv-loop lower-all-μ-loop
-lower-all-loop-less t c = omega (arith, c .before .before .before .before .before .before .before .before .before .before .before .before .before .loop-test .taken)
+  abbrev then-lower : lower-all-lts.Then1 (lower-all-calls t) (lower-all-at t) lower-all.Post Inv μ → lower-all-lts.After-lower (lower-all-calls t) (lower-all-at t) lower-all.Post Inv μ
+  then-lower c = c .before .before .before .before .before .before
 
-lower-all-loop-again : (t : ℕ) → lower-all-lts.Need-loop-again (lower-all-calls t) (lower-all-at t) lower-all.Post lower-all-Inv-loop lower-all-μ-loop
-lower-all-loop-again t c =
-    let l = c .before .before .before .before .before .before .before .before .before .before .before .before .before .before .loop in
-    let k = c .before .before .before .before .before .before .before .before .before .before .lower in
-    let p = c .before .before .put in (
-      k .kept .1 .1 .1 .1 .0 ∙ l .inv .0,
-      p .kept .0 ∙ k .kept .1 .1 .1 .1 .1 .0 ∙ l .inv .1,
-      row-next (l .inv .2) (lower-all-turn t (c .before .before .before .before .before .before .before .before .before .before .before .before .before)) (words (k .last .1 .1 .1 .1 .1 .0)) (words (k .last .1 .1 .1 .1 .0)) (k .result) (k .ensures) _ (c .before .before .before .before .if1 .left) (p .ensures),
-    )
+  lower-all-same-length : lower-all-lts.Need-same-length (lower-all-calls t) (lower-all-at t) lower-all.Post Inv μ
+  lower-all-same-length c = row-counters (then-lower c)
 
-lower-all-same-length-3 : (t : ℕ) → lower-all-lts.Need-same-length-3 (lower-all-calls t) (lower-all-at t) lower-all.Post lower-all-Inv-loop lower-all-μ-loop
-lower-all-same-length-3 t c = c .before .loop .inv .0
+  lower-all-same-length-2 : lower-all-lts.Need-same-length-2 (lower-all-calls t) (lower-all-at t) lower-all.Post Inv μ
+  lower-all-same-length-2 c = row-scratch (then-lower c)
 
-lower-all-same-length-4 : (t : ℕ) → lower-all-lts.Need-same-length-4 (lower-all-calls t) (lower-all-at t) lower-all.Post lower-all-Inv-loop lower-all-μ-loop
-lower-all-same-length-4 t c = c .before .loop .inv .1
+  lower-all-returns : lower-all-lts.Need-returns (lower-all-calls t) (lower-all-at t) lower-all.Post Inv μ
+  lower-all-returns c =
+      let l = then-lower c in
+      let k = l .lower in
+      row-stop (turn-of l .before .loop .inv .2) (lower-all-turn (turn-of l)) (words (k .last .1 .1 .1 .1 .1 .0)) (words (k .last .1 .1 .1 .1 .0)) (k .result) (k .ensures) (c .if1 .taken)
 
-lower-all-returns-2 : (t : ℕ) → lower-all-lts.Need-returns-2 (lower-all-calls t) (lower-all-at t) lower-all.Post lower-all-Inv-loop lower-all-μ-loop
-lower-all-returns-2 t c = row-done (c .before .loop .inv .2) (omega (arith, c .loop-test .left))
+  -- it is fine, and its term is pushed
+
+  abbrev else-lower : lower-all-lts.Else1 (lower-all-calls t) (lower-all-at t) lower-all.Post Inv μ → lower-all-lts.After-lower (lower-all-calls t) (lower-all-at t) lower-all.Post Inv μ
+  else-lower c = c .before .before .before .before .before .before
+
+  lower-all-put-requires : lower-all-lts.Need-put-requires (lower-all-calls t) (lower-all-at t) lower-all.Post Inv μ
+  lower-all-put-requires c κs =
+      let l = else-lower (c .before) in
+      let i = turn-of l in
+      let kept = length-words-kept (l .lower .last .1 .1 .1 .1 .1 .0) (i .before .loop .scratch) (l .lower .kept .1 .1 .1 .1 .1 .0) in
+      omega (arith, top-inside (i .before .loop .inv .2) (lower-all-turn i), kept)
+
+  -- back from where it is pushed to where it is fine
+  abbrev push-fine : lower-all-lts.After-slice-known5 (lower-all-calls t) (lower-all-at t) lower-all.Post Inv μ → lower-all-lts.Else1 (lower-all-calls t) (lower-all-at t) lower-all.Post Inv μ
+  push-fine c = c .before .before .before .before
+
+  lower-all-add-top : lower-all-lts.Need-add-top (lower-all-calls t) (lower-all-at t) lower-all.Post Inv μ
+  lower-all-add-top c = let i = turn-of (else-lower (push-fine c)) in omega (arith, top-fits (i .before .loop .inv .2) (lower-all-turn i))
+
+  lower-all-sub-left : lower-all-lts.Need-sub-left (lower-all-calls t) (lower-all-at t) lower-all.Post Inv μ
+  lower-all-sub-left c = omega (arith, turn-of (else-lower (push-fine c)) .loop-test .taken)
+
+  lower-all-loop-less : lower-all-lts.Need-loop-less (lower-all-calls t) (lower-all-at t) lower-all.Post Inv μ
+  lower-all-loop-less c = omega (arith, turn-of (else-lower (push-fine c)) .loop-test .taken)
+
+  lower-all-loop-again : lower-all-lts.Need-loop-again (lower-all-calls t) (lower-all-at t) lower-all.Post Inv μ
+  lower-all-loop-again c =
+      let l = else-lower (push-fine c) in
+      let k = l .lower in
+      let p = c .before .before .put in (
+        row-counters l,
+        p .kept .0 ∙ row-scratch l,
+        row-next (turn-of l .before .loop .inv .2) (lower-all-turn (turn-of l)) (words (k .last .1 .1 .1 .1 .1 .0)) (words (k .last .1 .1 .1 .1 .0)) (k .result) (k .ensures) _
+            (push-fine c .if1 .left) (p .ensures),
+      )
+
+  -- none are left
+
+  lower-all-same-length-3 : lower-all-lts.Need-same-length-3 (lower-all-calls t) (lower-all-at t) lower-all.Post Inv μ
+  lower-all-same-length-3 c = c .before .loop .inv .0
+
+  lower-all-same-length-4 : lower-all-lts.Need-same-length-4 (lower-all-calls t) (lower-all-at t) lower-all.Post Inv μ
+  lower-all-same-length-4 c = c .before .loop .inv .1
+
+  lower-all-returns-2 : lower-all-lts.Need-returns-2 (lower-all-calls t) (lower-all-at t) lower-all.Post Inv μ
+  lower-all-returns-2 c = row-done (c .before .loop .inv .2) (omega (arith, c .loop-test .left))
 
 pub +lower+lower-all-spec : {M : Type 1} → statement M
 +lower+lower-all-spec = close μ-lower μ-lower-all (λ t. lower-lts.spec (lower-calls t)
@@ -338,11 +420,11 @@ pub +lower+lower-all-spec : {M : Type 1} → statement M
     (lower-same-length-10 t)
     (lower-returns-6 t))
     λ t. lower-all-lts.spec
-    (lower-below t, lower.Post, put-reads.Asked, put-reads.Learnt)
+    (lower-all-calls t)
     (lower-all-at t)
     lower-all.Post
-    lower-all-Inv-loop
-    lower-all-μ-loop
+    Inv
+    μ
     (lower-all-loop-holds t)
     (lower-all-lower-requires t)
     (lower-all-same-length t)
