@@ -16,7 +16,7 @@ use Rattle.core_actions.proofs.Arguments.{Row, row-start, row-done, row
 use Rattle.core_actions.proofs.Calls.{Place, place, Begun, word-inside, args-room, leaf-read, leaf-unbound, Called, called, Argued, args-refused}
 use Rattle.core_actions.proofs.Calls.{Fine, is-fine, Used, used-up, call-done}
 use borrow.Author.Needs.{needs}
-use borrow.Fn.Kinds.{In}
+use borrow.Fn.Kinds.{In, Out}
 use borrow.Fn.PlainCycle.{Measures, is, falls, and}
 use Rattle.core_actions.proofs.exprs.lower.Reads as lower
 use Rattle.core_actions.proofs.exprs.lower.Kinds as lower-kinds
@@ -74,17 +74,21 @@ lower-all-calls t = (lower-below t, lower.Post, put-reads.Asked, put-reads.Learn
 -- ---- lower: what is known, place by place
 
 module _ (t : ℕ) where
+  -- a place of it, or a need there
+  abbrev In-lower : (lower-lts.Claims → In 3 lower-kinds.ps → Out 3 lower-kinds.ps lower-kinds.r → Type 0) → Type 0
+  In-lower P = P (lower-calls t) (lower-at t) lower.Post
+
   -- the expression, by its word w
-  abbrev expr : lower-lts.Start (lower-calls t) (lower-at t) lower.Post → ℕ → Place
+  abbrev expr : In-lower lower-lts.Start → ℕ → Place
   expr c w =
       let a = c .args in
       place (words (a .rule .now)) (words (a .scratch .now)) (words (a .counters .now)) (a .depth) (a .at) (a .to) (a .sp) (a .log) w
 
   -- which names are bound, the scratch says
-  abbrev Bound : lower-lts.Start (lower-calls t) (lower-at t) lower.Post → Sig → List ℕ → Type 0
+  abbrev Bound : In-lower lower-lts.Start → Sig → List ℕ → Type 0
   Bound c sig bound = Scoped sig bound (words (c .args .scratch .now)) (c .args .scope)
 
-  lower-start : (c : lower-lts.Start (lower-calls t) (lower-at t) lower.Post) (w : ℕ) → w ≡ getD (words (c .args .rule .now)) (c .args .at) 0 → Begun (expr c w) (Bound c)
+  lower-start : (c : In-lower lower-lts.Start) (w : ℕ) → w ≡ getD (words (c .args .rule .now)) (c .args .at) 0 → Begun (expr c w) (Bound c)
   lower-start c w is =
       let q = c .pre .1 .0 in
       record {
@@ -97,114 +101,114 @@ module _ (t : ℕ) where
         is = is;
       }
 
-  abbrev start : lower-lts.After-get (lower-calls t) (lower-at t) lower.Post → lower-lts.Start (lower-calls t) (lower-at t) lower.Post
+  abbrev start : In-lower lower-lts.After-get → In-lower lower-lts.Start
   start c = c .before .before .before .before
 
   -- its word is read
-  lower-word : (c : lower-lts.After-get (lower-calls t) (lower-at t) lower.Post) → Begun (expr (start c) (c .get .result)) (Bound (start c))
+  lower-word : (c : In-lower lower-lts.After-get) → Begun (expr (start c) (c .get .result)) (Bound (start c))
   lower-word c = lower-start (start c) (c .get .result) (c .get .ensures .is)
 
   -- where it is no name or literal, it is a call's
-  lower-call : (c : lower-lts.Else1 (lower-calls t) (lower-at t) lower.Post) → Called (lower-word (c .before))
+  lower-call : (c : In-lower lower-lts.Else1) → Called (lower-word (c .before))
   lower-call c = called (lower-word (c .before)) (c .if1 .left)
 
   -- back from behind the arguments to where the call is known
-  abbrev args-call : lower-lts.After-lower-all (lower-calls t) (lower-at t) lower.Post → lower-lts.Else1 (lower-calls t) (lower-at t) lower.Post
+  abbrev args-call : In-lower lower-lts.After-lower-all → In-lower lower-lts.Else1
   args-call c = c .before .before .before .before
 
   -- the arguments are walked
-  lower-argued : (c : lower-lts.After-lower-all (lower-calls t) (lower-at t) lower.Post)
+  lower-argued : (c : In-lower lower-lts.After-lower-all)
       → let k = c .lower-all in Argued (lower-call (args-call c)) (words (k .last .1 .1 .1 .1 .1 .1 .0)) (words (k .last .1 .1 .1 .1 .1 .0)) (k .result)
   lower-argued c =
       let k = c .lower-all in
       record { walk = k .ensures; counters = length-words-kept _ _ (k .kept .1 .1 .1 .1 .1 .0); scratch = length-words-kept _ _ (k .kept .1 .1 .1 .1 .1 .1 .0) }
 
-  abbrev fine-args : lower-lts.Else4 (lower-calls t) (lower-at t) lower.Post → lower-lts.After-lower-all (lower-calls t) (lower-at t) lower.Post
+  abbrev fine-args : In-lower lower-lts.Else4 → In-lower lower-lts.After-lower-all
   fine-args c = c .before .before .before .before .before .before
 
   -- and they are fine
-  lower-fine : (c : lower-lts.Else4 (lower-calls t) (lower-at t) lower.Post) → Fine (lower-argued (fine-args c))
+  lower-fine : (c : In-lower lower-lts.Else4) → Fine (lower-argued (fine-args c))
   lower-fine c = is-fine (lower-argued (fine-args c)) (c .if4 .left)
 
-  abbrev take-fine : lower-lts.After-take (lower-calls t) (lower-at t) lower.Post → lower-lts.Else4 (lower-calls t) (lower-at t) lower.Post
+  abbrev take-fine : In-lower lower-lts.After-take → In-lower lower-lts.Else4
   take-fine c = c .before .before .before
 
   -- a fresh variable is taken
-  lower-used : (c : lower-lts.After-take (lower-calls t) (lower-at t) lower.Post)
+  lower-used : (c : In-lower lower-lts.After-take)
       → Used (lower-fine (take-fine c)) (words (c .take .last .1 .0)) (words (c .take .last .0)) (c .take .result)
   lower-used c =
       let v = c .take in
       record { taken = v .ensures; size = length-words-kept _ _ (v .kept .1 .0); counters = length-words-kept _ _ (v .kept .0) }
 
   -- both slices are as long as at the start
-  counters-kept : (c : lower-lts.After-take (lower-calls t) (lower-at t) lower.Post)
+  counters-kept : (c : In-lower lower-lts.After-take)
       → length (c .take .last .0) ≡ length (start (args-call (fine-args (take-fine c)) .before) .args .counters .now)
   counters-kept c = c .take .kept .0 ∙ fine-args (take-fine c) .lower-all .kept .1 .1 .1 .1 .1 .0
 
-  scratch-kept : (c : lower-lts.After-take (lower-calls t) (lower-at t) lower.Post)
+  scratch-kept : (c : In-lower lower-lts.After-take)
       → length (c .take .last .1 .0) ≡ length (start (args-call (fine-args (take-fine c)) .before) .args .scratch .now)
   scratch-kept c = c .take .kept .1 .0 ∙ fine-args (take-fine c) .lower-all .kept .1 .1 .1 .1 .1 .1 .0
 
   -- ---- a name or a literal
 
-  lower-get-requires : lower-lts.Need-get-requires (lower-calls t) (lower-at t) lower.Post
+  lower-get-requires : In-lower lower-lts.Need-get-requires
   lower-get-requires c κs = word-inside (lower-start (c .before .before .before) _ refl)
 
-  lower-may-read-requires : lower-lts.Need-may-read-requires (lower-calls t) (lower-at t) lower.Post
+  lower-may-read-requires : In-lower lower-lts.Need-may-read-requires
   lower-may-read-requires c κs =
       let g = c .before .before in
       scope-fits (start g .pre .1 .1 .1) (start g .pre .1 .1 .0) (omega (arith, word-inside (lower-word g)))
 
-  lower-add-t20 : lower-lts.Need-add-t20 (lower-calls t) (lower-at t) lower.Post
+  lower-add-t20 : In-lower lower-lts.Need-add-t20
   lower-add-t20 c = let g = lower-word (c .before .before .before .before) in omega (arith, word-inside g, g .ruleFits)
 
-  lower-same-length : lower-lts.Need-same-length (lower-calls t) (lower-at t) lower.Post
+  lower-same-length : In-lower lower-lts.Need-same-length
   lower-same-length c = search needs
 
-  lower-returns : lower-lts.Need-returns (lower-calls t) (lower-at t) lower.Post
+  lower-returns : In-lower lower-lts.Need-returns
   lower-returns c = let l = c .before .before .before in leaf-read (lower-word (l .before)) (l .if1 .taken) (c .before .may-read .ensures) (c .if2 .taken)
 
-  lower-same-length-2 : lower-lts.Need-same-length-2 (lower-calls t) (lower-at t) lower.Post
+  lower-same-length-2 : In-lower lower-lts.Need-same-length-2
   lower-same-length-2 c = search needs
 
-  lower-returns-2 : lower-lts.Need-returns-2 (lower-calls t) (lower-at t) lower.Post
+  lower-returns-2 : In-lower lower-lts.Need-returns-2
   lower-returns-2 c = let l = c .before .before .before in leaf-unbound (lower-word (l .before)) (l .if1 .taken) (c .before .may-read .ensures) (c .if2 .left)
 
   -- ---- a call without arguments
 
-  lower-sub-h : lower-lts.Need-sub-h (lower-calls t) (lower-at t) lower.Post
+  lower-sub-h : In-lower lower-lts.Need-sub-h
   lower-sub-h c = omega (arith, lower-call c .facts .high)
 
-  lower-sub-n : lower-lts.Need-sub-n (lower-calls t) (lower-at t) lower.Post
+  lower-sub-n : In-lower lower-lts.Need-sub-n
   lower-sub-n c = omega (arith, lower-call c .facts .high)
 
-  lower-lower-bare-requires : lower-lts.Need-lower-bare-requires (lower-calls t) (lower-at t) lower.Post
+  lower-lower-bare-requires : In-lower lower-lts.Need-lower-bare-requires
   lower-lower-bare-requires c κs =
       let z = c .before .before in
       let g = lower-word (z .before .before) in
       (g .known, (g .room, (g .is, lower-call (z .before) .low, z .if3 .taken)))
 
-  lower-same-length-3 : lower-lts.Need-same-length-3 (lower-calls t) (lower-at t) lower.Post
+  lower-same-length-3 : In-lower lower-lts.Need-same-length-3
   lower-same-length-3 c = search needs
 
-  lower-same-length-4 : lower-lts.Need-same-length-4 (lower-calls t) (lower-at t) lower.Post
+  lower-same-length-4 : In-lower lower-lts.Need-same-length-4
   lower-same-length-4 c = search needs
 
-  lower-returns-3 : lower-lts.Need-returns-3 (lower-calls t) (lower-at t) lower.Post
+  lower-returns-3 : In-lower lower-lts.Need-returns-3
   lower-returns-3 c = λ sig x bound n sc. c .before .before .before .before .lower-bare .ensures sig x bound n
 
   -- ---- a call: its arguments
 
-  lower-add-lower-all : lower-lts.Need-add-lower-all (lower-calls t) (lower-at t) lower.Post
+  lower-add-lower-all : In-lower lower-lts.Need-add-lower-all
   lower-add-lower-all c = let g = lower-word (c .before .before) in omega (arith, word-inside g, g .ruleFits)
 
-  lower-cast-lower-all : lower-lts.Need-cast-lower-all (lower-calls t) (lower-at t) lower.Post
+  lower-cast-lower-all : In-lower lower-lts.Need-cast-lower-all
   lower-cast-lower-all c = search needs
 
-  lower-sub-lower-all : lower-lts.Need-sub-lower-all (lower-calls t) (lower-at t) lower.Post
+  lower-sub-lower-all : In-lower lower-lts.Need-sub-lower-all
   lower-sub-lower-all c = omega (arith, lower-call (c .before) .facts .deep)
 
-  lower-lower-all-requires : lower-lts.Need-lower-all-requires (lower-calls t) (lower-at t) lower.Post
+  lower-lower-all-requires : In-lower lower-lts.Need-lower-all-requires
   lower-lower-all-requires c κs =
       let e = c .before .before .before in
       let s = start (e .before) in
@@ -217,59 +221,59 @@ module _ (t : ℕ) where
         ),
       )
 
-  lower-same-length-5 : lower-lts.Need-same-length-5 (lower-calls t) (lower-at t) lower.Post
+  lower-same-length-5 : In-lower lower-lts.Need-same-length-5
   lower-same-length-5 c = search needs
 
-  lower-same-length-6 : lower-lts.Need-same-length-6 (lower-calls t) (lower-at t) lower.Post
+  lower-same-length-6 : In-lower lower-lts.Need-same-length-6
   lower-same-length-6 c = search needs
 
-  lower-returns-4 : lower-lts.Need-returns-4 (lower-calls t) (lower-at t) lower.Post
+  lower-returns-4 : In-lower lower-lts.Need-returns-4
   lower-returns-4 c = args-refused (lower-argued (c .before .before .before .before .before .before)) (c .if4 .taken)
 
   -- ---- its fresh variable
 
-  lower-take-requires : lower-lts.Need-take-requires (lower-calls t) (lower-at t) lower.Post
+  lower-take-requires : In-lower lower-lts.Need-take-requires
   lower-take-requires c κs =
       let e = c .before .before in
       (lower-call (args-call (fine-args e)) .facts .small, lower-fine e .head, lower-fine e .log)
 
-  lower-same-length-7 : lower-lts.Need-same-length-7 (lower-calls t) (lower-at t) lower.Post
+  lower-same-length-7 : In-lower lower-lts.Need-same-length-7
   lower-same-length-7 c = counters-kept (c .before .before .before .before .before)
 
-  lower-same-length-8 : lower-lts.Need-same-length-8 (lower-calls t) (lower-at t) lower.Post
+  lower-same-length-8 : In-lower lower-lts.Need-same-length-8
   lower-same-length-8 c = scratch-kept (c .before .before .before .before .before)
 
-  lower-returns-5 : lower-lts.Need-returns-5 (lower-calls t) (lower-at t) lower.Post
+  lower-returns-5 : In-lower lower-lts.Need-returns-5
   lower-returns-5 c = used-up (lower-used (c .before .before .before .before .before)) (c .if5 .taken)
 
   -- ---- its own action
 
-  abbrev put-take : lower-lts.Else5 (lower-calls t) (lower-at t) lower.Post → lower-lts.After-take (lower-calls t) (lower-at t) lower.Post
+  abbrev put-take : In-lower lower-lts.Else5 → In-lower lower-lts.After-take
   put-take c = c .before .before .before .before .before
 
-  lower-cast-put-call : lower-lts.Need-cast-put-call (lower-calls t) (lower-at t) lower.Post
+  lower-cast-put-call : In-lower lower-lts.Need-cast-put-call
   lower-cast-put-call c = search needs
 
-  lower-put-call-requires : lower-lts.Need-put-call-requires (lower-calls t) (lower-at t) lower.Post
+  lower-put-call-requires : In-lower lower-lts.Need-put-call-requires
   lower-put-call-requires c κs =
       let v = put-take (c .before) in
       let f = lower-fine (take-fine v) in
       (f .words, omega (arith, f .stack, lower-used v .size))
 
   -- back from its end to where it is written
-  abbrev end-put : lower-lts.After-struct-known2 (lower-calls t) (lower-at t) lower.Post → lower-lts.Else5 (lower-calls t) (lower-at t) lower.Post
+  abbrev end-put : In-lower lower-lts.After-struct-known2 → In-lower lower-lts.Else5
   end-put c = c .before .before .before .before .before
 
-  lower-add-t27 : lower-lts.Need-add-t27 (lower-calls t) (lower-at t) lower.Post
+  lower-add-t27 : In-lower lower-lts.Need-add-t27
   lower-add-t27 c = omega (arith, lower-fine (take-fine (put-take (end-put c))))
 
-  lower-same-length-9 : lower-lts.Need-same-length-9 (lower-calls t) (lower-at t) lower.Post
+  lower-same-length-9 : In-lower lower-lts.Need-same-length-9
   lower-same-length-9 c = counters-kept (put-take (end-put c))
 
-  lower-same-length-10 : lower-lts.Need-same-length-10 (lower-calls t) (lower-at t) lower.Post
+  lower-same-length-10 : In-lower lower-lts.Need-same-length-10
   lower-same-length-10 c = c .before .before .before .put-call .kept .0 ∙ scratch-kept (put-take (end-put c))
 
-  lower-returns-6 : lower-lts.Need-returns-6 (lower-calls t) (lower-at t) lower.Post
+  lower-returns-6 : In-lower lower-lts.Need-returns-6
   lower-returns-6 c = call-done (lower-used (put-take (end-put c))) (end-put c .if5 .left) (c .before .before .before .put-call .ensures)
 
 -- ---- lower_all: what is left of the row makes the whole, and no turn changes how long the slices are
@@ -283,18 +287,22 @@ abbrev μ : lower-all-lts.MeasureT-loop
 μ rule at n depth scope counters₀ scratch₀ to sp log left₀ top₀ walk₀ counters scratch left top walk = left
 
 module _ (t : ℕ) where
-  lower-all-loop-holds : lower-all-lts.Need-loop-holds (lower-all-calls t) (lower-all-at t) lower-all.Post Inv μ
+  -- a place of it, or a need there
+  abbrev In-all : (lower-all-lts.Claims → In 3 lower-all-kinds.ps → Out 3 lower-all-kinds.ps lower-all-kinds.r → lower-all-lts.InvT-loop → lower-all-lts.MeasureT-loop → Type 0) → Type 0
+  In-all P = P (lower-all-calls t) (lower-all-at t) lower-all.Post Inv μ
+
+  lower-all-loop-holds : In-all lower-all-lts.Need-loop-holds
   lower-all-loop-holds c =
       let s = c .before .before .before in
       (refl, refl, row-start (s .pre .1 .1 .0) (s .pre .1 .1 .1) (omega (arith, length-words (s .args .scratch .now), s .good)) (s .pre .1 .0))
 
   -- a turn
 
-  abbrev row-at : lower-all-lts.In-loop (lower-all-calls t) (lower-all-at t) lower-all.Post Inv μ → lower-all-lts.Start (lower-all-calls t) (lower-all-at t) lower-all.Post Inv μ
+  abbrev row-at : In-all lower-all-lts.In-loop → In-all lower-all-lts.Start
   row-at c = c .before .before .before .before .before
 
   -- what its calls ask
-  lower-all-turn : (c : lower-all-lts.In-loop (lower-all-calls t) (lower-all-at t) lower-all.Post Inv μ)
+  lower-all-turn : (c : In-all lower-all-lts.In-loop)
       → let a = row-at c .args in
       let l = c .before .loop in
       Turn (words (a .rule .now)) (a .depth) (a .at) (l .left) (l .top) (words (a .scratch .now)) (words (a .counters .now)) (words (l .scratch)) (words (l .counters)) (l .walk)
@@ -302,7 +310,7 @@ module _ (t : ℕ) where
       let l = c .before .loop in
       row-turn (l .inv .2) (c .loop-test .taken) (length-words-kept _ _ (l .inv .0)) (length-words-kept _ _ (l .inv .1))
 
-  lower-all-lower-requires : lower-all-lts.Need-lower-requires (lower-all-calls t) (lower-all-at t) lower-all.Post Inv μ
+  lower-all-lower-requires : In-all lower-all-lts.Need-lower-requires
   lower-all-lower-requires c κs =
       let i = c .before .before in
       let row = i .before .loop .inv .2 in
@@ -310,29 +318,29 @@ module _ (t : ℕ) where
       (omega (arith, row-at i .pre .0, m .on), (row-known row m, (m .room, row-scope row)))
 
   -- the argument is lowered
-  abbrev turn-of : lower-all-lts.After-lower (lower-all-calls t) (lower-all-at t) lower-all.Post Inv μ → lower-all-lts.In-loop (lower-all-calls t) (lower-all-at t) lower-all.Post Inv μ
+  abbrev turn-of : In-all lower-all-lts.After-lower → In-all lower-all-lts.In-loop
   turn-of c = c .before .before .before
 
-  row-counters : (c : lower-all-lts.After-lower (lower-all-calls t) (lower-all-at t) lower-all.Post Inv μ)
+  row-counters : (c : In-all lower-all-lts.After-lower)
       → length (c .lower .last .1 .1 .1 .1 .0) ≡ length (row-at (turn-of c) .args .counters .now)
   row-counters c = c .lower .kept .1 .1 .1 .1 .0 ∙ turn-of c .before .loop .inv .0
 
-  row-scratch : (c : lower-all-lts.After-lower (lower-all-calls t) (lower-all-at t) lower-all.Post Inv μ)
+  row-scratch : (c : In-all lower-all-lts.After-lower)
       → length (c .lower .last .1 .1 .1 .1 .1 .0) ≡ length (row-at (turn-of c) .args .scratch .now)
   row-scratch c = c .lower .kept .1 .1 .1 .1 .1 .0 ∙ turn-of c .before .loop .inv .1
 
   -- it is refused
 
-  abbrev then-lower : lower-all-lts.Then1 (lower-all-calls t) (lower-all-at t) lower-all.Post Inv μ → lower-all-lts.After-lower (lower-all-calls t) (lower-all-at t) lower-all.Post Inv μ
+  abbrev then-lower : In-all lower-all-lts.Then1 → In-all lower-all-lts.After-lower
   then-lower c = c .before .before .before .before .before .before
 
-  lower-all-same-length : lower-all-lts.Need-same-length (lower-all-calls t) (lower-all-at t) lower-all.Post Inv μ
+  lower-all-same-length : In-all lower-all-lts.Need-same-length
   lower-all-same-length c = row-counters (then-lower c)
 
-  lower-all-same-length-2 : lower-all-lts.Need-same-length-2 (lower-all-calls t) (lower-all-at t) lower-all.Post Inv μ
+  lower-all-same-length-2 : In-all lower-all-lts.Need-same-length-2
   lower-all-same-length-2 c = row-scratch (then-lower c)
 
-  lower-all-returns : lower-all-lts.Need-returns (lower-all-calls t) (lower-all-at t) lower-all.Post Inv μ
+  lower-all-returns : In-all lower-all-lts.Need-returns
   lower-all-returns c =
       let l = then-lower c in
       let k = l .lower in
@@ -340,10 +348,10 @@ module _ (t : ℕ) where
 
   -- it is fine, and its term is pushed
 
-  abbrev else-lower : lower-all-lts.Else1 (lower-all-calls t) (lower-all-at t) lower-all.Post Inv μ → lower-all-lts.After-lower (lower-all-calls t) (lower-all-at t) lower-all.Post Inv μ
+  abbrev else-lower : In-all lower-all-lts.Else1 → In-all lower-all-lts.After-lower
   else-lower c = c .before .before .before .before .before .before
 
-  lower-all-put-requires : lower-all-lts.Need-put-requires (lower-all-calls t) (lower-all-at t) lower-all.Post Inv μ
+  lower-all-put-requires : In-all lower-all-lts.Need-put-requires
   lower-all-put-requires c κs =
       let l = else-lower (c .before) in
       let i = turn-of l in
@@ -351,19 +359,19 @@ module _ (t : ℕ) where
       omega (arith, top-inside (i .before .loop .inv .2) (lower-all-turn i), kept)
 
   -- back from where it is pushed to where it is fine
-  abbrev push-fine : lower-all-lts.After-slice-known5 (lower-all-calls t) (lower-all-at t) lower-all.Post Inv μ → lower-all-lts.Else1 (lower-all-calls t) (lower-all-at t) lower-all.Post Inv μ
+  abbrev push-fine : In-all lower-all-lts.After-slice-known5 → In-all lower-all-lts.Else1
   push-fine c = c .before .before .before .before
 
-  lower-all-add-top : lower-all-lts.Need-add-top (lower-all-calls t) (lower-all-at t) lower-all.Post Inv μ
+  lower-all-add-top : In-all lower-all-lts.Need-add-top
   lower-all-add-top c = let i = turn-of (else-lower (push-fine c)) in omega (arith, top-fits (i .before .loop .inv .2) (lower-all-turn i))
 
-  lower-all-sub-left : lower-all-lts.Need-sub-left (lower-all-calls t) (lower-all-at t) lower-all.Post Inv μ
+  lower-all-sub-left : In-all lower-all-lts.Need-sub-left
   lower-all-sub-left c = omega (arith, turn-of (else-lower (push-fine c)) .loop-test .taken)
 
-  lower-all-loop-less : lower-all-lts.Need-loop-less (lower-all-calls t) (lower-all-at t) lower-all.Post Inv μ
+  lower-all-loop-less : In-all lower-all-lts.Need-loop-less
   lower-all-loop-less c = omega (arith, turn-of (else-lower (push-fine c)) .loop-test .taken)
 
-  lower-all-loop-again : lower-all-lts.Need-loop-again (lower-all-calls t) (lower-all-at t) lower-all.Post Inv μ
+  lower-all-loop-again : In-all lower-all-lts.Need-loop-again
   lower-all-loop-again c =
       let l = else-lower (push-fine c) in
       let k = l .lower in
@@ -376,13 +384,13 @@ module _ (t : ℕ) where
 
   -- none are left
 
-  lower-all-same-length-3 : lower-all-lts.Need-same-length-3 (lower-all-calls t) (lower-all-at t) lower-all.Post Inv μ
+  lower-all-same-length-3 : In-all lower-all-lts.Need-same-length-3
   lower-all-same-length-3 c = c .before .loop .inv .0
 
-  lower-all-same-length-4 : lower-all-lts.Need-same-length-4 (lower-all-calls t) (lower-all-at t) lower-all.Post Inv μ
+  lower-all-same-length-4 : In-all lower-all-lts.Need-same-length-4
   lower-all-same-length-4 c = c .before .loop .inv .1
 
-  lower-all-returns-2 : lower-all-lts.Need-returns-2 (lower-all-calls t) (lower-all-at t) lower-all.Post Inv μ
+  lower-all-returns-2 : In-all lower-all-lts.Need-returns-2
   lower-all-returns-2 c = row-done (c .before .loop .inv .2) (omega (arith, c .loop-test .left))
 
 pub +lower+lower-all-spec : {M : Type 1} → statement M
