@@ -149,16 +149,19 @@ splice-snoc l p xs q w e h =
 
 -- the same from list to list, as a writer's steps give it: a store behind a row, a row behind it, and a row
 -- that ends in a part of the list itself, which the first row leaves as it was
-pub splice-put : (l : List ℕ) (p : ℕ) (xs : List ℕ) (q w : ℕ) {m n : List ℕ} → m ≡ splice l p xs → n ≡ set m q w → q ≡ p + length xs → q < length l → n ≡ splice l p (xs ++ (w ∷ []))
+pub splice-put : (l : List ℕ) (p : ℕ) (xs : List ℕ) (q w : ℕ) {m n : List ℕ} → m ≡ splice l p xs → n ≡ set m q w → q ≡ p + length xs → q < length l
+    → n ≡ splice l p (xs ++ (w ∷ []))
 splice-put l p xs q w a b e h = b ∙ ap (λ (x : List ℕ). set x q w) a ∙ splice-snoc l p xs q w e h
 
-pub splice-then : (l : List ℕ) (p : ℕ) (xs : List ℕ) (q : ℕ) (ys : List ℕ) {m n : List ℕ} → m ≡ splice l p xs → n ≡ splice m q ys → q ≡ p + length xs → p ≤ length l → n ≡ splice l p (xs ++ ys)
+pub splice-then : (l : List ℕ) (p : ℕ) (xs : List ℕ) (q : ℕ) (ys : List ℕ) {m n : List ℕ} → m ≡ splice l p xs → n ≡ splice m q ys → q ≡ p + length xs
+    → p ≤ length l → n ≡ splice l p (xs ++ ys)
 splice-then l p xs q ys a b e h = b ∙ ap (λ (x : List ℕ). splice x q ys) a ∙ splice-splice l p xs q ys h e
 
-pub splice-carry : (l : List ℕ) (p : ℕ) (xs : List ℕ) (q : ℕ) (ys : List ℕ) (from k : ℕ) {m n : List ℕ} → m ≡ splice l p xs → n ≡ splice m q (ys ++ part m from k) → q ≡ p + length xs → q ≤ from → from + k ≤ length l
-    → n ≡ splice l p (xs ++ (ys ++ part l from k))
+pub splice-carry : (l : List ℕ) (p : ℕ) (xs : List ℕ) (q : ℕ) (ys : List ℕ) (from k : ℕ) {m n : List ℕ} → m ≡ splice l p xs
+    → n ≡ splice m q (ys ++ part m from k) → q ≡ p + length xs → q ≤ from → from + k ≤ length l → n ≡ splice l p (xs ++ (ys ++ part l from k))
 splice-carry l p xs q ys from k {m} {n} a b e h r =
     let le : p ≤ length l = omega arith in
     let size : length m ≡ length l = ap length a ∙ length-splice l p xs (omega arith) in
-    let kept : part m from k ≡ part l from k = part-same l m from k size (λ i j _. ap (λ (x : List ℕ). getD x i 0) a ∙ getD-splice-after l p xs i le (omega arith)) in
+    let kept : part m from k ≡ part l from k =
+    part-same l m from k size (λ i j _. ap (λ (x : List ℕ). getD x i 0) a ∙ getD-splice-after l p xs i le (omega arith)) in
     splice-then l p xs q (ys ++ part l from k) a (b ∙ ap (λ (x : List ℕ). splice m q (ys ++ x)) kept) e le

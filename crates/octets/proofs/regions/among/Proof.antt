@@ -1,4 +1,4 @@
--- `octets::regions::among` meets its contract: the words that were passed hold w just where `found` is 1. Assumes nothing.
+-- The words that were passed hold w just where `found` is 1, so behind the loop it tells of all of them. Assumes nothing.
 use mathlib.Core.Path.{_≡_, ap, _∙_}
 use Prim.Native.Nat.{ℕ, _-_, _≤_}
 use native.Mathlib.Omega.{arith}
@@ -37,11 +37,11 @@ loop-less c = search needs
 
 loop-again : tie.Need-loop-again Inv-loop μ-loop
 loop-again c =
-    let a = c .before .before .before .before .before .args in
-    let l = c .before .before .before .loop in (
-      omega arith,
-      ap (λ (h : ℕ). eqb h 1) (c .met .ensures) ∙ search-more (a .w) (words (a .buf .now)) (a .from) (l .i) (l .found) (c .before .get .result) (omega arith) (c .before .get .ensures .is) (l .inv .1),
-    )
+    let g = c .before in
+    let l = g .before .before .loop in
+    let a = g .before .before .before .before .args in
+    let more = search-more (a .w) (words (a .buf .now)) (a .from) (l .i) (l .found) (g .get .result) (omega arith) (g .get .ensures .is) (l .inv .1) in
+    (omega arith, ap (λ (h : ℕ). eqb h 1) (c .met .ensures) ∙ more)
 
 returns : tie.Need-returns Inv-loop μ-loop
 returns c =

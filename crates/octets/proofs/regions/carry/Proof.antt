@@ -1,5 +1,4 @@
--- `octets::regions::carry` meets its contract: the row that it fills is what it has read so far, and `Clear` says that what it reads
--- next is still there. Assumes nothing.
+-- The row that it fills is what it has read so far, and `Clear` says that what it reads next is still there. Assumes nothing.
 use mathlib.Core.Path.{refl, _∙_}
 use Prim.Native.Nat.{ℕ, _+_, _-_, _<_}
 use native.Mathlib.Omega.{arith}
@@ -22,17 +21,23 @@ abbrev μ-loop : tie.MeasureT-loop
 loop-holds : tie.Need-loop-holds Inv-loop μ-loop
 loop-holds c = filled-start _ _ _ _ refl
 
+abbrev start : tie.In-loop Inv-loop μ-loop → tie.Start Inv-loop μ-loop
+start c = c .before .before .before
+
 add-get : tie.Need-add-get Inv-loop μ-loop
-add-get c = omega (arith, length-words (c .before .before .before .before .args .buf .now))
+add-get c = omega (arith, length-words (start (c .before) .args .buf .now))
 
 get-requires : tie.Need-get-requires Inv-loop μ-loop
 get-requires c κs = omega (arith, filled-count (c .before .before .loop .inv))
 
+abbrev get-in : tie.After-get Inv-loop μ-loop → tie.In-loop Inv-loop μ-loop
+get-in c = c .before .before
+
 add-put : tie.Need-add-put Inv-loop μ-loop
-add-put c = omega (arith, length-words (c .before .before .before .before .before .before .args .buf .now))
+add-put c = omega (arith, length-words (start (get-in (c .before)) .args .buf .now))
 
 put-requires : tie.Need-put-requires Inv-loop μ-loop
-put-requires c κs = omega (arith, filled-count (c .before .before .before .before .loop .inv))
+put-requires c κs = omega (arith, filled-count (get-in (c .before) .before .loop .inv))
 
 add-i : tie.Need-add-i Inv-loop μ-loop
 add-i c = search needs
@@ -42,10 +47,13 @@ loop-less c = search needs
 
 loop-again : tie.Need-loop-again Inv-loop μ-loop
 loop-again c =
-    let a = c .before .before .before .before .before .before .before .before .before .args in
-    let room : a .from + c .before .before .before .before .before .before .before .loop .i < length (words (a .buf .now)) = omega arith in
-    let unread = filled-clear (a .from) (c .before .before .before .before .before .before .before .loop .inv) (omega arith) (omega arith) (c .before .before .before .before .before .before .before .before .before .pre .1) in
-    filled-next (c .before .before .before .before .before .before .before .loop .inv) (omega arith) (omega arith) (c .before .before .put .kept .0) (c .before .before .put .ensures) (c .before .before .before .before .get .ensures .is ∙ unread) (part-more _ _ _ room)
+    let p = c .before .before in
+    let g = p .before .before in
+    let e = start (get-in g) in
+    let i = get-in g .before .loop in
+    let room : e .args .from + i .i < length (words (e .args .buf .now)) = omega arith in
+    let unread = filled-clear (e .args .from) (i .inv) (omega arith) (omega arith) (e .pre .1) in
+    filled-next (i .inv) (omega arith) (omega arith) (p .put .kept .0) (p .put .ensures) (g .get .ensures .is ∙ unread) (part-more _ _ _ room)
 
 same-length : tie.Need-same-length Inv-loop μ-loop
 same-length c = search needs

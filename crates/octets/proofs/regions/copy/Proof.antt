@@ -1,4 +1,4 @@
--- `octets::regions::copy` meets its contract: the row that it fills is what it has read of the source so far. Assumes nothing.
+-- The row that it fills is what it has read of the source so far, and the source is not written. Assumes nothing.
 use mathlib.Core.Path.{refl}
 use Prim.Native.Nat.{ℕ, _+_, _-_, _<_}
 use native.Mathlib.Omega.{arith}
@@ -21,11 +21,14 @@ abbrev μ-loop : tie.MeasureT-loop
 loop-holds : tie.Need-loop-holds Inv-loop μ-loop
 loop-holds c = filled-start _ _ _ _ refl
 
+abbrev start : tie.In-loop Inv-loop μ-loop → tie.Start Inv-loop μ-loop
+start c = c .before .before .before .before
+
 add-put : tie.Need-add-put Inv-loop μ-loop
-add-put c = omega (arith, length-words (c .before .before .before .before .before .args .out .now))
+add-put c = omega (arith, length-words (start (c .before) .args .out .now))
 
 add-get : tie.Need-add-get Inv-loop μ-loop
-add-get c = omega (arith, length-words (c .before .before .before .before .before .args .src .now))
+add-get c = omega (arith, length-words (start (c .before) .args .src .now))
 
 get-requires : tie.Need-get-requires Inv-loop μ-loop
 get-requires c κs = search needs
@@ -41,9 +44,12 @@ loop-less c = search needs
 
 loop-again : tie.Need-loop-again Inv-loop μ-loop
 loop-again c =
-    let a = c .before .before .before .before .before .before .before .before .before .args in
-    let room : a .from + c .before .before .before .before .before .before .loop .i < length (words (a .src .now)) = omega arith in
-    filled-next (c .before .before .before .before .before .before .loop .inv) (omega arith) (omega arith) (c .before .before .put .kept .0) (c .before .before .put .ensures) (c .before .before .before .get .ensures .is) (part-more _ _ _ room)
+    let p = c .before .before in
+    let t = p .before .before .before in
+    let a = start t .args in
+    let i = t .before .loop in
+    let room : a .from + i .i < length (words (a .src .now)) = omega arith in
+    filled-next (i .inv) (omega arith) (omega arith) (p .put .kept .0) (p .put .ensures) (p .before .get .ensures .is) (part-more _ _ _ room)
 
 same-length : tie.Need-same-length Inv-loop μ-loop
 same-length c = search needs

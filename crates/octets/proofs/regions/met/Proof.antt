@@ -1,4 +1,4 @@
--- `octets::regions::met` meets its contract: 1 where the words are equal. Assumes nothing.
+-- Each way of the test is a way of `cond`. Assumes nothing.
 use borrow.Author.Tests.{eq-eqb, ne-eqb}
 use Rattle.octets.proofs.regions.met.Statement.{statement}
 use Rattle.octets.proofs.regions.met.Tie as tie

@@ -1,5 +1,4 @@
--- `octets::regions::replace` meets its contract: the row that it fills is what it has read so far, mapped; it reads each word just
--- before it writes there. Assumes nothing.
+-- The row that it fills is what it has read so far, mapped; it reads each word just before it writes there. Assumes nothing.
 use mathlib.Core.List.{map}
 use mathlib.Core.Path.{refl, ap, _∙_}
 use Prim.Native.Nat.{ℕ, _+_, _-_, _<_}
@@ -22,8 +21,11 @@ abbrev μ-loop : tie.MeasureT-loop
 loop-holds : tie.Need-loop-holds Inv-loop μ-loop
 loop-holds c = filled-start _ _ _ _ refl
 
+abbrev start : tie.In-loop Inv-loop μ-loop → tie.Start Inv-loop μ-loop
+start c = c .before .before .before
+
 add-at : tie.Need-add-at Inv-loop μ-loop
-add-at c = omega (arith, length-words (c .before .before .before .args .buf .now))
+add-at c = omega (arith, length-words (start c .args .buf .now))
 
 get-requires : tie.Need-get-requires Inv-loop μ-loop
 get-requires c κs = omega (arith, filled-count (c .before .before .loop .inv))
@@ -31,8 +33,12 @@ get-requires c κs = omega (arith, filled-count (c .before .before .loop .inv))
 swapped-requires : tie.Need-swapped-requires Inv-loop μ-loop
 swapped-requires c κs = search needs
 
+-- the turn of a word that is read and swapped
+abbrev swapped-in : tie.After-swapped Inv-loop μ-loop → tie.In-loop Inv-loop μ-loop
+swapped-in c = c .before .before .before .before
+
 put-requires : tie.Need-put-requires Inv-loop μ-loop
-put-requires c κs = omega (arith, filled-count (c .before .before .before .before .before .loop .inv))
+put-requires c κs = omega (arith, filled-count (swapped-in c .before .loop .inv))
 
 add-i : tie.Need-add-i Inv-loop μ-loop
 add-i c = search needs
@@ -42,10 +48,14 @@ loop-less c = search needs
 
 loop-again : tie.Need-loop-again Inv-loop μ-loop
 loop-again c =
-    let a = c .before .before .before .before .before .before .before .before .before .before .args in
-    let room : a .from + c .before .before .before .before .before .before .before .before .loop .i < length (words (a .buf .now)) = omega arith in
-    let unread = filled-clear (a .from) (c .before .before .before .before .before .before .before .before .loop .inv) (omega arith) (omega arith) (below (omega arith)) in
-    filled-next (c .before .before .before .before .before .before .before .before .loop .inv) (omega arith) (omega arith) (c .before .before .put .kept .0) (c .before .before .put .ensures) (c .before .before .before .swapped .ensures ∙ ap (swap (a .x) (a .y)) (c .before .before .before .before .before .get .ensures .is ∙ unread)) (map-part-more _ _ _ _ room)
+    let p = c .before .before in
+    let w = p .before in
+    let a = start (swapped-in w) .args in
+    let i = swapped-in w .before .loop in
+    let room : a .from + i .i < length (words (a .buf .now)) = omega arith in
+    let unread = filled-clear (a .from) (i .inv) (omega arith) (omega arith) (below (omega arith)) in
+    let new = w .swapped .ensures ∙ ap (swap (a .x) (a .y)) (w .before .before .get .ensures .is ∙ unread) in
+    filled-next (i .inv) (omega arith) (omega arith) (p .put .kept .0) (p .put .ensures) new (map-part-more _ _ _ _ room)
 
 same-length : tie.Need-same-length Inv-loop μ-loop
 same-length c = search needs

@@ -1,4 +1,4 @@
--- `octets::regions::swapped` meets its contract: the two ways of the test are those of `swap`. Assumes nothing.
+-- The two ways of the test are those of `swap`. Assumes nothing.
 use borrow.Author.Tests.{eq-eqb, ne-eqb}
 use Rattle.octets.specs.Regions.{swap}
 use Rattle.octets.proofs.regions.swapped.Statement.{statement}

@@ -1,4 +1,4 @@
--- `octets::rows::put_terms` meets its contract: a row of two words, and a part carried behind it. Assumes nothing.
+-- The row of two words lies below what is carried behind it, and so leaves it as it was. Assumes nothing.
 use mathlib.Core.List.{_∷_, []}
 use native.Mathlib.Omega.{arith}
 use Rattle.octets.specs.Words.{words}
@@ -12,20 +12,30 @@ use Rattle.octets.proofs.rows.put_terms.Tie as tie
 put-two-requires : tie.Need-put-two-requires
 put-two-requires c κs = omega arith
 
+abbrev start : tie.After-put-two → tie.Start
+start c = c .before .before .before
+
 carry-requires : tie.Need-carry-requires
-carry-requires c κs = carry-asks (c .before .before .before .before .before .before .args .buf .now) _ _ _ _ (c .before .before .before .put-two .kept .0) (omega arith) (omega arith)
+carry-requires c κs =
+    let p = c .before .before .before in
+    carry-asks (start p .args .buf .now) _ _ _ _ (p .put-two .kept .0) (omega arith) (omega arith)
+
+abbrev first : tie.After-carry → tie.After-put-two
+first c = c .before .before .before .before
 
 add-result : tie.Need-add-result
-add-result c = omega (arith, length-words (c .before .before .before .before .before .before .before .before .before .args .buf .now))
+add-result c = omega (arith, length-words (start (first (c .before .before)) .args .buf .now))
 
 same-length : tie.Need-same-length
 same-length c = search needs
 
 returns : tie.Need-returns
 returns c =
-    let a = c .before .before .before .before .before .before .before .before .before .args in
-    let row = c .before .before .before .before .before .before .put-two .ensures in
-    (omega arith, splice-carry (words (a .buf .now)) (a .at) (a .a ∷ a .b ∷ []) _ [] (a .from) (a .n) (row .1) (c .before .before .carry .ensures) (row .0) (omega arith) (omega arith))
+    let p = first (c .before .before) in
+    let a = start p .args in
+    let row = p .put-two .ensures in
+    let carried = c .before .before .carry .ensures in
+    (omega arith, splice-carry (words (a .buf .now)) (a .at) (a .a ∷ a .b ∷ []) _ [] (a .from) (a .n) (row .1) carried (row .0) (omega arith) (omega arith))
 
 pub put-terms-spec : {M : Type 1} → statement M
 put-terms-spec =

@@ -1,4 +1,4 @@
--- `octets::rows::put_two` meets its contract: a row of one word, and a store behind it. Assumes nothing.
+-- A store behind a row of one word makes a row of two. Assumes nothing.
 use mathlib.Core.List.{_∷_, []}
 use mathlib.Core.Path.{refl, _∙_}
 use Prim.Native.Nat.{_+_}
@@ -13,24 +13,30 @@ use Rattle.octets.proofs.rows.put_two.Tie as tie
 put-requires : tie.Need-put-requires
 put-requires c κs = search needs
 
+abbrev start : tie.After-put → tie.Start
+start c = c .before .before .before
+
 add-put : tie.Need-add-put
-add-put c = omega (arith, length-words (c .before .before .before .before .before .before .args .buf .now))
+add-put c = omega (arith, length-words (start (c .before .before .before) .args .buf .now))
 
 put-requires-2 : tie.Need-put-requires-2
-put-requires-2 c κs = omega (arith, length-words-kept (c .before .before .before .put .last .0) (c .before .before .before .before .before .before .args .buf .now) (c .before .before .before .put .kept .0))
+put-requires-2 c κs = let p = c .before .before .before in omega (arith, length-words-kept (p .put .last .0) (start p .args .buf .now) (p .put .kept .0))
+
+abbrev first : tie.After-put2 → tie.After-put
+first c = c .before .before .before .before
 
 add-result : tie.Need-add-result
-add-result c = omega (arith, length-words (c .before .before .before .before .before .before .before .before .before .args .buf .now))
+add-result c = omega (arith, length-words (start (first (c .before .before)) .args .buf .now))
 
 same-length : tie.Need-same-length
 same-length c = search needs
 
 returns : tie.Need-returns
 returns c =
-    let a = c .before .before .before .before .before .before .before .before .before .args in
-    let l = words (a .buf .now) in
-    let one = c .before .before .before .before .before .before .put .ensures ∙ splice-one l (a .at) (a .a) (omega arith) in
-    (refl, splice-put l (a .at) (a .a ∷ []) (a .at + 1) (a .b) one (c .before .before .put2 .ensures) refl (omega arith))
+    let p = first (c .before .before) in
+    let a = start p .args in
+    let one = p .put .ensures ∙ splice-one (words (a .buf .now)) (a .at) (a .a) (omega arith) in
+    (refl, splice-put (words (a .buf .now)) (a .at) (a .a ∷ []) (a .at + 1) (a .b) one (c .before .before .put2 .ensures) refl (omega arith))
 
 pub put-two-spec : {M : Type 1} → statement M
 put-two-spec =
