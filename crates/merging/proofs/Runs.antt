@@ -1,24 +1,14 @@
 -- A run of atoms that moves down: where it stands then, and what stays. Assumes nothing.
-use mathlib.Core.List.{List, _++_, append-assoc}
+use mathlib.Core.List.{List, _++_}
 use mathlib.Core.Path.{_∙_, _≡_, ap, refl, subst, sym}
 use Prim.Native.Nat.{_+_, _-_, _≤_, ℕ}
 use native.Mathlib.Omega.{arith}
-use lib.ListN.{drop, length, take, take-append-drop}
-use lib.Seq.{drop-drop}
+use lib.ListN.{length}
 use Rattle.octets.proofs.Places.{at-splice, only-splice, only-wide}
-use Rattle.octets.proofs.Splice.{length-part, splice-is}
 use Rattle.octets.specs.Regions.{At, Only, part, splice}
 use Rattle.rules.specs.Flat.{Tab, tabWords, wordsOf}
 use Rattle.bodies.specs.Standing.{TabsAt}
 use Rattle.bodies.proofs.Standing.{tabs-before, tabs-join}
-
--- words carried to where they are
-pub splice-itself : (l : List ℕ) (p n : ℕ) → p + n ≤ length l → splice l p (part l p n) ≡ l
-splice-itself l p n h =
-    splice-is l p (part l p n) ∙ append-assoc (take p l) (part l p n) (drop (p + length (part l p n)) l)
-    ∙ ap (λ (k : ℕ). take p l ++ (part l p n ++ drop (p + k) l)) (length-part l p n h)
-    ∙ ap (λ (x : List ℕ). take p l ++ (part l p n ++ x)) (sym (drop-drop n p l))
-    ∙ ap (λ (x : List ℕ). take p l ++ x) (take-append-drop n (drop p l)) ∙ take-append-drop p l
 
 -- the same atoms, by other numbers
 pub tabs-to : {ts : List Tab} {l : List ℕ} {p n q k : ℕ} → TabsAt ts l p n → p ≡ q → n ≡ k → TabsAt ts l q k

@@ -2,9 +2,9 @@
 use mathlib.Core.Path.{_∙_, ap, sym}
 use Prim.Native.Nat.{ℕ}
 use native.Mathlib.Omega.{arith}
+use Rattle.octets.proofs.Splice.{splice-itself}
 use Rattle.octets.specs.Regions.{below, part, splice}
 use Rattle.octets.specs.Words.{words}
-use Rattle.merging.proofs.Runs.{splice-itself}
 use borrow.Author.Needs.{needs}
 use Rattle.merging.proofs.carry_down.Statement.{statement}
 use Rattle.merging.proofs.carry_down.Tie as tie
