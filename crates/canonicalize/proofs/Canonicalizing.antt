@@ -22,6 +22,7 @@ use Rattle.canonicalize.specs.declared.Canonical.{Canonical}
 use Rattle.canonicalize.specs.Canonicalize.{CanonicalAt, CanonicalizeAsks, FrontAsks, Fronted, Leads, ReplaceAsks, Replaced, ResolveAsks, Resolved, bindingWords}
 use Rattle.canonicalize.specs.Spans.{Built, Spanned}
 use Rattle.canonicalize.proofs.Replacing.{bindings-append, no-equality}
+use Rattle.canonicalize.proofs.Runs.{atoms-ahead}
 use Rattle.canonicalize.proofs.SpanLaws.{spanned-tail}
 use Rattle.canonicalize.proofs.SpansBuilt.{built-only}
 
@@ -44,16 +45,10 @@ module _ {l : List ℕ} {at n : ℕ} (c : AtomsAt (atomsIn l at n) l at n) where
         todo = atomsIn l at n;
         equalities = tt;
         passed = record { fits = tt; bare = tt; size = refl; at = at-nil l at (omega (arith, c .within)); within = omega (arith, c .within) };
-        others = subst (λ (q : ℕ). AtomsAt (atomsIn l at n) l q (n - 0)) (plus at) (subst (λ (q : ℕ). AtomsAt (atomsIn l at n) l at q) (minus n) c);
+        others = atoms-ahead c;
         whole = refl;
         inside = omega arith;
       }
-    where
-      plus : (p : ℕ) → p ≡ p + 0
-      plus p = omega arith
-
-      minus : (p : ℕ) → p ≡ p - 0
-      minus p = omega arith
 
   pub leading-next : {i : ℕ} → Leading l at n i → i < n → getD l (at + i) 0 ≡ equalityWord → Leading l at n (i + 3)
   leading-next {i} w h e = go (t .atom) refl

@@ -26,7 +26,7 @@ use Rattle.meaning.specs.Weight.{headsWeight, live, unlike, weight}
 use Rattle.bodies.specs.Standing.{AtomsAt, TabsAt, atomsIn}
 use Rattle.bodies.proofs.Standing.{atoms-before, atoms-join, bare-resolve, no-tabs, tabs-before, tabs-join}
 use Rattle.canonicalize.specs.declared.Canonical.{Canonical}
-use Rattle.canonicalize.specs.Canonicalize.{FrontAsks, FrontOne, FrontOneAsks, FrontStep, Fronted, ResolveOneAsks, StepAsks, Stepped, Swept}
+use Rattle.canonicalize.specs.Canonicalize.{FrontAsks, FrontOne, FrontOneAsks, FrontStep, Fronted, ResolveOneAsks, StepAsks, Stepped}
 use Rattle.canonicalize.specs.Canonicalize.{askAt, bindingWords, placeAfter, resolveAt}
 use Rattle.canonicalize.specs.Spans.{Spanned}
 use Rattle.canonicalize.proofs.Fronts.{asked-same-terms, canonicalize-asked, canonicalize-still}

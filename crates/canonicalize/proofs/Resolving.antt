@@ -2,7 +2,7 @@
 use mathlib.Core.Bool.{Bool, false, true}
 use mathlib.Core.List.{List, [], _++_, _∷_, append-assoc, append-nil}
 use mathlib.Core.Path.{_∙_, _≡_, ap, refl, subst, sym}
-use Prim.Native.Nat.{_+_, _-_, _<_, _≤_, ℕ}
+use Prim.Native.Nat.{_+_, _-_, _^_, _<_, _≤_, ℕ}
 use native.Mathlib.Omega.{arith}
 use lib.ListN.{getD, length}
 use Rattle.octets.proofs.Places.{at-splice, at-word, only-same, only-splice, only-then, only-wide}
@@ -17,7 +17,7 @@ use Rattle.meaning.proofs.MergePass.{IsEqn}
 use Rattle.bodies.specs.Standing.{AtomsAt, TabsAt, atomsIn}
 use Rattle.bodies.proofs.Standing.{First, atoms-before, atoms-is, atoms-read, bare-resolve, first-atom, no-tabs, none-left, tabs-before, tabs-join}
 use Rattle.canonicalize.specs.Canonicalize.{ResolveAsks, ResolveOneAsks, Resolved, othersIn, resolveAt, resolveTerms, untilEqn}
-use Rattle.canonicalize.proofs.Runs.{StartsEqn, from-starts, fromEqn, run-inside, run-rest, run-tabs, until-resolve}
+use Rattle.canonicalize.proofs.Runs.{StartsEqn, atoms-ahead, from-starts, fromEqn, run-inside, run-rest, run-tabs, until-resolve}
 
 -- ---- one equality
 
@@ -57,77 +57,85 @@ pub record Resolving (s : Sig) (l m : List ℕ) (from n to i k : ℕ) : Type 0 w
   pub inside : i ≤ n
   pub room : k + length (wordsOf tabWords (resolve s todo)) ≡ length (wordsOf tabWords (resolve s (atomsIn l from n)))
 
--- a run is carried, so that an equality is next, if anything
+-- what it has read and written is inside, and fits
+pub record Bounds (from n to i k : ℕ) : Type 0 where
+  pub inside : i ≤ n
+  pub read : from + n < 2 ^ 64
+  pub written : to + k < 2 ^ 64
+
+-- a run of other atoms is next: r words
+pub record Run {s : Sig} {l m : List ℕ} {from n to i k : ℕ} (w : Resolving s l m from n to i k) (r : ℕ) : Type 0 where
+  pub size : r ≡ length (wordsOf tabWords (untilEqn (w .todo)))
+  pub inside : i + r ≤ n
+  pub room : to + k + r ≤ length m
+  pub stands : TabsAt (untilEqn (w .todo)) m (from + i) r
+  pub clear : from + i + r ≤ to + k
+
+-- it is carried, so that an equality is next, if anything
 pub record Ran (s : Sig) (l m : List ℕ) (from n to i k : ℕ) : Type 0 where
   pub here : Resolving s l m from n to i k
   pub first : StartsEqn (here .todo)
 
-module _ (s : Sig) (l : List ℕ) (from n to : ℕ) (c : ResolveAsks s l from n to) where
+module _ {s : Sig} {l : List ℕ} {from n to : ℕ} (c : ResolveAsks s l from n to) where
   pub resolving-start : Resolving s l l from n to 0 0
   resolving-start =
       record {
         written = [];
         todo = atomsIn l from n;
         same = refl;
-        atoms = subst (λ (q : ℕ). AtomsAt (atomsIn l from n) l q (n - 0)) (plus from) (subst (λ (q : ℕ). AtomsAt (atomsIn l from n) l from q) (minus n) (c .atoms));
+        atoms = atoms-ahead (c .atoms);
         tabs = no-tabs l to (omega (arith, c .room));
         only = only-same l to (to + 0);
         inside = omega arith;
         room = omega arith;
       }
-    where
-      plus : (p : ℕ) → p ≡ p + 0
-      plus p = omega arith
 
-      minus : (p : ℕ) → p ≡ p - 0
-      minus p = omega arith
+  module _ {m : List ℕ} {i k : ℕ} (w : Resolving s l m from n to i k) where
+    pub bounds : length l < 2 ^ 64 → Bounds from n to i k
+    bounds fits = record { inside = w .inside; read = omega (arith, c .atoms .within); written = omega (arith, w .tabs .within, w .only .size) }
 
-  -- a run of other atoms is carried: r words
-  module _ (m : List ℕ) (i k : ℕ) (w : Resolving s l m from n to i k) where
     pub others-here : AtomsAt (atomsIn m (from + i) (n - i)) m (from + i) (n - i)
     others-here = atoms-read m (from + i) (n - i) (w .todo) (w .atoms)
 
-    module _ (r : ℕ) (e : r ≡ othersIn m (from + i) (n - i)) where
-      abbrev run : List Tab
-      run = untilEqn (w .todo)
+    abbrev run : List Tab
+    run = untilEqn (w .todo)
 
-      abbrev rest : List Atom
-      rest = fromEqn (w .todo)
+    abbrev rest : List Atom
+    rest = fromEqn (w .todo)
 
-      run-size : r ≡ length (wordsOf tabWords run)
-      run-size = e ∙ ap (λ (xs : List Atom). length (wordsOf tabWords (untilEqn xs))) (atoms-is m (from + i) (n - i) (w .todo) (w .atoms))
+    run-sizes : {r : ℕ} → r ≡ length (wordsOf tabWords run) → length (wordsOf tabWords (resolve s (w .todo))) ≡ r + length (wordsOf tabWords (resolve s rest))
+    run-sizes size =
+        ap (λ (ts : List Tab). length (wordsOf tabWords ts)) (until-resolve s (w .todo)) ∙ length-words-append tabWords run (resolve s rest)
+        ∙ ap (λ (j : ℕ). j + length (wordsOf tabWords (resolve s rest))) (sym size)
 
-      stands : TabsAt run m (from + i) r
-      stands = run-tabs (w .todo) m (from + i) (n - i) r (w .atoms) run-size
+    pub run-next : {r : ℕ} → r ≡ othersIn m (from + i) (n - i) → Run w r
+    run-next {r} e =
+        let size = e ∙ ap (λ (xs : List Atom). length (wordsOf tabWords (untilEqn xs))) (atoms-is m (from + i) (n - i) (w .todo) (w .atoms)) in
+        let inside : i + r ≤ n = omega (arith, w .inside, run-inside (w .atoms) size) in
+        record {
+          size = size;
+          inside = inside;
+          room = omega (arith, w .room, run-sizes size, c .room, w .only .size);
+          stands = run-tabs (w .atoms) size;
+          clear = omega (arith, c .clear);
+        }
 
-      inside : i + r ≤ n
-      inside = omega (arith, w .inside, run-inside (w .todo) m (from + i) (n - i) r (w .atoms) run-size)
-
-      run-sizes : length (wordsOf tabWords (resolve s (w .todo))) ≡ r + length (wordsOf tabWords (resolve s rest))
-      run-sizes =
-          ap (λ (ts : List Tab). length (wordsOf tabWords ts)) (until-resolve s (w .todo)) ∙ length-words-append tabWords run (resolve s rest)
-          ∙ ap (λ (j : ℕ). j + length (wordsOf tabWords (resolve s rest))) (sym run-size)
-
-      room : to + k + r ≤ length m
-      room = omega (arith, w .room, run-sizes, c .room, w .only .size)
-
-      pub run-asks : (to + k + r ≤ length m) × (from + i + r ≤ length m) × (from + i + r ≤ to + k) × (i + r ≤ n)
-      run-asks = (room, stands .within, omega (arith, inside, c .clear), inside)
-
+    -- the run is carried
+    module _ {r : ℕ} (g : Run w r) where
       words-are : part m (from + i) r ≡ wordsOf tabWords run
-      words-are = ap (part m (from + i)) run-size ∙ stands .at .words
+      words-are = ap (part m (from + i)) (g .size) ∙ g .stands .at .words
 
-      pub resolving-run : (m₂ : List ℕ) → m₂ ≡ splice m (to + k) (part m (from + i) r) → Ran s l m₂ from n to (i + r) (k + r)
-      resolving-run m₂ em =
+      pub resolving-run : {m₂ : List ℕ} → m₂ ≡ splice m (to + k) (part m (from + i) r) → Ran s l m₂ from n to (i + r) (k + r)
+      resolving-run {m₂} em =
           let new : List ℕ = wordsOf tabWords run in
-          let o : Only m (splice m (to + k) new) (to + k) (to + (k + r)) = only-splice m (to + k) new (to + (k + r)) (omega (arith, run-size)) (omega (arith, room)) in
+          let o : Only m (splice m (to + k) new) (to + k) (to + (k + r)) = only-splice m (to + k) new (to + (k + r)) (omega (arith, g .size)) (omega (arith, g .room)) in
           let behind : TabsAt run (splice m (to + k) new) (to + k) r =
           record {
-            fits = stands .fits;
-            bare = stands .bare;
-            size = run-size;
-            at = at-splice m (to + k) new (omega (arith, room, run-size));
-            within = omega (arith, o .size, room);
+            fits = g .stands .fits;
+            bare = g .stands .bare;
+            size = g .size;
+            at = at-splice m (to + k) new (omega (arith, g .room, g .size));
+            within = omega (arith, o .size, g .room);
           } in
           subst (λ (x : List ℕ). Ran s l x from n to (i + r) (k + r)) (sym (em ∙ ap (splice m (to + k)) words-are))
           (record {
@@ -135,17 +143,17 @@ module _ (s : Sig) (l : List ℕ) (from n to : ℕ) (c : ResolveAsks s l from n 
               written = w .written ++ run;
               todo = rest;
               same = w .same ∙ ap (λ (ts : List Tab). w .written ++ ts) (until-resolve s (w .todo)) ∙ sym (append-assoc (w .written) run (resolve s rest));
-              atoms = atoms-before o (run-rest (w .todo) m (from + i) (n - i) r (w .atoms) run-size (from + (i + r)) (n - (i + r)) (omega arith) (omega arith)) (omega (arith, inside, c .clear));
+              atoms = atoms-before o (run-rest (w .atoms) (g .size) (from + (i + r)) (n - (i + r)) (omega arith) (omega arith)) (omega (arith, g .inside, c .clear));
               tabs = tabs-join (w .written) run (splice m (to + k) new) to k (to + k) r (tabs-before o (w .tabs) (omega arith)) behind refl;
               only = only-then (only-wide to (to + (k + r)) (w .only) (omega arith) (omega arith)) (only-wide to (to + (k + r)) o (omega arith) (omega arith));
-              inside = inside;
-              room = omega (arith, w .room, run-sizes);
+              inside = g .inside;
+              room = omega (arith, w .room, run-sizes (g .size));
             };
             first = from-starts (w .todo);
           })
 
   -- then an equality is next, and the words that it becomes
-  module _ (m : List ℕ) (i k : ℕ) (g : Ran s l m from n to i k) (h : i < n) where
+  module _ {m : List ℕ} {i k : ℕ} (g : Ran s l m from n to i k) (h : i < n) where
     abbrev w : Resolving s l m from n to i k
     w = g .here
 
@@ -158,7 +166,7 @@ module _ (s : Sig) (l : List ℕ) (from n to : ℕ) (c : ResolveAsks s l from n 
     three : length (atomWords (resolve-here .atom)) ≡ 3
     three = eqn-size (resolve-here .atom) is-eqn
 
-    pub equality-inside : i + 3 ≤ n
+    equality-inside : i + 3 ≤ n
     equality-inside = omega (arith, three, resolve-here .inside)
 
     wrote : resolveAt s m (from + i) ≡ wordsOf tabWords (resolve s (resolve-here .atom ∷ []))
@@ -176,15 +184,17 @@ module _ (s : Sig) (l : List ℕ) (from n to : ℕ) (c : ResolveAsks s l from n 
     pub resolve-one-asks : ResolveOneAsks s m (from + i) (to + k)
     resolve-one-asks = record { whole = omega (arith, equality-inside, w .atoms .within); room = omega (arith, w .room, sizes, c .room, w .only .size) }
 
-    pub resolving-next : s .valueEq < limit12 → (m₂ : List ℕ) (k₂ : ℕ) → k₂ ≡ k + length (resolveAt s m (from + i))
-        → m₂ ≡ splice m (to + k) (resolveAt s m (from + i)) → Resolving s l m₂ from n to (i + 3) k₂
-    resolving-next v m₂ k₂ ek em =
+    -- z words are written for it
+    pub resolving-next : s .valueEq < limit12 → {m₂ : List ℕ} {z : ℕ} → z ≡ length (resolveAt s m (from + i))
+        → m₂ ≡ splice m (to + k) (resolveAt s m (from + i)) → Resolving s l m₂ from n to (i + 3) (k + z)
+    resolving-next v {m₂} {z} ez em =
         let new : List ℕ = resolveAt s m (from + i) in
         let one : List Tab = resolve s (resolve-here .atom ∷ []) in
-        let o : Only m (splice m (to + k) new) (to + k) (to + k₂) = only-splice m (to + k) new (to + k₂) (omega arith) (omega (arith, resolve-one-asks .room)) in
-        let at : At (wordsOf tabWords one) (splice m (to + k) new) (to + k) =
-        subst (λ (ws : List ℕ). At ws (splice m (to + k) new) (to + k)) wrote (at-splice m (to + k) new (resolve-one-asks .room)) in
-        let behind : TabsAt one (splice m (to + k) new) (to + k) (length new) =
+        let m₁ : List ℕ = splice m (to + k) new in
+        let o : Only m m₁ (to + k) (to + (k + z)) = only-splice m (to + k) new (to + (k + z)) (omega arith) (omega (arith, resolve-one-asks .room)) in
+        let at : At (wordsOf tabWords one) m₁ (to + k) =
+        subst (λ (ws : List ℕ). At ws m₁ (to + k)) wrote (at-splice m (to + k) new (resolve-one-asks .room)) in
+        let behind : TabsAt one m₁ (to + k) (length new) =
         record {
           fits = resolve-encodable s v (resolve-here .atom ∷ []) (resolve-here .fits, tt);
           bare = bare-resolve s (resolve-here .atom ∷ []) (resolve-here .bare, tt);
@@ -192,23 +202,23 @@ module _ (s : Sig) (l : List ℕ) (from n to : ℕ) (c : ResolveAsks s l from n 
           at = at;
           within = omega (arith, o .size, resolve-one-asks .room);
         } in
-        subst (λ (x : List ℕ). Resolving s l x from n to (i + 3) k₂) (sym em)
+        subst (λ (x : List ℕ). Resolving s l x from n to (i + 3) (k + z)) (sym em)
         (record {
           written = w .written ++ one;
           todo = resolve-here .rest;
           same = w .same ∙ ap (λ (ts : List Tab). w .written ++ ts) split ∙ sym (append-assoc (w .written) one (resolve s (resolve-here .rest)));
           atoms = atoms-before o (resolve-here .after (from + (i + 3)) (n - (i + 3)) (omega (arith, three)) (omega (arith, three))) (omega (arith, equality-inside, c .clear));
-          tabs = subst (λ (q : ℕ). TabsAt (w .written ++ one) (splice m (to + k) new) to q) (sym ek)
-              (tabs-join (w .written) one (splice m (to + k) new) to k (to + k) (length new) (tabs-before o (w .tabs) (omega arith)) behind refl);
-          only = only-then (only-wide to (to + k₂) (w .only) (omega arith) (omega arith)) (only-wide to (to + k₂) o (omega arith) (omega arith));
+          tabs = subst (λ (q : ℕ). TabsAt (w .written ++ one) m₁ to (k + q)) (sym ez)
+              (tabs-join (w .written) one m₁ to k (to + k) (length new) (tabs-before o (w .tabs) (omega arith)) behind refl);
+          only = only-then (only-wide to (to + (k + z)) (w .only) (omega arith) (omega arith)) (only-wide to (to + (k + z)) o (omega arith) (omega arith));
           inside = equality-inside;
           room = omega (arith, w .room, sizes);
         })
 
-  pub resolving-end : (m : List ℕ) (i k : ℕ) → Resolving s l m from n to i k → n ≤ i → Resolved s l m from n to k
-  resolving-end m i k w h =
-      let e = none-left (w .todo) m (from + i) (n - i) (w .atoms) (omega arith) in
-      record {
-        tabs = subst (λ (ts : List Tab). TabsAt ts m to k) (sym (w .same ∙ ap (λ (xs : List Atom). w .written ++ resolve s xs) e ∙ append-nil (w .written))) (w .tabs);
-        only = w .only;
-      }
+pub resolving-end : {s : Sig} {l m : List ℕ} {from n to i k : ℕ} → Resolving s l m from n to i k → n ≤ i → Resolved s l m from n to k
+resolving-end {s} {l} {m} {from} {n} {to} {i} {k} w h =
+    let e = none-left (w .todo) m (from + i) (n - i) (w .atoms) (omega arith) in
+    record {
+      tabs = subst (λ (ts : List Tab). TabsAt ts m to k) (sym (w .same ∙ ap (λ (xs : List Atom). w .written ++ resolve s xs) e ∙ append-nil (w .written))) (w .tabs);
+      only = w .only;
+    }

@@ -62,12 +62,14 @@ from-all P (eqn p a b ∷ xs) h = h
 from-all P (tab t ∷ xs) h = from-all P xs (h .1)
 
 -- where they stand
-module _ (xs : List Atom) (l : List ℕ) (p n r : ℕ) (s : AtomsAt xs l p n) (e : r ≡ length (wordsOf tabWords (untilEqn xs))) where
+module _ {xs : List Atom} {l : List ℕ} {p n r : ℕ} (s : AtomsAt xs l p n) (e : r ≡ length (wordsOf tabWords (untilEqn xs))) where
   words-at : At (wordsOf tabWords (untilEqn xs) ++ wordsOf atomWords (fromEqn xs)) l p
   words-at = subst (λ (ws : List ℕ). At ws l p) (until-words xs) (s .at)
 
   sizes : n ≡ r + length (wordsOf atomWords (fromEqn xs))
-  sizes = s .size ∙ ap length (until-words xs) ∙ length-append (wordsOf tabWords (untilEqn xs)) (wordsOf atomWords (fromEqn xs)) ∙ ap (λ (k : ℕ). k + length (wordsOf atomWords (fromEqn xs))) (sym e)
+  sizes =
+      s .size ∙ ap length (until-words xs) ∙ length-append (wordsOf tabWords (untilEqn xs)) (wordsOf atomWords (fromEqn xs))
+      ∙ ap (λ (k : ℕ). k + length (wordsOf atomWords (fromEqn xs))) (sym e)
 
   pub run-inside : r ≤ n
   run-inside = omega (arith, sizes)
@@ -110,28 +112,26 @@ until-tab : (t : Tab) (xs : List Atom) → length (wordsOf tabWords (untilEqn (t
 unfolding untilEqn
 until-tab t xs = length-append (tabWords t) (wordsOf tabWords (untilEqn xs))
 
-module _ (l : List ℕ) (from n : ℕ) (c : AtomsAt (atomsIn l from n) l from n) where
+-- nothing is passed yet
+pub atoms-ahead : {xs : List Atom} {l : List ℕ} {p n : ℕ} → AtomsAt xs l p n → AtomsAt xs l (p + 0) (n - 0)
+atoms-ahead {xs} {l} {p} {n} c = subst (λ (q : ℕ). AtomsAt xs l q (n - 0)) (plus p) (subst (λ (q : ℕ). AtomsAt xs l p q) (minus n) c)
+  where
+    plus : (p : ℕ) → p ≡ p + 0
+    plus p = omega arith
+
+    minus : (p : ℕ) → p ≡ p - 0
+    minus p = omega arith
+
+module _ {l : List ℕ} {from n : ℕ} (c : AtomsAt (atomsIn l from n) l from n) where
   pub passing-start : Passing l from n 0
-  passing-start =
-      record {
-        todo = atomsIn l from n;
-        atoms = subst (λ (q : ℕ). AtomsAt (atomsIn l from n) l q (n - 0)) (plus from) (subst (λ (q : ℕ). AtomsAt (atomsIn l from n) l from q) (minus n) c);
-        size = omega arith;
-        inside = omega arith;
-      }
-    where
-      plus : (p : ℕ) → p ≡ p + 0
-      plus p = omega arith
+  passing-start = record { todo = atomsIn l from n; atoms = atoms-ahead c; size = omega arith; inside = omega arith }
 
-      minus : (p : ℕ) → p ≡ p - 0
-      minus p = omega arith
-
-  pub passing-end : (i : ℕ) → Passing l from n i → n ≤ i → i ≡ othersIn l from n
-  passing-end i w h =
+  pub passing-end : {i : ℕ} → Passing l from n i → n ≤ i → i ≡ othersIn l from n
+  passing-end {i} w h =
       let e = none-left (w .todo) l (from + i) (n - i) (w .atoms) (omega arith) in
       omega (arith, w .size, until-eqn (w .todo) (subst (λ (xs : List Atom). StartsEqn xs) (sym e) tt))
 
-  module _ (i : ℕ) (w : Passing l from n i) (h : i < n) where
+  module _ {i : ℕ} (w : Passing l from n i) (h : i < n) where
     pub passing-here : First (w .todo) l (from + i) (n - i)
     passing-here = first-atom (w .todo) l (from + i) (n - i) (w .atoms) (omega arith)
 
@@ -146,10 +146,11 @@ module _ (l : List ℕ) (from n : ℕ) (c : AtomsAt (atomsIn l from n) l from n)
             let is : w .todo ≡ eqn p a b ∷ passing-here .rest = passing-here .is ∙ ap (λ (x : Atom). x ∷ passing-here .rest) q in
             omega (arith, w .size, until-eqn (w .todo) (subst (λ (xs : List Atom). StartsEqn xs) (sym is) tt))
 
-    pub passing-next : (getD l (from + i) 0 ≡ equalityWord → ⊥) → (j : ℕ) → j ≡ i + sizeAt l (from + i) → Passing l from n j
-    passing-next e j ej = go (passing-here .atom) refl
+    -- another atom is met, of z words
+    pub passing-next : (getD l (from + i) 0 ≡ equalityWord → ⊥) → {z : ℕ} → z ≡ sizeAt l (from + i) → Passing l from n (i + z)
+    passing-next e {z} ez = go (passing-here .atom) refl
       where
-        go : (x : Atom) → passing-here .atom ≡ x → Passing l from n j
+        go : (x : Atom) → passing-here .atom ≡ x → Passing l from n (i + z)
         go (eqn p a b) q = absurd (e (at-first (subst (λ (x : Atom). At (atomWords x) l (from + i)) q (passing-here .stands))))
         go (tab t) q =
             let size : sizeAt l (from + i) ≡ length (tabWords t) = passing-here .size ∙ ap (λ (x : Atom). length (atomWords x)) q in
@@ -158,7 +159,7 @@ module _ (l : List ℕ) (from n : ℕ) (c : AtomsAt (atomsIn l from n) l from n)
             ap (λ (xs : List Atom). length (wordsOf tabWords (untilEqn xs))) is ∙ until-tab t (passing-here .rest) in
             record {
               todo = passing-here .rest;
-              atoms = passing-here .after (from + j) (n - j) (omega (arith, passing-here .size)) (omega (arith, passing-here .size));
+              atoms = passing-here .after (from + (i + z)) (n - (i + z)) (omega (arith, passing-here .size)) (omega (arith, passing-here .size));
               size = omega (arith, w .size, run, size);
               inside = omega (arith, passing-here .size, passing-here .inside);
             }

@@ -1,6 +1,7 @@
--- `canonicalize::resolve` meets its contract: what is passed is resolved. Assumes nothing.
-use mathlib.Core.Path.{_∙_, _≡_, ap, refl}
-use Prim.Native.Nat.{_+_, _-_, _<_, ℕ}
+-- Resolving a body: runs of other atoms are carried as they stand, and each equality between them becomes its words; so what is passed is resolved at every
+-- turn. What is written lies beyond what is read. Assumes nothing.
+use mathlib.Core.Path.{_∙_, _≡_, refl}
+use Prim.Native.Nat.{_+_, _-_, _^_, _<_}
 use native.Mathlib.Omega.{arith}
 use lib.ListN.{length}
 use borrow.Author.Needs.{needs}
@@ -8,7 +9,7 @@ use Rattle.octets.proofs.Words.{length-words}
 use Rattle.octets.specs.Regions.{beyond}
 use Rattle.octets.specs.Words.{words}
 use Rattle.bodies.specs.Terms.{sig}
-use Rattle.canonicalize.proofs.Resolving.{Resolving, equality-inside, others-here, resolve-one-asks, resolving-end, resolving-next, resolving-run, resolving-start, run-asks}
+use Rattle.canonicalize.proofs.Resolving.{Bounds, Ran, Resolving, Run, bounds, others-here, resolve-one-asks, resolving-end, resolving-next, resolving-run, resolving-start, run-next}
 use Rattle.canonicalize.proofs.resolve.Statement.{statement}
 use Rattle.canonicalize.proofs.resolve.Tie as tie
 
@@ -18,260 +19,140 @@ Inv-loop s₀ from n to q i₀ k₀ s i k = (length s ≡ length s₀) × Resolv
 abbrev μ-loop : tie.MeasureT-loop
 μ-loop s₀ from n to q i₀ k₀ s i k = n - i
 
+abbrev In : Type 0
+In = tie.In-loop Inv-loop μ-loop
+
+abbrev start : In → tie.Start Inv-loop μ-loop
+start c = c .before .before .before
+
+-- the words that it is given
+module _ (c : tie.Start Inv-loop μ-loop) where
+  fits : length (words (c .args .s .now)) < 2 ^ 64
+  fits = omega (arith, length-words (c .args .s .now), c .good)
+
 loop-holds : tie.Need-loop-holds Inv-loop μ-loop
-loop-holds c =
-    let a = c .before .args in
-    (refl, resolving-start (sig (a .q)) (words (a .s .now)) (a .from) (a .n) (a .to) (c .before .pre .1))
+loop-holds c = (refl, resolving-start (c .before .pre .1))
+
+-- ---- i words are passed, k are written
+
+at-turn : (c : In) → let a = start c .args in Bounds (a .from) (a .n) (a .to) (c .before .loop .i) (c .before .loop .k)
+at-turn c = bounds (start c .pre .1) (c .before .loop .inv .1) (fits (start c))
 
 add-others : tie.Need-add-others Inv-loop μ-loop
-add-others c =
-    let c₁ = c .before .before in
-    let c₀ = c₁ .before .before in
-    let a = c₀ .args in
-    omega (arith, c₀ .pre .1 .atoms .within, length-words (a .s .now))
+add-others c = omega (arith, at-turn (c .before))
 
 sub-others : tie.Need-sub-others Inv-loop μ-loop
 sub-others c = omega arith
 
 others-requires : tie.Need-others-requires Inv-loop μ-loop
-others-requires c κs =
-    let c₁ = c .before .before in
-    let c₀ = c₁ .before .before in
-    let a = c₀ .args in
-    let l = words (a .s .now) in
-    let m = words (c₁ .loop .s) in
-    let i = c₁ .loop .i in
-    let k = c₁ .loop .k in
-    let w = c₁ .loop .inv .1 in
-    others-here (sig (a .q)) l (a .from) (a .n) (a .to) (c₀ .pre .1) m i k w
+others-requires c κs = let t = c .before in others-here (start t .pre .1) (t .before .loop .inv .1)
+
+-- ---- a run is next
+
+abbrev Others : Type 0
+Others = tie.After-others Inv-loop μ-loop
+
+at-others : (c : Others) → Run (c .before .before .before .loop .inv .1) (c .others .result)
+at-others c = let t = c .before .before in run-next (start t .pre .1) (t .before .loop .inv .1) (c .others .ensures)
 
 add-carry : tie.Need-add-carry Inv-loop μ-loop
-add-carry c =
-    let c₄ = c .before in
-    let c₁ = c₄ .before .before .before in
-    let c₀ = c₁ .before .before in
-    let a = c₀ .args in
-    let l = words (a .s .now) in
-    let m = words (c₁ .loop .s) in
-    let i = c₁ .loop .i in
-    let k = c₁ .loop .k in
-    let w = c₁ .loop .inv .1 in
-    let r = c₄ .others .result in
-    let asks = run-asks (sig (a .q)) l (a .from) (a .n) (a .to) (c₀ .pre .1) m i k w r (c₄ .others .ensures) in
-    omega (arith, asks, length-words (c₁ .loop .s))
+add-carry c = omega (arith, at-turn (c .before .before .before))
 
 add-carry-2 : tie.Need-add-carry-2 Inv-loop μ-loop
-add-carry-2 c =
-    let c₄ = c .before in
-    let c₁ = c₄ .before .before .before in
-    let c₀ = c₁ .before .before in
-    let a = c₀ .args in
-    let l = words (a .s .now) in
-    let m = words (c₁ .loop .s) in
-    let i = c₁ .loop .i in
-    let k = c₁ .loop .k in
-    let w = c₁ .loop .inv .1 in
-    let r = c₄ .others .result in
-    let asks = run-asks (sig (a .q)) l (a .from) (a .n) (a .to) (c₀ .pre .1) m i k w r (c₄ .others .ensures) in
-    omega (arith, asks, length-words (c₁ .loop .s))
+add-carry-2 c = omega (arith, at-turn (c .before .before .before))
 
 carry-requires : tie.Need-carry-requires Inv-loop μ-loop
-carry-requires c κs =
-    let c₄ = c .before in
-    let c₁ = c₄ .before .before .before in
-    let c₀ = c₁ .before .before in
-    let a = c₀ .args in
-    let l = words (a .s .now) in
-    let m = words (c₁ .loop .s) in
-    let i = c₁ .loop .i in
-    let k = c₁ .loop .k in
-    let w = c₁ .loop .inv .1 in
-    let r = c₄ .others .result in
-    let asks = run-asks (sig (a .q)) l (a .from) (a .n) (a .to) (c₀ .pre .1) m i k w r (c₄ .others .ensures) in
-    ((asks .0, asks .1), beyond (asks .2))
+carry-requires c κs = let g = at-others (c .before) in ((g .room, g .stands .within), beyond (g .clear))
+
+-- ---- it is carried
+
+abbrev Carry : Type 0
+Carry = tie.After-carry Inv-loop μ-loop
+
+abbrev turn : Carry → In
+turn c = c .before .before .before .before
+
+at-carry : (c : Carry) → let a = start (turn c) .args in let w = turn c .before .loop in let r = c .before .before .others .result in
+    Ran (sig (a .q)) (words (a .s .now)) (words (c .carry .last .0)) (a .from) (a .n) (a .to) (w .i + r) (w .k + r)
+at-carry c = let t = turn c in resolving-run (start t .pre .1) (t .before .loop .inv .1) (at-others (c .before .before)) (c .carry .ensures)
+
+at-carried : (c : Carry) → let a = start (turn c) .args in let w = turn c .before .loop in let r = c .before .before .others .result in
+    Bounds (a .from) (a .n) (a .to) (w .i + r) (w .k + r)
+at-carried c = let e = start (turn c) in bounds (e .pre .1) (at-carry c .here) (fits e)
 
 add-i : tie.Need-add-i Inv-loop μ-loop
-add-i c =
-    let c₄ = c .before .before .before .before in
-    let c₁ = c₄ .before .before .before in
-    let c₀ = c₁ .before .before in
-    let a = c₀ .args in
-    let l = words (a .s .now) in
-    let m = words (c₁ .loop .s) in
-    let i = c₁ .loop .i in
-    let k = c₁ .loop .k in
-    let w = c₁ .loop .inv .1 in
-    let r = c₄ .others .result in
-    let asks = run-asks (sig (a .q)) l (a .from) (a .n) (a .to) (c₀ .pre .1) m i k w r (c₄ .others .ensures) in
-    omega (arith, asks, length-words (c₁ .loop .s))
+add-i c = omega (arith, at-carried (c .before .before))
 
 add-k : tie.Need-add-k Inv-loop μ-loop
-add-k c =
-    let c₄ = c .before .before .before .before in
-    let c₁ = c₄ .before .before .before in
-    let c₀ = c₁ .before .before in
-    let a = c₀ .args in
-    let l = words (a .s .now) in
-    let m = words (c₁ .loop .s) in
-    let i = c₁ .loop .i in
-    let k = c₁ .loop .k in
-    let w = c₁ .loop .inv .1 in
-    let r = c₄ .others .result in
-    let asks = run-asks (sig (a .q)) l (a .from) (a .n) (a .to) (c₀ .pre .1) m i k w r (c₄ .others .ensures) in
-    omega (arith, asks, length-words (c₁ .loop .s))
+add-k c = omega (arith, at-carried (c .before .before))
+
+-- ---- and nothing is left
 
 same-length : tie.Need-same-length Inv-loop μ-loop
 same-length c = search needs
 
 returns : tie.Need-returns Inv-loop μ-loop
-returns c =
-    let c₆ = c .before .before .before in
-    let c₄ = c₆ .before .before in
-    let c₁ = c₄ .before .before .before in
-    let c₀ = c₁ .before .before in
-    let a = c₀ .args in
-    let l = words (a .s .now) in
-    let m = words (c₁ .loop .s) in
-    let i = c₁ .loop .i in
-    let k = c₁ .loop .k in
-    let w = c₁ .loop .inv .1 in
-    let r = c₄ .others .result in
-    let g = resolving-run (sig (a .q)) l (a .from) (a .n) (a .to) (c₀ .pre .1) m i k w r (c₄ .others .ensures) (words (c₆ .carry .last .0)) (c₆ .carry .ensures) in
-    resolving-end (sig (a .q)) l (a .from) (a .n) (a .to) (c₀ .pre .1) (words (c₆ .carry .last .0)) (i + r) (k + r) (g .here) (omega arith)
+returns c = resolving-end (at-carry (c .before .before .before) .here) (omega arith)
+
+-- ---- an equality is next
+
+abbrev else-carry : tie.Else1 Inv-loop μ-loop → Carry
+else-carry c = c .before .before .before
+
+at-more : (c : tie.Else1 Inv-loop μ-loop) → turn (else-carry c) .before .loop .i + else-carry c .before .before .others .result < start (turn (else-carry c)) .args .n
+at-more c = omega (arith, at-carried (else-carry c) .inside, c .if1 .left)
 
 add-resolve-one : tie.Need-add-resolve-one Inv-loop μ-loop
-add-resolve-one c =
-    let c₄ = c .before .before .before .before .before .before in
-    let c₁ = c₄ .before .before .before in
-    let c₀ = c₁ .before .before in
-    let a = c₀ .args in
-    let l = words (a .s .now) in
-    let m = words (c₁ .loop .s) in
-    let i = c₁ .loop .i in
-    let k = c₁ .loop .k in
-    let w = c₁ .loop .inv .1 in
-    let r = c₄ .others .result in
-    let asks = run-asks (sig (a .q)) l (a .from) (a .n) (a .to) (c₀ .pre .1) m i k w r (c₄ .others .ensures) in
-    omega (arith, asks, length-words (c₁ .loop .s))
+add-resolve-one c = omega (arith, at-carried (else-carry (c .before)))
 
 add-resolve-one-2 : tie.Need-add-resolve-one-2 Inv-loop μ-loop
-add-resolve-one-2 c =
-    let c₄ = c .before .before .before .before .before .before in
-    let c₁ = c₄ .before .before .before in
-    let c₀ = c₁ .before .before in
-    let a = c₀ .args in
-    let l = words (a .s .now) in
-    let m = words (c₁ .loop .s) in
-    let i = c₁ .loop .i in
-    let k = c₁ .loop .k in
-    let w = c₁ .loop .inv .1 in
-    let r = c₄ .others .result in
-    let asks = run-asks (sig (a .q)) l (a .from) (a .n) (a .to) (c₀ .pre .1) m i k w r (c₄ .others .ensures) in
-    omega (arith, asks, length-words (c₁ .loop .s))
+add-resolve-one-2 c = omega (arith, at-carried (else-carry (c .before)))
 
 resolve-one-requires : tie.Need-resolve-one-requires Inv-loop μ-loop
 resolve-one-requires c κs =
-    let c₆ = c .before .before .before .before in
-    let c₄ = c₆ .before .before in
-    let c₁ = c₄ .before .before .before in
-    let c₀ = c₁ .before .before in
-    let a = c₀ .args in
-    let l = words (a .s .now) in
-    let m = words (c₁ .loop .s) in
-    let i = c₁ .loop .i in
-    let k = c₁ .loop .k in
-    let w = c₁ .loop .inv .1 in
-    let r = c₄ .others .result in
-    let asks = run-asks (sig (a .q)) l (a .from) (a .n) (a .to) (c₀ .pre .1) m i k w r (c₄ .others .ensures) in
-    let g = resolving-run (sig (a .q)) l (a .from) (a .n) (a .to) (c₀ .pre .1) m i k w r (c₄ .others .ensures) (words (c₆ .carry .last .0)) (c₆ .carry .ensures) in
-    let h : i + r < a .n = omega (arith, asks, c .before .if1 .left) in
-    (c₀ .pre .0, resolve-one-asks (sig (a .q)) l (a .from) (a .n) (a .to) (c₀ .pre .1) (words (c₆ .carry .last .0)) (i + r) (k + r) g h)
+    let e = start (turn (else-carry (c .before))) in
+    (e .pre .0, resolve-one-asks (e .pre .1) (at-carry (else-carry (c .before))) (at-more (c .before)))
+
+-- ---- it is resolved
+
+abbrev One : Type 0
+One = tie.After-resolve-one Inv-loop μ-loop
+
+abbrev carry : One → Carry
+carry c = else-carry (c .before .before)
+
+at-one : (c : One) → let a = start (turn (carry c)) .args in let w = turn (carry c) .before .loop in let r = carry c .before .before .others .result in
+    Resolving (sig (a .q)) (words (a .s .now)) (words (c .resolve-one .last .0)) (a .from) (a .n) (a .to) (w .i + r + 3) (w .k + r + c .resolve-one .result)
+at-one c =
+    let e = start (turn (carry c)) in
+    let k = c .resolve-one .ensures in
+    resolving-next (e .pre .1) (at-carry (carry c)) (at-more (c .before .before)) (e .pre .0 .equals) (k .0) (k .1)
 
 add-k-2 : tie.Need-add-k-2 Inv-loop μ-loop
 add-k-2 c =
-    let c₆ = c .before .before .before .before .before .before .before in
-    let c₄ = c₆ .before .before in
-    let c₁ = c₄ .before .before .before in
-    let c₀ = c₁ .before .before in
-    let a = c₀ .args in
-    let l = words (a .s .now) in
-    let m = words (c₁ .loop .s) in
-    let i = c₁ .loop .i in
-    let k = c₁ .loop .k in
-    let w = c₁ .loop .inv .1 in
-    let r = c₄ .others .result in
-    let asks = run-asks (sig (a .q)) l (a .from) (a .n) (a .to) (c₀ .pre .1) m i k w r (c₄ .others .ensures) in
-    let g = resolving-run (sig (a .q)) l (a .from) (a .n) (a .to) (c₀ .pre .1) m i k w r (c₄ .others .ensures) (words (c₆ .carry .last .0)) (c₆ .carry .ensures) in
-    let h : i + r < a .n = omega (arith, asks, c .before .before .before .before .if1 .left) in
-    omega (arith, c .before .before .resolve-one .ensures .0, resolve-one-asks (sig (a .q)) l (a .from) (a .n) (a .to) (c₀ .pre .1) (words (c₆ .carry .last .0)) (i + r) (k + r) g h .room, length-words (c₆ .carry .last .0))
+    let e = start (turn (carry (c .before .before))) in
+    omega (arith, bounds (e .pre .1) (at-one (c .before .before)) (fits e))
 
 add-i-2 : tie.Need-add-i-2 Inv-loop μ-loop
 add-i-2 c =
-    let c₆ = c .before .before .before .before .before .before .before in
-    let c₄ = c₆ .before .before in
-    let c₁ = c₄ .before .before .before in
-    let c₀ = c₁ .before .before in
-    let a = c₀ .args in
-    let l = words (a .s .now) in
-    let m = words (c₁ .loop .s) in
-    let i = c₁ .loop .i in
-    let k = c₁ .loop .k in
-    let w = c₁ .loop .inv .1 in
-    let r = c₄ .others .result in
-    let asks = run-asks (sig (a .q)) l (a .from) (a .n) (a .to) (c₀ .pre .1) m i k w r (c₄ .others .ensures) in
-    let g = resolving-run (sig (a .q)) l (a .from) (a .n) (a .to) (c₀ .pre .1) m i k w r (c₄ .others .ensures) (words (c₆ .carry .last .0)) (c₆ .carry .ensures) in
-    let h : i + r < a .n = omega (arith, asks, c .before .before .before .before .if1 .left) in
-    omega (arith, equality-inside (sig (a .q)) l (a .from) (a .n) (a .to) (c₀ .pre .1) (words (c₆ .carry .last .0)) (i + r) (k + r) g h, asks)
+    let e = start (turn (carry (c .before .before))) in
+    omega (arith, bounds (e .pre .1) (at-one (c .before .before)) (fits e))
 
 loop-less : tie.Need-loop-less Inv-loop μ-loop
-loop-less c =
-    let c₆ = c .before .before .before .before .before .before .before in
-    let c₄ = c₆ .before .before in
-    let c₁ = c₄ .before .before .before in
-    let c₀ = c₁ .before .before in
-    let a = c₀ .args in
-    let l = words (a .s .now) in
-    let m = words (c₁ .loop .s) in
-    let i = c₁ .loop .i in
-    let k = c₁ .loop .k in
-    let w = c₁ .loop .inv .1 in
-    let r = c₄ .others .result in
-    let asks = run-asks (sig (a .q)) l (a .from) (a .n) (a .to) (c₀ .pre .1) m i k w r (c₄ .others .ensures) in
-    let g = resolving-run (sig (a .q)) l (a .from) (a .n) (a .to) (c₀ .pre .1) m i k w r (c₄ .others .ensures) (words (c₆ .carry .last .0)) (c₆ .carry .ensures) in
-    let h : i + r < a .n = omega (arith, asks, c .before .before .before .before .if1 .left) in
-    omega (arith, equality-inside (sig (a .q)) l (a .from) (a .n) (a .to) (c₀ .pre .1) (words (c₆ .carry .last .0)) (i + r) (k + r) g h)
+loop-less c = omega (arith, at-one (c .before .before) .inside)
 
 loop-again : tie.Need-loop-again Inv-loop μ-loop
 loop-again c =
-    let c₆ = c .before .before .before .before .before .before .before in
-    let c₄ = c₆ .before .before in
-    let c₁ = c₄ .before .before .before in
-    let c₀ = c₁ .before .before in
-    let a = c₀ .args in
-    let l = words (a .s .now) in
-    let m = words (c₁ .loop .s) in
-    let i = c₁ .loop .i in
-    let k = c₁ .loop .k in
-    let w = c₁ .loop .inv .1 in
-    let r = c₄ .others .result in
-    let asks = run-asks (sig (a .q)) l (a .from) (a .n) (a .to) (c₀ .pre .1) m i k w r (c₄ .others .ensures) in
-    let g = resolving-run (sig (a .q)) l (a .from) (a .n) (a .to) (c₀ .pre .1) m i k w r (c₄ .others .ensures) (words (c₆ .carry .last .0)) (c₆ .carry .ensures) in
-    let h : i + r < a .n = omega (arith, asks, c .before .before .before .before .if1 .left) in (
-      c .before .before .resolve-one .kept .0 ∙ c₆ .carry .kept .0 ∙ c₁ .loop .inv .0,
-      resolving-next (sig (a .q)) l (a .from) (a .n) (a .to) (c₀ .pre .1) (words (c₆ .carry .last .0)) (i + r) (k + r) g h (c₀ .pre .0 .equals) _ _
-          (ap (λ (x : ℕ). k + r + x) (c .before .before .resolve-one .ensures .0)) (c .before .before .resolve-one .ensures .1),
-    )
+    let o = c .before .before in
+    (o .resolve-one .kept .0 ∙ carry o .carry .kept .0 ∙ turn (carry o) .before .loop .inv .0, at-one o)
+
+-- ---- nothing is left
 
 same-length-2 : tie.Need-same-length-2 Inv-loop μ-loop
 same-length-2 c = search needs
 
 returns-2 : tie.Need-returns-2 Inv-loop μ-loop
-returns-2 c =
-    let c₁ = c .before in
-    let c₀ = c₁ .before .before in
-    let a = c₀ .args in
-    let l = words (a .s .now) in
-    resolving-end (sig (a .q)) l (a .from) (a .n) (a .to) (c₀ .pre .1) (words (c₁ .loop .s)) (c₁ .loop .i) (c₁ .loop .k) (c₁ .loop .inv .1) (c .loop-test .left)
+returns-2 c = resolving-end (c .before .loop .inv .1) (c .loop-test .left)
 
 pub resolve-spec : {M : Type 1} → statement M
 resolve-spec =
