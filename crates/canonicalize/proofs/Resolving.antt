@@ -21,13 +21,13 @@ use Rattle.canonicalize.proofs.Runs.{StartsEqn, atoms-ahead, from-start
 
 -- ---- one equality
 
-pub resolve-pair : (s : Sig) (l : List ℕ) (p a b : ℕ) → a ≡ getD l (p + 1) 0 → b ≡ getD l (p + 2) 0 → resolveTerms (sameTerm a b) s a b ≡ resolveAt s l p
+pub resolve-pair : (s : Sig) (l : List ℕ) (p : ℕ) {a b : ℕ} → a ≡ getD l (p + 1) 0 → b ≡ getD l (p + 2) 0 → resolveTerms (sameTerm a b) s a b ≡ resolveAt s l p
 unfolding resolveAt
-resolve-pair s l p a b ea eb = λ i. resolveTerms (sameTerm (ea i) (eb i)) s (ea i) (eb i)
+resolve-pair s l p ea eb = λ i. resolveTerms (sameTerm (ea i) (eb i)) s (ea i) (eb i)
 
 pub resolve-atom : (s : Sig) (l : List ℕ) (p : ℕ) (x : Atom) → IsEqn x → At (atomWords x) l p → resolveAt s l p ≡ wordsOf tabWords (resolve s (x ∷ []))
 resolve-atom s l p (tab t) h k = absurd h
-resolve-atom s l p (eqn r a b) h k = sym (resolve-pair s l p a b (sym (at-word 1 k (omega arith))) (sym (at-word 2 k (omega arith)))) ∙ go (sameTerm a b)
+resolve-atom s l p (eqn r a b) h k = sym (resolve-pair s l p (sym (at-word 1 k (omega arith))) (sym (at-word 2 k (omega arith)))) ∙ go (sameTerm a b)
   where
     go : (c : Bool) → resolveTerms c s a b ≡ wordsOf tabWords (resolveEq s c r a b [])
     go true = refl

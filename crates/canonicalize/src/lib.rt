@@ -12,7 +12,9 @@ ghost use Rattle.rules.specs.Signature.{isVar, sameTerm};
 ghost use Rattle.rules.specs.Canonicalize.{replacementOf};
 ghost use Rattle.bodies.specs.Terms.{sig, GoodSign};
 ghost use Rattle.bodies.specs.Standing.{atomsIn, AtomsAt};
-ghost use Rattle.canonicalize.specs.Canonicalize.{askedOf, askAt, resolveTerms, placeAfter, Stepped, StepAsks, ReplaceAsks, Replaced, resolveAt, ResolveOneAsks, othersIn, ResolveAsks, Resolved, FrontOneAsks, FrontOne, FrontAsks, Leads, Fronted, CanonicalizeAsks, CanonicalAt};
+ghost use Rattle.canonicalize.specs.Canonicalize.{askedOf, askAt, placeAfter, StepAsks, Stepped, ReplaceAsks, Replaced};
+ghost use Rattle.canonicalize.specs.Canonicalize.{resolveTerms, resolveAt, ResolveOneAsks, othersIn, ResolveAsks, Resolved};
+ghost use Rattle.canonicalize.specs.Canonicalize.{FrontOneAsks, FrontOne, FrontAsks, Leads, Fronted, CanonicalizeAsks, CanonicalAt};
 
 pub mod spans; // spans.rt: where in a body a term may stand
 

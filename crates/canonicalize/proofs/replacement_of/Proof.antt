@@ -1,60 +1,66 @@
-use mathlib.Core.Bool.{Bool}
-use mathlib.Core.Path.{_∙_, ap, sym}
+-- The three tests, in the order of the definition, settle what it comes to: terms that are one ask for nothing, else a variable on the left is replaced, else
+-- one on the right. Assumes nothing.
+use mathlib.Core.Bool.{Bool, false}
+use mathlib.Core.Path.{_∙_, _≡_, ap, sym}
 use borrow.Author.Needs.{needs}
 use Rattle.rules.specs.Canonicalize.{replacementOf}
-use Rattle.rules.specs.Signature.{isVar}
-use Rattle.canonicalize.specs.Canonicalize.{askedOf}
+use Rattle.rules.specs.Signature.{isVar, sameTerm}
 use Rattle.bodies.specs.Terms.{sig}
+use Rattle.canonicalize.specs.Canonicalize.{askedOf}
 use Rattle.canonicalize.proofs.replacement_of.Statement.{statement}
 use Rattle.canonicalize.proofs.replacement_of.Tie as tie
-use Rattle.canonicalize.proofs.replacement_of.Reads as reads
-use Rattle.canonicalize.proofs.replacement_of.Lts as lts
-use Rattle.bodies.proofs.terms.is_var.Reads as is-var-reads
-use Rattle.bodies.proofs.terms.same_term.Reads as same-term-reads
 
--- src/lib.rt:35:8
+-- ---- the terms are one
+
 same-term-requires : tie.Need-same-term-requires
 same-term-requires c κs = search needs
 
--- src/lib.rt:36:9
 returns : tie.Need-returns
 returns c =
     let a = c .before .before .args in
-    ap (λ (c : Bool). askedOf (replacementOf c (isVar (sig (a .q)) (a .a)) (isVar (sig (a .q)) (a .b)) (a .a) (a .b))) (sym (c .if1 .taken) ∙ c .before .same-term .ensures)
+    let same = sym (c .if1 .taken) ∙ c .before .same-term .ensures in
+    ap (λ (x : Bool). askedOf (replacementOf x (isVar (sig (a .q)) (a .a)) (isVar (sig (a .q)) (a .b)) (a .a) (a .b))) same
 
--- src/lib.rt:42:8
+-- ---- they are two, and the left one is a variable
+
+abbrev start : tie.Else1 → tie.Start
+start c = c .before .before
+
+at-two : (c : tie.Else1) → let a = start c .args in false ≡ sameTerm (a .a) (a .b)
+at-two c = sym (c .if1 .left) ∙ c .before .same-term .ensures
+
 is-var-requires : tie.Need-is-var-requires
 is-var-requires c κs = search needs
 
--- src/lib.rt:43:9
 returns-2 : tie.Need-returns-2
 returns-2 c =
-    let a = c .before .before .before .before .args in
-    let p = sym (c .before .before .if1 .left) ∙ c .before .before .before .same-term .ensures in
-    let q = sym (c .if2 .taken) ∙ c .before .is-var .ensures in
-    λ i. askedOf (replacementOf (p i) (q i) (isVar (sig (a .q)) (a .b)) (a .a) (a .b))
+    let t = c .before .before in
+    let a = start t .args in
+    let left = sym (c .if2 .taken) ∙ c .before .is-var .ensures in
+    λ i. askedOf (replacementOf (at-two t i) (left i) (isVar (sig (a .q)) (a .b)) (a .a) (a .b))
 
--- src/lib.rt:49:8
+-- ---- it is none, and the right one is a variable, or none either
+
+at-fixed : (c : tie.Else2) → let a = start (c .before .before) .args in false ≡ isVar (sig (a .q)) (a .a)
+at-fixed c = sym (c .if2 .left) ∙ c .before .is-var .ensures
+
 is-var-requires-2 : tie.Need-is-var-requires-2
 is-var-requires-2 c κs = search needs
 
--- src/lib.rt:50:9
-returns-3 : tie.Need-returns-3
-returns-3 c =
-    let a = c .before .before .before .before .before .before .args in
-    let p = sym (c .before .before .before .before .if1 .left) ∙ c .before .before .before .before .before .same-term .ensures in
-    let q = sym (c .before .before .if2 .left) ∙ c .before .before .before .is-var .ensures in
-    let r = sym (c .if3 .taken) ∙ c .before .is-var2 .ensures in
-    λ i. askedOf (replacementOf (p i) (q i) (r i) (a .a) (a .b))
+at-right : (c : tie.After-is-var2) (x : Bool) → c .is-var2 .result ≡ x → let a = start (c .before .before .before) .args in
+    askedOf (replacementOf false false x (a .a) (a .b))
+    ≡ askedOf (replacementOf (sameTerm (a .a) (a .b)) (isVar (sig (a .q)) (a .a)) (isVar (sig (a .q)) (a .b)) (a .a) (a .b))
+at-right c x e =
+    let t = c .before in
+    let a = start (t .before .before) .args in
+    let right = sym e ∙ c .is-var2 .ensures in
+    λ i. askedOf (replacementOf (at-two (t .before .before) i) (at-fixed t i) (right i) (a .a) (a .b))
 
--- src/lib.rt:31:1
+returns-3 : tie.Need-returns-3
+returns-3 c = at-right (c .before) _ (c .if3 .taken)
+
 returns-4 : tie.Need-returns-4
-returns-4 c =
-    let a = c .before .before .before .before .before .before .args in
-    let p = sym (c .before .before .before .before .if1 .left) ∙ c .before .before .before .before .before .same-term .ensures in
-    let q = sym (c .before .before .if2 .left) ∙ c .before .before .before .is-var .ensures in
-    let r = sym (c .if3 .left) ∙ c .before .is-var2 .ensures in
-    λ i. askedOf (replacementOf (p i) (q i) (r i) (a .a) (a .b))
+returns-4 c = at-right (c .before) _ (c .if3 .left)
 
 pub replacement-of-spec : {M : Type 1} → statement M
 replacement-of-spec =
