@@ -1,7 +1,7 @@
--- Laws of the log: what takes a use back, and the loop that does. Assumes nothing.
+-- Laws of the log: what takes a use back, what a counter gives, and the loop that takes uses back. Assumes nothing.
 use mathlib.Core.Path.{_≡_, refl, sym, ap, _∙_}
 use mathlib.Core.List.{List, [], _∷_, _++_}
-use Prim.Native.Nat.{ℕ, zero, suc, _+_, _≤_, _<_}
+use Prim.Native.Nat.{ℕ, zero, suc, _+_, _-_, _≤_, _<_}
 use native.Mathlib.Numerals.{add-one}
 use native.Mathlib.Omega.{arith}
 use lib.ListN.{length, getD, set}
@@ -27,7 +27,7 @@ unfolding undone
 undone-none cs = refl
 
 -- inside, what the definition reads past the end does not show
-pub count-in : (cs : List ℕ) (h : ℕ) → h < length cs → count cs h ≡ getD cs h 0
+count-in : (cs : List ℕ) (h : ℕ) → h < length cs → count cs h ≡ getD cs h 0
 count-in [] h k = absurd (omega arith)
 count-in (c ∷ cs) zero k = refl
 count-in (c ∷ cs) (suc h) k = count-in cs h (omega arith)
@@ -38,45 +38,73 @@ used-head h c a b = omega arith
 used-count : (h c : ℕ) → c < limit16 → usedCount (freshWord h c) ≡ c
 used-count h c b = omega arith
 
-pub took : (p h lg c v : ℕ) (s cs s1 cs1 : List ℕ) → h < limit12 → h < length cs → c ≡ getD cs h 0 → c < limit16 → v ≡ freshWord h c
-    → cs1 ≡ set cs h (c + 1) → s1 ≡ set s lg v → Taken (fresh p h cs) p lg s cs s1 cs1 v
-took p h lg c v s cs s1 cs1 a b e k ev ec es =
-    let n : c ≡ count cs h = e ∙ sym (count-in cs h b) in
-    let small : count cs h < limit16 = omega arith in
-    rw (lt-ltb (count cs h) limit16 small)
-    (record {
-      var = ev ∙ ap (freshWord h) n;
-      large = omega arith;
-      next = ec ∙ ap (set cs h) (add-one c ∙ ap suc n);
-      logged = es;
-      undo = back;
-    })
-  where
-    back : set cs1 (usedHead v) (usedCount v) ≡ cs
-    back =
-        let uh : usedHead v ≡ h = ap usedHead ev ∙ used-head h c a k in
-        let uc : usedCount v ≡ getD cs h 0 = ap usedCount ev ∙ used-count h c k ∙ e in
-        (λ i. set (ec i) (uh i) (uc i)) ∙ set-set cs h (c + 1) (getD cs h 0) ∙ set-getD cs h 0
+-- ---- c is what the counter of the head h says
 
-pub full : (p h lg c : ℕ) (s cs : List ℕ) → h < length cs → c ≡ getD cs h 0 → limit16 ≤ c → Taken (fresh p h cs) p lg s cs s cs 0
-full p h lg c s cs b e k =
-    let n : c ≡ count cs h = e ∙ sym (count-in cs h b) in
-    let big : limit16 ≤ count cs h = omega arith in
-    rw (le-ltb (count cs h) limit16 big) (record { nine = refl; here = refl; none = refl; counters = refl; scratch = refl })
+pub record Counter (cs : List ℕ) (h c : ℕ) : Type 0 where
+  pub small : h < limit12
+  pub inside : h < length cs
+  pub is : c ≡ getD cs h 0
 
--- a turn of the loop that puts uses back
-pub back : (k j from : ℕ) (s cs cs0 : List ℕ) → k ≡ j + 1 → from + j < length s → undone (part s from k) cs ≡ cs0
-    → undone (part s from j) (set cs (usedHead (getD s (from + j) 0)) (usedCount (getD s (from + j) 0))) ≡ cs0
-back k j from s cs cs0 e room h =
-    let w = getD s (from + j) 0 in
-    ap (undone (part s from j)) (sym (undone-one w cs)) ∙ sym (undone-append (part s from j) (w ∷ []) cs)
-    ∙ ap (λ (l : List ℕ). undone l cs) (sym (part-more s from j room)) ∙ ap (λ (i : ℕ). undone (part s from i) cs) (sym e) ∙ h
+module _ {cs : List ℕ} {h c : ℕ} (k : Counter cs h c) (lg : ℕ) (s : List ℕ) where
+  counts : c ≡ count cs h
+  counts = k .is ∙ sym (count-in cs h (k .inside))
 
-pub back-out : (k j from : ℕ) (s cs cs0 : List ℕ) → k ≡ j + 1 → from + j < length s → length cs ≤ usedHead (getD s (from + j) 0) → undone (part s from k) cs ≡ cs0
-    → undone (part s from j) cs ≡ cs0
-back-out k j from s cs cs0 e room out h =
-    ap (undone (part s from j)) (sym (set-out cs (usedHead (getD s (from + j) 0)) (usedCount (getD s (from + j) 0)) out)) ∙ back k j from s cs cs0 e room h
+  -- it is used up
+  pub full : limit16 ≤ c → (p : ℕ) → Taken (fresh p h cs) p lg s cs s cs 0
+  full high p =
+      let big : limit16 ≤ count cs h = omega (arith, counts) in
+      rw (le-ltb (count cs h) limit16 big) (record { nine = refl; here = refl; none = refl; counters = refl; scratch = refl })
 
-pub none-left : (k from : ℕ) (s cs cs0 : List ℕ) → k ≤ 0 → undone (part s from k) cs ≡ cs0 → cs ≡ cs0
-none-left zero from s cs cs0 e h = sym (undone-none cs) ∙ h
-none-left (suc k) from s cs cs0 e h = absurd (omega arith)
+  -- it is not: it grows, and the variable is logged
+  pub took : c < limit16 → {s1 cs1 : List ℕ} → cs1 ≡ set cs h (c + 1) → s1 ≡ set s lg (freshWord h c) → (p : ℕ) → Taken (fresh p h cs) p lg s cs s1 cs1 (freshWord h c)
+  took low {s1} {cs1} grown logged p =
+      let small : count cs h < limit16 = omega (arith, counts) in
+      rw (lt-ltb (count cs h) limit16 small)
+      (record {
+        var = ap (freshWord h) counts;
+        large = omega arith;
+        next = grown ∙ ap (set cs h) (add-one c ∙ ap suc counts);
+        logged = logged;
+        undo = back;
+      })
+    where
+      back : set cs1 (usedHead (freshWord h c)) (usedCount (freshWord h c)) ≡ cs
+      back =
+          let uh : usedHead (freshWord h c) ≡ h = used-head h c (k .small) low in
+          let uc : usedCount (freshWord h c) ≡ getD cs h 0 = used-count h c low ∙ k .is in
+          (λ i. set (grown i) (uh i) (uc i)) ∙ set-set cs h (c + 1) (getD cs h 0) ∙ set-getD cs h 0
+
+-- ---- the loop that takes uses back: of the n that are logged at `from` the first k are left, and cs is what the others make of cs0
+
+pub record Taking (s cs0 : List ℕ) (from n k : ℕ) (cs : List ℕ) : Type 0 where
+  pub most : k ≤ n
+  pub inside : from + n ≤ length s
+  pub same : undone (part s from k) cs ≡ undone (part s from n) cs0
+
+pub taking-start : {s cs : List ℕ} {from n : ℕ} → from + n ≤ length s → Taking s cs from n n cs
+taking-start inside = record { most = omega arith; inside = inside; same = refl }
+
+module _ {s cs0 : List ℕ} {from n k : ℕ} {cs : List ℕ} (t : Taking s cs0 from n k cs) where
+  pub taking-end : k ≤ 0 → cs ≡ undone (part s from n) cs0
+  taking-end none =
+      let z : k ≡ 0 = omega arith in
+      sym (undone-none cs) ∙ ap (λ (j : ℕ). undone (part s from j) cs) (sym z) ∙ t .same
+
+  -- the use v is the last of those left
+  module _ (some : 0 < k) {v : ℕ} (is : v ≡ getD s (from + (k - 1)) 0) where
+    pub taking-next : {cs1 : List ℕ} → cs1 ≡ set cs (usedHead v) (usedCount v) → Taking s cs0 from n (k - 1) cs1
+    taking-next {cs1} put =
+        let e : k - 1 + 1 ≡ k = omega arith in
+        let last : part s from k ≡ part s from (k - 1) ++ (v ∷ []) =
+        ap (part s from) (sym e) ∙ part-more s from (k - 1) (omega (arith, t .inside, t .most)) ∙ ap (λ (w : ℕ). part s from (k - 1) ++ (w ∷ [])) (sym is) in
+        record {
+          most = omega (arith, t .most);
+          inside = t .inside;
+          same =
+              ap (undone (part s from (k - 1))) (put ∙ sym (undone-one v cs)) ∙ sym (undone-append (part s from (k - 1)) (v ∷ []) cs)
+              ∙ ap (λ (l : List ℕ). undone l cs) (sym last) ∙ t .same;
+        }
+
+    -- where its head has no counter, nothing is stored
+    pub taking-out : length cs ≤ usedHead v → Taking s cs0 from n (k - 1) cs
+    taking-out out = taking-next (sym (set-out cs (usedHead v) (usedCount v) out))

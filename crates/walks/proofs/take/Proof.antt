@@ -1,23 +1,31 @@
-use mathlib.Core.Path.{refl}
-use native.Mathlib.Omega.{arith}
+-- Taking a fresh variable: its word is made of the head and of what its counter says, so that the word, logged, says what the counter was. Where the
+-- counter is used up nothing is stored. Assumes nothing.
 use Rattle.octets.specs.Words.{words}
-use Rattle.walks.proofs.Log.{took, full}
+use Rattle.walks.proofs.Log.{Counter, full, took}
 use borrow.Author.Needs.{needs}
 use Rattle.walks.proofs.take.Statement.{statement}
 use Rattle.walks.proofs.take.Tie as tie
-use Rattle.walks.proofs.take.Reads as reads
-use Rattle.walks.proofs.take.Lts as lts
-use Rattle.octets.proofs.get.Reads as get-reads
-use Rattle.octets.proofs.put.Reads as put-reads
 
 get-requires : tie.Need-get-requires
 get-requires c κs = search needs
+
+-- ---- the counter is read
+
+abbrev start : tie.After-get → tie.Start
+start c = c .before .before .before .before
+
+at-get : (c : tie.After-get) → let a = start c .args in Counter (words (a .counters .now)) (a .h) (c .get .result)
+at-get c = let q = start c .pre in record { small = q .0; inside = q .1; is = c .get .ensures .is }
+
+-- ---- it is used up
 
 same-length : tie.Need-same-length
 same-length c = search needs
 
 returns : tie.Need-returns
-returns c = let a = c .before .before .before .before .before .args in λ p. full p (a .h) (a .log) (c .before .get .result) (words (a .scratch .now)) (words (a .counters .now)) (omega arith) (c .before .get .ensures .is) (c .if1 .taken)
+returns c = let a = start (c .before) .args in full (at-get (c .before)) (a .log) (words (a .scratch .now)) (c .if1 .taken)
+
+-- ---- it is not: the use is counted and logged
 
 mul-v : tie.Need-mul-v
 mul-v c = search needs
@@ -43,11 +51,18 @@ same-length-2 c = search needs
 same-length-3 : tie.Need-same-length-3
 same-length-3 c = search needs
 
+abbrev counted : tie.After-put2 → tie.After-put
+counted c = c .before .before .before .before
+
+abbrev some : tie.After-put → tie.Else1
+some c = c .before .before
+
 returns-2 : tie.Need-returns-2
 returns-2 c =
-    let a = c .before .before .before .before .before .before .before .before .before .before .before .before .before .args in
-    let q = c .before .before .before .before .before .before .before .before .before .before .before .before .before .pre in
-    λ p. took p (a .h) (a .log) (c .before .before .before .before .before .before .before .before .before .get .result) _ (words (a .scratch .now)) (words (a .counters .now)) _ _ (q .0) (q .1) (c .before .before .before .before .before .before .before .before .before .get .ensures .is) (c .before .before .before .before .before .before .before .before .if1 .left) refl (c .before .before .before .before .before .before .put .ensures) (c .before .before .put2 .ensures)
+    let k = counted (c .before .before) in
+    let e = some k in
+    let a = start (e .before) .args in
+    took (at-get (e .before)) (a .log) (words (a .scratch .now)) (e .if1 .left) (k .put .ensures) (c .before .before .put2 .ensures)
 
 pub take-spec : {M : Type 1} → statement M
 take-spec =
