@@ -1,6 +1,6 @@
 -- 01, "Words and records": what the readers of a signature answer, by the definition of reading it.
 -- Assumes nothing: these are definitions.
-use Prim.Native.Nat.{ℕ, zero, suc, _<_}
+use Prim.Native.Nat.{ℕ, zero, suc}
 use mathlib.Core.Path.{_≡_}
 use mathlib.Core.Bool.{Bool, true, false, _&&_, cond}
 use mathlib.Core.List.{List}
@@ -8,7 +8,7 @@ use lib.ListN.{length, getD}
 use lib.Dec.{ltb}
 use Rattle.rules.specs.Words.{limit12, signatureBase, within}
 use Rattle.rules.specs.Refusals.{Res, ok, refuse}
-use Rattle.rules.specs.Signature.{Sig, heads, payloadAt, readSignature}
+use Rattle.rules.specs.Signature.{Sig, heads, payloadAt}
 use Rattle.records.specs.declared.signature.Signature.{Signature}
 use Rattle.records.specs.declared.signature.Payload.{Payload}
 use Rattle.records.specs.declared.signature.Payload.the-variants.{Fits, Unfit}
@@ -42,9 +42,3 @@ pub record Begins (ws : List ℕ) (h g v f : ℕ) : Type 0 where
   pub globals-read : payloadAt ws 0 (suc limit12) 1 ≡ ok g
   pub equals-read : payloadAt ws 0 h 2 ≡ ok v
   pub flag-read : payloadAt ws 0 2 3 ≡ ok f
-
--- these words are a signature with this head
-pub record HasHead (ws : List ℕ) (h : ℕ) : Type 0 where
-  pub sig : Sig
-  pub reads : readSignature ws ≡ ok sig
-  pub below : h < heads sig

@@ -2,13 +2,13 @@
 use words::LIMIT_12;
 use words::Word;
 ghost use mathlib.Core.Path.{_≡_};
-ghost use Prim.Native.Nat.{_+_, _-_, _<_, _≤_};
+ghost use Prim.Native.Nat.{_+_, _-_, _≤_};
 ghost use lib.ListN.{length};
 ghost use Rattle.octets.specs.Words.{words};
-ghost use Rattle.rules.specs.Signature.{Sig, readSignature, payloadAt, isConstructor};
-ghost use Rattle.rules.specs.Refusals.{ok, refuse, badSignature};
+ghost use Rattle.rules.specs.Signature.{readSignature, payloadAt};
+ghost use Rattle.rules.specs.Refusals.{refuse, badSignature};
 ghost use Rattle.rules.specs.Words.{signatureBase, within};
-ghost use Rattle.records.specs.Signature.{signOf, payloadOf, allKinds, firstBad, Begins, HasHead};
+ghost use Rattle.records.specs.Signature.{signOf, payloadOf, allKinds, firstBad, Begins};
 
 // The refusal's number.
 pub const BAD_SIGNATURE: u32 = 1;
@@ -16,10 +16,8 @@ pub const BAD_SIGNATURE: u32 = 1;
 // G is at most 4,096, so one of so many numbers.
 const GLOBALS: u32 = LIMIT_12 + 1;
 
-// The words of the kinds: a function's, a constructor's and a primitive's, and the first that is none.
+// The words of the kinds: a function's, which is the first, a primitive's, which is the last, and the first that is none.
 const FUNCTION: u32 = 0x0100_0000;
-
-const CONSTRUCTOR: u32 = 0x0100_0001;
 
 const PRIMITIVE: u32 = 0x0100_0002;
 
@@ -185,12 +183,4 @@ pub fn read(signature: &[u8]) -> Signature
         return turned_back(3);
     };
     read_kinds(signature, heads, globals, equals, flag)
-}
-
-// A head is a constructor, in a signature that reads well.
-pub fn constructor(signature: &[u8], head: u32) -> bool
-    requires { ⌜ HasHead (words (now signature)) head ⌝ }
-    ensures { λ r. ⌜ ((s : Sig) → readSignature (words (now (signature .entry))) ≡ ok s → r ≡ isConstructor s head) ⌝ }
-{
-    octets::get(signature, 4 + wide(head)) == CONSTRUCTOR
 }

@@ -6,12 +6,12 @@ use words::LITERAL_BASE;
 use words::NAME_BASE;
 use words::Word;
 ghost use mathlib.Core.Path.{_≡_};
-ghost use Prim.Native.Nat.{_+_, _≤_, _<_};
+ghost use Prim.Native.Nat.{_+_, _<_};
 ghost use mathlib.Core.Bool.{true, _&&_};
 ghost use lib.ListN.{length, getD};
 ghost use lib.Dec.{leb, ltb};
 ghost use Rattle.octets.specs.Words.{words};
-ghost use Rattle.rules.specs.Words.{limit16, maxDepth, isHeadWord, aLet, aSet, aPanic};
+ghost use Rattle.rules.specs.Words.{maxDepth, isHeadWord, aLet, aSet, aPanic};
 ghost use Rattle.rules.specs.Written.{shapeAt, readMany, readExpr, readTarget, readEqual, readFact, readCode, readAction, readRow, readWritten};
 ghost use Rattle.records.specs.Written.{withHeads, walk, walkOf, wholeOf, wordAt, startOf, leafWord, leafAt, readRule};
 
@@ -163,7 +163,6 @@ pub fn arguments(rule: &[u8], heads: u32, at: usize, count: u32, depth: u32) -> 
 // word that does not fit, nothing is said. The loop has one branch on a word, which tells a call from a leaf; whether the word fits only goes into a
 // flag. Where fewer words are left than expressions asked for, they do not all fit: to stop there also bounds how many are asked for.
 fn scan(rule: &[u8], heads: u32, at: usize, count: u32) -> Scanned
-    requires { ⌜ count ≤ limit16 ⌝ }
     ensures { λ r. ⌜ (r .whole ≡ true → walk 0 (r .at) ≡ walkOf (readMany (readExpr (withHeads heads) (words (now (rule .entry))) maxDepth) count at)) ⌝ }
 {
     let end = octets::count(rule);
@@ -197,7 +196,6 @@ fn scan(rule: &[u8], heads: u32, at: usize, count: u32) -> Scanned
 
 // `count` expressions that stand in no other. Those that the scan does not settle are read one inside the other, which tells a refusal and its place.
 fn all_outermost(rule: &[u8], heads: u32, at: usize, count: u32) -> Walk
-    requires { ⌜ count ≤ limit16 ⌝ }
     ensures { λ r. ⌜ r ≡ walkOf (readMany (readExpr (withHeads heads) (words (now (rule .entry))) maxDepth) count at) ⌝ }
 {
     let read = scan(rule, heads, at, count);

@@ -1,34 +1,26 @@
--- Laws of a signature's kinds, and of reading a signature step by step. Assumes nothing.
-use mathlib.Core.Path.{_≡_, refl, ap, subst, _∙_}
-use mathlib.Core.Logic.{⊎-elim}
+-- Laws of a signature's kinds, and of reading a signature step by step: a payload, the first four words, then the kinds. Assumes nothing.
+use mathlib.Core.Path.{_≡_, refl, sym, ap, _∙_}
 use mathlib.Core.Bool.{Bool, true, false, _&&_, cond}
 use mathlib.Core.List.{List, [], _∷_}
 use Prim.Native.Nat.{ℕ, zero, suc, _+_, _-_, _≤_, _<_}
-use native.Mathlib.Nat.{eq-or-lt-of-le}
 use native.Mathlib.Omega.{arith}
 use lib.ListN.{length, getD}
 use lib.Dec.{ltb, leb, eqb, lit<}
 use borrow.Author.Tests.{lt-ltb, le-ltb, ltb-true, leb-true, ne-eqb, eq-eqb, eqb-true, eqb-false}
 use Rattle.rules.specs.Words.{signatureBase, within, limit12}
 use Rattle.rules.specs.Refusals.{Res, ok, refuse, _>>=_, demand}
-use Rattle.rules.specs.Signature.{Sig, heads, payloadAt, kindsAt, readSignature}
+use Rattle.rules.specs.Signature.{payloadAt, kindsAt, readSignature}
 use Rattle.words.specs.Word.{wordOf, kind}
+use Rattle.words.specs.declared.Word.{Word}
 use Rattle.words.specs.declared.Word.the-variants.{Signature}
 use Rattle.words.proofs.Ranges.{within-true, true-within, false-below, false-above}
 use Rattle.words.proofs.WordLaws.{said, signature-kind}
-use Rattle.meaning.proofs.Results.{bind-ok, demand-ok}
-use Rattle.records.specs.Signature.{isKindAt, allKinds, firstBad, payloadOf, Begins}
+use Rattle.meaning.proofs.Lists.{and-left, and-right}
+use Rattle.meaning.proofs.Results.{demand-ok}
+use Rattle.records.specs.Signature.{isKindAt, allKinds, firstBad, payloadOf, signOf, Begins}
+use Rattle.records.specs.declared.signature.Payload.{Payload}
 use Rattle.records.specs.declared.signature.Payload.the-variants.{Fits, Unfit}
-
--- what is known of words that read as this signature
-pub record Facts (ws : List ℕ) (s : Sig) : Type 0 where
-  pub size : length ws ≡ 4 + heads s
-  pub some : 1 ≤ heads s
-  pub most : heads s ≤ limit12
-  pub few : s .globals ≤ limit12
-  pub equals : s .valueEq < heads s
-  pub primitive : getD (s .kinds) (s .valueEq) 0 ≡ 2
-  pub kind : (h k : ℕ) → h < heads s → eqb (getD (s .kinds) h 0) k ≡ eqb (getD ws (4 + h) 0) (signatureBase + k)
+use Rattle.records.specs.declared.signature.Signature.{Signature as Sign}
 
 module _ (ws : List ℕ) where
   -- one kind more, at the end
@@ -174,151 +166,140 @@ module _ (ws : List ℕ) where
       go w h true e = eq-eqb (w - signatureBase) k (let f = eqb-true w (signatureBase + k) e in omega arith)
       go w h false e = ne-eqb (w - signatureBase) k (λ f. eqb-false w (signatureBase + k) e (omega arith))
 
-  -- ---- reading the first four words
+-- ---- a payload, as the code tests it
 
-  pub payload-fits : (low size p : ℕ) {n : ℕ} → payloadOf (payloadAt ws low size p) ≡ Fits n → payloadAt ws low size p ≡ ok n
-  payload-fits low size p e = go (payloadAt ws low size p) e
+-- the word at p has the payload n
+pub record PayloadAt (ws : List ℕ) (p n : ℕ) : Type 0 where
+  pub here : p < length ws
+  pub is : getD ws p 0 ≡ signatureBase + n
+
+pub payload-there : {ws : List ℕ} {p w n : ℕ} {x : Word} → p < length ws → w ≡ getD ws p 0 → x ≡ wordOf w → x ≡ Signature n → PayloadAt ws p n
+payload-there {ws} {p} {w} here read says is = record { here = here; is = sym read ∙ said w (sym says ∙ is) (lit< tt) .0 }
+
+module _ (ws : List ℕ) (low size p : ℕ) where
+  -- what the code answers for it
+  abbrev answer : Payload
+  answer = payloadOf (payloadAt ws low size p)
+
+  pub payload-missing : length ws ≤ p → Unfit ≡ answer
+  payload-missing l = rw (le-ltb p (length ws) l)
+
+  pub payload-other : {w : ℕ} {x : Word} → low + size ≤ signatureBase → p < length ws → w ≡ getD ws p 0 → x ≡ wordOf w → eqb (kind x) 7 ≡ false → Unfit ≡ answer
+  payload-other {w} {x} most here read says other = rw (lt-ltb p (length ws) here, out (within (signatureBase + low) size (getD ws p 0)) refl)
+    where
+      none : eqb (kind (wordOf (getD ws p 0))) 7 ≡ false
+      none = ap (λ (u : ℕ). eqb (kind (wordOf u)) 7) (sym read) ∙ ap (λ (y : Word). eqb (kind y) 7) (sym says) ∙ other
+
+      out : (b : Bool) → within (signatureBase + low) size (getD ws p 0) ≡ b → b ≡ false
+      out true e =
+          let r = within-true (signatureBase + low) size (getD ws p 0) e in
+          let there = true-within signatureBase signatureBase (getD ws p 0) (omega arith) (omega arith) in
+          cc (signature-kind (getD ws p 0), none)
+      out false e = refl
+
+  module _ {n : ℕ} (t : PayloadAt ws p n) where
+    pub payload-low : n < low → Unfit ≡ answer
+    payload-low l = let e = t .is in rw (lt-ltb p (length ws) (t .here), false-below (signatureBase + low) size (getD ws p 0) (omega arith))
+
+    pub payload-high : low + size ≤ n → Unfit ≡ answer
+    payload-high l = let e = t .is in rw (lt-ltb p (length ws) (t .here), false-above (signatureBase + low) size (getD ws p 0) (omega arith))
+
+    pub payload-good : low ≤ n → n < low + size → Fits n ≡ answer
+    payload-good lo hi =
+        let e = t .is in
+        let same : signatureBase + n - signatureBase ≡ n = omega arith in
+        rw (lt-ltb p (length ws) (t .here), true-within (signatureBase + low) size (getD ws p 0) (omega arith) (omega arith), e, same)
+
+  -- and back, from the answer
+  pub payload-fits : {x : Payload} {n : ℕ} → x ≡ answer → x ≡ Fits n → payloadAt ws low size p ≡ ok n
+  payload-fits says e = go (payloadAt ws low size p) (sym says ∙ e)
     where
       go : (x : Res ℕ) {n : ℕ} → payloadOf x ≡ Fits n → x ≡ ok n
       go (ok k) e = cc
       go (refuse k q) e = let z : _≡_ {A = ℕ} 0 1 = cc in absurd (omega arith)
 
-  pub payload-unfit : (low size p : ℕ) → payloadOf (payloadAt ws low size p) ≡ Unfit → payloadAt ws low size p ≡ refuse 1 p
-  payload-unfit low size p e = go (ltb p (length ws) && within (signatureBase + low) size (getD ws p 0)) e
+  pub payload-unfit : {x : Payload} → x ≡ answer → x ≡ Unfit → payloadAt ws low size p ≡ refuse 1 p
+  payload-unfit says e = go (ltb p (length ws) && within (signatureBase + low) size (getD ws p 0)) (sym says ∙ e)
     where
       go : (b : Bool) → payloadOf (demand b 1 p (getD ws p 0 - signatureBase)) ≡ Unfit → demand b 1 p (getD ws p 0 - signatureBase) ≡ refuse 1 p
       go true e = let z : _≡_ {A = ℕ} 0 1 = cc in absurd (omega arith)
       go false e = refl
 
-  -- the code's tests of a payload
-
-  pub payload-missing : (low size p : ℕ) → length ws ≤ p → Unfit ≡ payloadOf (payloadAt ws low size p)
-  payload-missing low size p l = rw (le-ltb p (length ws) l)
-
-  module _ (low size p : ℕ) (here : p < length ws) where
-    pub payload-other : low + size ≤ signatureBase → eqb (kind (wordOf (getD ws p 0))) 7 ≡ false → Unfit ≡ payloadOf (payloadAt ws low size p)
-    payload-other most other = rw (lt-ltb p (length ws) here, out (within (signatureBase + low) size (getD ws p 0)) refl)
-      where
-        out : (b : Bool) → within (signatureBase + low) size (getD ws p 0) ≡ b → b ≡ false
-        out true e =
-            let r = within-true (signatureBase + low) size (getD ws p 0) e in
-            let there = true-within signatureBase signatureBase (getD ws p 0) (omega arith) (omega arith) in
-            cc (signature-kind (getD ws p 0))
-        out false e = refl
-
-    module _ (n : ℕ) (says : wordOf (getD ws p 0) ≡ Signature n) where
-      payload-is : getD ws p 0 ≡ signatureBase + n
-      payload-is = said (getD ws p 0) says (lit< tt) .0
-
-      pub payload-low : n < low → Unfit ≡ payloadOf (payloadAt ws low size p)
-      payload-low l = let e = payload-is in rw (lt-ltb p (length ws) here, false-below (signatureBase + low) size (getD ws p 0) (omega arith))
-
-      pub payload-high : low + size ≤ n → Unfit ≡ payloadOf (payloadAt ws low size p)
-      payload-high l = let e = payload-is in rw (lt-ltb p (length ws) here, false-above (signatureBase + low) size (getD ws p 0) (omega arith))
-
-      pub payload-good : low ≤ n → n < low + size → Fits n ≡ payloadOf (payloadAt ws low size p)
-      payload-good lo hi =
-          let e = payload-is in
-          let same : signatureBase + n - signatureBase ≡ n = omega arith in
-          rw (lt-ltb p (length ws) here, true-within (signatureBase + low) size (getD ws p 0) (omega arith) (omega arith), e, same)
-
   -- a payload that was read lies in its range
-  pub payload-range : (low size p n : ℕ) → payloadAt ws low size p ≡ ok n → (p < length ws) × (low ≤ n) × (n < low + size)
-  payload-range low size p n e =
-      go (ltb p (length ws)) refl (leb (signatureBase + low) (getD ws p 0)) refl (ltb (getD ws p 0) (signatureBase + low + size)) refl e
-    where
-      go : (a : Bool) → ltb p (length ws) ≡ a → (b : Bool) → leb (signatureBase + low) (getD ws p 0) ≡ b → (d : Bool) → ltb (getD ws p 0) (signatureBase + low + size) ≡ d
-          → demand (a && (b && d)) 1 p (getD ws p 0 - signatureBase) ≡ ok n → (p < length ws) × (low ≤ n) × (n < low + size)
-      go true ea true eb true ed h =
-          let is : getD ws p 0 - signatureBase ≡ n = cc in
-          let lo = leb-true (signatureBase + low) (getD ws p 0) eb in
-          let hi = ltb-true (getD ws p 0) (signatureBase + low + size) ed in
-          (ltb-true p (length ws) ea, omega arith, omega arith)
-      go true ea true eb false ed h = let z : _≡_ {A = ℕ} 0 1 = cc in absurd (omega arith)
-      go true ea false eb d ed h = let z : _≡_ {A = ℕ} 0 1 = cc in absurd (omega arith)
-      go false ea b eb d ed h = let z : _≡_ {A = ℕ} 0 1 = cc in absurd (omega arith)
+  pub payload-range : {n : ℕ} → payloadAt ws low size p ≡ ok n → (p < length ws) × (low ≤ n) × (n < low + size)
+  payload-range {n} e =
+      let d = demand-ok (ltb p (length ws) && within (signatureBase + low) size (getD ws p 0)) 1 p (getD ws p 0 - signatureBase) n e in
+      let here = ltb-true p (length ws) (and-left (ltb p (length ws)) _ (d .0)) in
+      let r = within-true (signatureBase + low) size (getD ws p 0) (and-right (ltb p (length ws)) _ (d .0)) in
+      let is = d .1 in
+      (here, omega arith, omega arith)
 
-  pub heads-bad : payloadAt ws 1 limit12 0 ≡ refuse 1 0 → readSignature ws ≡ refuse 1 0
-  heads-bad e = rw e
+-- ---- the first four words
 
-  pub globals-bad : {h : ℕ} → payloadAt ws 1 limit12 0 ≡ ok h → payloadAt ws 0 (suc limit12) 1 ≡ refuse 1 1 → readSignature ws ≡ refuse 1 1
-  globals-bad rh e = rw (rh, e)
+module _ (ws : List ℕ) where
+  -- what the code answers for the signature
+  abbrev signature : Sign
+  signature = signOf (readSignature ws)
 
-  pub equals-bad : {h g : ℕ} → payloadAt ws 1 limit12 0 ≡ ok h → payloadAt ws 0 (suc limit12) 1 ≡ ok g → payloadAt ws 0 h 2 ≡ refuse 1 2 → readSignature ws ≡ refuse 1 2
-  equals-bad rh rg e = rw (rh, rg, e)
+  pub heads-bad : payloadAt ws 1 limit12 0 ≡ refuse 1 0 → signOf (refuse 1 0) ≡ signature
+  heads-bad e = rw e refl
+
+  pub globals-bad : {h : ℕ} → payloadAt ws 1 limit12 0 ≡ ok h → payloadAt ws 0 (suc limit12) 1 ≡ refuse 1 1 → signOf (refuse 1 1) ≡ signature
+  globals-bad rh e = rw (rh, e) refl
+
+  pub equals-bad : {h g : ℕ} → payloadAt ws 1 limit12 0 ≡ ok h → payloadAt ws 0 (suc limit12) 1 ≡ ok g → payloadAt ws 0 h 2 ≡ refuse 1 2 → signOf (refuse 1 2) ≡ signature
+  equals-bad rh rg e = rw (rh, rg, e) refl
 
   pub flag-bad : {h g v : ℕ} → payloadAt ws 1 limit12 0 ≡ ok h → payloadAt ws 0 (suc limit12) 1 ≡ ok g → payloadAt ws 0 h 2 ≡ ok v → payloadAt ws 0 2 3 ≡ refuse 1 3
-      → readSignature ws ≡ refuse 1 3
-  flag-bad rh rg rv e = rw (rh, rg, rv, e)
+      → signOf (refuse 1 3) ≡ signature
+  flag-bad rh rg rv e = rw (rh, rg, rv, e) refl
 
-  -- ---- and then the kinds
+-- ---- and then the kinds
 
-  module _ {h g v f : ℕ} (b : Begins ws h g v f) where
-    pub begins-inside : (4 ≤ length ws) × (h ≤ limit12) × (v < h)
-    begins-inside =
-        let rh = payload-range 1 limit12 0 h (b .heads-read) in
-        let rv = payload-range 0 h 2 v (b .equals-read) in
-        let rf = payload-range 0 2 3 f (b .flag-read) in
-        omega arith
+module _ {ws : List ℕ} {h g v f : ℕ} (b : Begins ws h g v f) where
+  pub begins-inside : (4 ≤ length ws) × (h ≤ limit12) × (v < h)
+  begins-inside =
+      let rh = payload-range ws 1 limit12 0 (b .heads-read) in
+      let rv = payload-range ws 0 h 2 (b .equals-read) in
+      let rf = payload-range ws 0 2 3 (b .flag-read) in
+      omega arith
 
-    -- no bad index: all the kinds are there
-    pub none-bad : 4 + h ≤ firstBad ws h 4 → (firstBad ws h 4 ≡ 4 + h) × (4 + h ≤ length ws)
-    none-bad l =
-        let e : firstBad ws h 4 ≡ 4 + h = omega (arith, first-bad-most h 4) in
-        let i = begins-inside in
-        let last = is-kind-inside (3 + h) (all-good h 4 (h - 1) (3 + h) e (omega arith) (omega arith)) in
-        (e, omega arith)
+  pub kind-bad : {bad : ℕ} → bad ≡ firstBad ws h 4 → bad < 4 + h → signOf (refuse 1 bad) ≡ signature ws
+  kind-bad is low = rw (is, b .heads-read, b .globals-read, b .equals-read, b .flag-read, kinds-bad ws h 4 (omega arith)) refl
 
-    pub kind-bad : firstBad ws h 4 < 4 + h → readSignature ws ≡ refuse 1 (firstBad ws h 4)
-    kind-bad bad = rw (b .heads-read, b .globals-read, b .equals-read, b .flag-read, kinds-bad h 4 bad)
+-- all the kinds are there
+pub record Kinds (ws : List ℕ) (h g v f : ℕ) : Type 0 where
+  pub begins : Begins ws h g v f
+  pub good : firstBad ws h 4 ≡ 4 + h
+  pub inside : 4 + h ≤ length ws
+  pub equals : v < h
 
-    pub surplus-bad : firstBad ws h 4 ≡ 4 + h → 4 + h < length ws → readSignature ws ≡ refuse 1 (4 + h)
-    surplus-bad good l = rw (b .heads-read, b .globals-read, b .equals-read, b .flag-read, kinds-good h 4 good, ne-eqb (length ws) (4 + h) (λ e. omega arith))
+-- no index is bad
+pub none-bad : {ws : List ℕ} {h g v f bad : ℕ} → Begins ws h g v f → bad ≡ firstBad ws h 4 → 4 + h ≤ bad → Kinds ws h g v f
+none-bad {ws} {h} b is l =
+    let e : firstBad ws h 4 ≡ 4 + h = omega (arith, first-bad-most ws h 4) in
+    let i = begins-inside b in
+    let last = is-kind-inside ws (3 + h) (all-good ws h 4 (h - 1) (3 + h) e (omega arith) (omega arith)) in
+    record { begins = b; good = e; inside = omega arith; equals = i .2 }
 
-    module _ (good : firstBad ws h 4 ≡ 4 + h) (whole : length ws ≡ 4 + h) where
-      pub equals-no-primitive : eqb (getD ws (4 + v) 0) (signatureBase + 2) ≡ false → readSignature ws ≡ refuse 1 2
-      equals-no-primitive t =
-          rw (b .heads-read, b .globals-read, b .equals-read, b .flag-read, kinds-good h 4 good, eq-eqb (length ws) (4 + h) whole, kind-test h v 2 good (begins-inside .2), t)
+module _ {ws : List ℕ} {h g v f : ℕ} (k : Kinds ws h g v f) where
+  abbrev b : Begins ws h g v f
+  b = k .begins
 
-      pub signature-read : eqb (getD ws (4 + v) 0) (signatureBase + 2) ≡ true
-          → readSignature ws ≡ ok (record { globals = g; valueEq = v; flag = eqb f 1; kinds = kindsFrom h 4 })
-      signature-read t =
-          rw (b .heads-read, b .globals-read, b .equals-read, b .flag-read, kinds-good h 4 good, eq-eqb (length ws) (4 + h) whole, kind-test h v 2 good (begins-inside .2), t)
+  pub surplus-bad : 4 + h < length ws → signOf (refuse 1 (4 + h)) ≡ signature ws
+  surplus-bad l = rw (b .heads-read, b .globals-read, b .equals-read, b .flag-read, kinds-good ws h 4 (k .good), ne-eqb (length ws) (4 + h) (λ e. omega arith)) refl
 
-  -- ---- what is known of a signature that reads well
+  -- w is the word of the value-eq head's kind
+  module _ {w : ℕ} (whole : length ws ≡ 4 + h) (is : w ≡ getD ws (4 + v) 0) where
+    test : (t : Bool) → eqb w (signatureBase + 2) ≡ t → eqb (getD (kindsFrom ws h 4) v 0) 2 ≡ t
+    test t e = kind-test ws h v 2 (k .good) (k .equals) ∙ ap (λ (u : ℕ). eqb u (signatureBase + 2)) (sym is) ∙ e
 
-  kinds-read : (n p : ℕ) (ks : List ℕ) → kindsAt ws n p ≡ ok ks → (firstBad ws n p ≡ p + n) × (ks ≡ kindsFrom n p)
-  kinds-read n p ks e = ⊎-elim all some (eq-or-lt-of-le (first-bad-most n p))
-    where
-      all : firstBad ws n p ≡ p + n → (firstBad ws n p ≡ p + n) × (ks ≡ kindsFrom n p)
-      all h = (h, cc (kinds-good n p h))
+    pub equals-no-primitive : ¬ (w ≡ signatureBase + 2) → signOf (refuse 1 2) ≡ signature ws
+    equals-no-primitive n =
+        let no = test false (ne-eqb w (signatureBase + 2) n) in
+        rw (b .heads-read, b .globals-read, b .equals-read, b .flag-read, kinds-good ws h 4 (k .good), eq-eqb (length ws) (4 + h) whole, no) refl
 
-      some : firstBad ws n p < p + n → (firstBad ws n p ≡ p + n) × (ks ≡ kindsFrom n p)
-      some h = let z : _≡_ {A = ℕ} 0 1 = cc (kinds-bad n p h) in absurd (omega arith)
-
-  pub signature-facts : (s : Sig) → readSignature ws ≡ ok s → Facts ws s
-  signature-facts s e =
-      let a = bind-ok (payloadAt ws 1 limit12 0) _ s e in
-      let b = bind-ok (payloadAt ws 0 (suc limit12) 1) _ s (a .2) in
-      let d = bind-ok (payloadAt ws 0 (a .0) 2) _ s (b .2) in
-      let f = bind-ok (payloadAt ws 0 2 3) _ s (d .2) in
-      let k = bind-ok (kindsAt ws (a .0) 4) _ s (f .2) in
-      let n = bind-ok (demand (eqb (length ws) (4 + a .0)) 1 (4 + a .0) (a .0)) _ s (k .2) in
-      let read = kinds-read (a .0) 4 (k .0) (k .1) in
-      let whole = eqb-true (length ws) (4 + a .0) (demand-ok (eqb (length ws) (4 + a .0)) 1 (4 + a .0) (a .0) (n .0) (n .1) .0) in
-      let it : Sig = record { globals = b .0; valueEq = d .0; flag = eqb (f .0) 1; kinds = k .0 } in
-      let last = demand-ok (eqb (getD (k .0) (d .0) 0) 2) 1 2 it s (n .2) in
-      let rh = payload-range 1 limit12 0 (a .0) (a .1) in
-      let rg = payload-range 0 (suc limit12) 1 (b .0) (b .1) in
-      let rv = payload-range 0 (a .0) 2 (d .0) (d .1) in
-      subst (λ (x : Sig). Facts ws x) (last .1)
-      (rw (read .1)
-      (record {
-        size = omega (arith, length-kindsFrom (a .0) 4);
-        some = omega (arith, length-kindsFrom (a .0) 4);
-        most = omega (arith, length-kindsFrom (a .0) 4);
-        few = omega arith;
-        equals = omega (arith, length-kindsFrom (a .0) 4);
-        primitive = rw (read .1) at (eqb-true (getD (k .0) (d .0) 0) 2 (last .0));
-        kind = λ h j l. kind-test (a .0) h j (read .0) (rw (length-kindsFrom (a .0) 4) at l);
-      }))
+    pub signature-read : w ≡ signatureBase + 2 → record { refused = 0; place = 0; heads = h; globals = g; equals = v; flag = eqb f 1 } ≡ signature ws
+    signature-read y =
+        let yes = test true (eq-eqb w (signatureBase + 2) y) in
+        rw (b .heads-read, b .globals-read, b .equals-read, b .flag-read, kinds-good ws h 4 (k .good), eq-eqb (length ws) (4 + h) whole, yes, length-kindsFrom ws h 4) refl

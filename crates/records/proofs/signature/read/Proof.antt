@@ -1,15 +1,25 @@
--- `signature::read` meets its contract: each word's refusal is a law of `readSignature`. Assumes nothing.
-use mathlib.Core.Path.{sym, ap, _∙_}
-use Prim.Native.Nat.{suc}
+-- The four payloads are read one after the other: each that does not fit is a way out of `readSignature`, and with all four the signature begins
+-- well. Assumes nothing.
+use Prim.Native.Nat.{ℕ, suc}
 use native.Mathlib.Omega.{arith}
-use denote.Ref.{now}
+use mathlib.Core.List.{List}
+use mathlib.Core.Path.{_≡_, _∙_}
 use Rattle.octets.specs.Words.{words}
+use Rattle.rules.specs.Refusals.{ok}
+use Rattle.rules.specs.Signature.{payloadAt}
 use Rattle.rules.specs.Words.{limit12}
-use Rattle.records.specs.Signature.{signOf}
 use Rattle.records.proofs.signature.Laws.{payload-fits, payload-unfit, payload-range, heads-bad, globals-bad, equals-bad, flag-bad}
 use borrow.Author.Needs.{needs}
 use Rattle.records.proofs.signature.read.Statement.{statement}
 use Rattle.records.proofs.signature.read.Tie as tie
+
+abbrev ws : tie.Start → List ℕ
+ws c = words (c .args .signature .now)
+
+-- ---- H
+
+abbrev start : tie.After-payload-at → tie.Start
+start c = c .before .before
 
 payload-at-requires : tie.Need-payload-at-requires
 payload-at-requires c κs = search needs
@@ -25,8 +35,20 @@ turned-back-requires c κs = search needs
 
 returns : tie.Need-returns
 returns c =
-    let ws = words (now (c .before .before .before .before .before .args .signature)) in
-    c .turned-back .ensures ∙ ap signOf (sym (heads-bad ws (payload-unfit ws 1 limit12 0 (sym (c .before .before .before .payload-at .ensures) ∙ c .before .enum-told .given .1))))
+    let p = c .before .before .before in
+    let l = ws (start p) in
+    c .turned-back .ensures ∙ heads-bad l (payload-unfit l 1 limit12 0 (p .payload-at .ensures) (c .before .enum-told .given .1))
+
+-- ---- G
+
+abbrev heads-at : tie.After-known-told → tie.After-payload-at
+heads-at c = c .before .before .before
+
+abbrev h : tie.After-known-told → ℕ
+h c = c .before .heads .given .0 .0
+
+at-heads : (c : tie.After-known-told) → payloadAt (ws (start (heads-at c))) 1 limit12 0 ≡ ok (h c)
+at-heads c = payload-fits (ws (start (heads-at c))) 1 limit12 0 (heads-at c .payload-at .ensures) (c .before .heads .given .1)
 
 payload-at-requires-2 : tie.Need-payload-at-requires-2
 payload-at-requires-2 c κs = search needs
@@ -42,13 +64,24 @@ turned-back-requires-2 c κs = search needs
 
 returns-2 : tie.Need-returns-2
 returns-2 c =
-    let ws = words (now (c .before .before .before .before .before .before .before .before .before .args .signature)) in
-    c .turned-back2 .ensures ∙ ap signOf (sym (globals-bad ws (payload-fits ws 1 limit12 0 (sym (c .before .before .before .before .before .before .before .payload-at .ensures) ∙ c .before .before .before .before .before .heads .given .1)) (payload-unfit ws 0 (suc limit12) 1 (sym (c .before .before .before .payload-at2 .ensures) ∙ c .before .enum-told2 .given .1))))
+    let p = c .before .before .before in
+    let l = ws (start (heads-at (p .before))) in
+    let bad = payload-unfit l 0 (suc limit12) 1 (p .payload-at2 .ensures) (c .before .enum-told2 .given .1) in
+    c .turned-back2 .ensures ∙ globals-bad l (at-heads (p .before)) bad
+
+-- ---- the value-eq head
+
+abbrev globals-heads : tie.After-known-told2 → tie.After-known-told
+globals-heads c = c .before .before .before .before
+
+abbrev start2 : tie.After-known-told2 → tie.Start
+start2 c = start (heads-at (globals-heads c))
+
+at-globals : (c : tie.After-known-told2) → payloadAt (ws (start2 c)) 0 (suc limit12) 1 ≡ ok (c .before .globals .given .0 .0)
+at-globals c = payload-fits (ws (start2 c)) 0 (suc limit12) 1 (c .before .before .before .payload-at2 .ensures) (c .before .globals .given .1)
 
 payload-at-requires-3 : tie.Need-payload-at-requires-3
-payload-at-requires-3 c κs =
-    let ws = words (now (c .before .before .before .before .before .before .before .before .before .args .signature)) in
-    let r = payload-range ws 1 limit12 0 _ (payload-fits ws 1 limit12 0 (sym (c .before .before .before .before .before .before .before .payload-at .ensures) ∙ c .before .before .before .before .before .heads .given .1)) in omega arith
+payload-at-requires-3 c κs = omega (arith, payload-range (ws (start2 c)) 1 limit12 0 (at-heads (globals-heads c)))
 
 enum-known-equals : tie.Need-enum-known-equals
 enum-known-equals c = search needs
@@ -61,8 +94,21 @@ turned-back-requires-3 c κs = search needs
 
 returns-3 : tie.Need-returns-3
 returns-3 c =
-    let ws = words (now (c .before .before .before .before .before .before .before .before .before .before .before .before .before .args .signature)) in
-    c .turned-back3 .ensures ∙ ap signOf (sym (equals-bad ws (payload-fits ws 1 limit12 0 (sym (c .before .before .before .before .before .before .before .before .before .before .before .payload-at .ensures) ∙ c .before .before .before .before .before .before .before .before .before .heads .given .1)) (payload-fits ws 0 (suc limit12) 1 (sym (c .before .before .before .before .before .before .before .payload-at2 .ensures) ∙ c .before .before .before .before .before .globals .given .1)) (payload-unfit ws 0 _ 2 (sym (c .before .before .before .payload-at3 .ensures) ∙ c .before .enum-told3 .given .1))))
+    let p = c .before .before .before in
+    let g = p .before in
+    let bad = payload-unfit (ws (start2 g)) 0 (h (globals-heads g)) 2 (p .payload-at3 .ensures) (c .before .enum-told3 .given .1) in
+    c .turned-back3 .ensures ∙ equals-bad (ws (start2 g)) (at-heads (globals-heads g)) (at-globals g) bad
+
+-- ---- the flag
+
+abbrev equals-globals : tie.After-known-told3 → tie.After-known-told2
+equals-globals c = c .before .before .before .before
+
+abbrev start3 : tie.After-known-told3 → tie.Start
+start3 c = start2 (equals-globals c)
+
+at-equals : (c : tie.After-known-told3) → payloadAt (ws (start3 c)) 0 (h (globals-heads (equals-globals c))) 2 ≡ ok (c .before .equals .given .0 .0)
+at-equals c = payload-fits (ws (start3 c)) 0 (h (globals-heads (equals-globals c))) 2 (c .before .before .before .payload-at3 .ensures) (c .before .equals .given .1)
 
 payload-at-requires-4 : tie.Need-payload-at-requires-4
 payload-at-requires-4 c κs = search needs
@@ -78,17 +124,22 @@ turned-back-requires-4 c κs = search needs
 
 returns-4 : tie.Need-returns-4
 returns-4 c =
-    let ws = words (now (c .before .before .before .before .before .before .before .before .before .before .before .before .before .before .before .before .before .args .signature)) in
-    c .turned-back4 .ensures ∙ ap signOf (sym (flag-bad ws (payload-fits ws 1 limit12 0 (sym (c .before .before .before .before .before .before .before .before .before .before .before .before .before .before .before .payload-at .ensures) ∙ c .before .before .before .before .before .before .before .before .before .before .before .before .before .heads .given .1)) (payload-fits ws 0 (suc limit12) 1 (sym (c .before .before .before .before .before .before .before .before .before .before .before .payload-at2 .ensures) ∙ c .before .before .before .before .before .before .before .before .before .globals .given .1)) (payload-fits ws 0 (c .before .before .before .before .before .before .before .before .before .before .before .before .before .heads .given .0 .0) 2 (sym (c .before .before .before .before .before .before .before .payload-at3 .ensures) ∙ c .before .before .before .before .before .equals .given .1)) (payload-unfit ws 0 2 3 (sym (c .before .before .before .payload-at4 .ensures) ∙ c .before .enum-told4 .given .1))))
+    let p = c .before .before .before in
+    let g = equals-globals (p .before) in
+    let bad = payload-unfit (ws (start2 g)) 0 2 3 (p .payload-at4 .ensures) (c .before .enum-told4 .given .1) in
+    c .turned-back4 .ensures ∙ flag-bad (ws (start2 g)) (at-heads (globals-heads g)) (at-globals g) (at-equals (p .before)) bad
+
+-- ---- the kinds
 
 read-kinds-requires : tie.Need-read-kinds-requires
 read-kinds-requires c κs =
-    let ws = words (now (c .before .before .before .before .before .before .before .before .before .before .before .before .before .before .before .before .before .args .signature)) in
+    let p = c .before .before .before in
+    let g = equals-globals (p .before) in
     record {
-      heads-read = payload-fits ws 1 limit12 0 (sym (c .before .before .before .before .before .before .before .before .before .before .before .before .before .before .before .payload-at .ensures) ∙ c .before .before .before .before .before .before .before .before .before .before .before .before .before .heads .given .1);
-      globals-read = payload-fits ws 0 (suc limit12) 1 (sym (c .before .before .before .before .before .before .before .before .before .before .before .payload-at2 .ensures) ∙ c .before .before .before .before .before .before .before .before .before .globals .given .1);
-      equals-read = payload-fits ws 0 (c .before .before .before .before .before .before .before .before .before .before .before .before .before .heads .given .0 .0) 2 (sym (c .before .before .before .before .before .before .before .payload-at3 .ensures) ∙ c .before .before .before .before .before .equals .given .1);
-      flag-read = payload-fits ws 0 2 3 (sym (c .before .before .before .payload-at4 .ensures) ∙ c .before .flag .given .1);
+      heads-read = at-heads (globals-heads g);
+      globals-read = at-globals g;
+      equals-read = at-equals (p .before);
+      flag-read = payload-fits (ws (start2 g)) 0 2 3 (p .payload-at4 .ensures) (c .before .flag .given .1);
     }
 
 returns-5 : tie.Need-returns-5

@@ -1,17 +1,20 @@
--- `signature::read_kinds` meets its contract: each way out is a law of `readSignature`. Assumes nothing.
-use mathlib.Core.Path.{_≡_, sym, ap, _∙_}
-use Prim.Native.Nat.{_+_, _-_}
+-- The first kind that is bad or missing, a surplus word, and a value-eq head that is no primitive are each a way out of `readSignature`, in this order;
+-- with none of them the signature is read. Assumes nothing.
+use mathlib.Core.List.{List}
+use mathlib.Core.Path.{_≡_, ap, _∙_}
+use Prim.Native.Nat.{ℕ, _+_, _-_}
 use native.Mathlib.Omega.{arith}
 use lib.ListN.{getD}
-use borrow.Author.Tests.{eq-eqb, ne-eqb}
-use denote.Ref.{now}
 use Rattle.octets.specs.Words.{words}
 use Rattle.rules.specs.Refusals.{refuse}
 use Rattle.records.specs.Signature.{signOf, firstBad}
-use Rattle.records.proofs.signature.Laws.{begins-inside, none-bad, kind-bad, surplus-bad, equals-no-primitive, signature-read, length-kindsFrom}
+use Rattle.records.proofs.signature.Laws.{begins-inside, kind-bad, Kinds, none-bad, surplus-bad, equals-no-primitive, signature-read}
 use borrow.Author.Needs.{needs}
 use Rattle.records.proofs.signature.read_kinds.Statement.{statement}
 use Rattle.records.proofs.signature.read_kinds.Tie as tie
+
+abbrev ws : tie.Start → List ℕ
+ws c = words (c .args .signature .now)
 
 wide-requires : tie.Need-wide-requires
 wide-requires c κs = search needs
@@ -20,18 +23,28 @@ add-end : tie.Need-add-end
 add-end c = search needs
 
 first-bad-requires : tie.Need-first-bad-requires
-first-bad-requires c κs = let i = begins-inside (words (now (c .before .before .args .signature))) (c .before .before .pre) in omega arith
+first-bad-requires c κs = let i = begins-inside (c .before .before .pre) in omega arith
+
+-- ---- a kind is bad or missing
+
+abbrev start : tie.After-first-bad → tie.Start
+start c = c .before .before .before
+
+at-bad : (c : tie.After-first-bad) → c .first-bad .result ≡ firstBad (ws (start c)) (start c .args .heads) 4
+at-bad c =
+    let end : 4 + c .before .wide .result - 4 ≡ start c .args .heads = omega arith in
+    c .first-bad .ensures ∙ ap (λ (n : ℕ). firstBad (ws (start c)) n 4) end
 
 turned-back-requires : tie.Need-turned-back-requires
 turned-back-requires c κs = search needs
 
 returns : tie.Need-returns
-returns c =
-    let a = c .before .before .before .before .before .args in
-    let ws = words (now (a .signature)) in
-    let end : 4 + c .before .before .before .wide .result - 4 ≡ a .heads = omega arith in
-    let bad : c .before .before .first-bad .result ≡ firstBad ws (a .heads) 4 = c .before .before .first-bad .ensures ∙ ap (λ n. firstBad ws n 4) end in
-    c .turned-back .ensures ∙ ap (λ p. signOf (refuse 1 p)) bad ∙ ap signOf (sym (kind-bad ws (c .before .before .before .before .before .pre) (omega arith)))
+returns c = let b = c .before .before in c .turned-back .ensures ∙ kind-bad (start b .pre) (at-bad b) (omega arith)
+
+-- ---- all are there
+
+at-kinds : (c : tie.Else1) → let a = start (c .before) .args in Kinds (ws (start (c .before))) (a .heads) (a .globals) (a .equals) (a .flag)
+at-kinds c = none-bad (start (c .before) .pre) (at-bad (c .before)) (omega arith)
 
 count-requires : tie.Need-count-requires
 count-requires c κs = search needs
@@ -41,12 +54,10 @@ turned-back-requires-2 c κs = search needs
 
 returns-2 : tie.Need-returns-2
 returns-2 c =
-    let a = c .before .before .before .before .before .before .before .args in
-    let ws = words (now (a .signature)) in
-    let end : 4 + c .before .before .before .before .before .wide .result - 4 ≡ a .heads = omega arith in
-    let bad : c .before .before .before .before .first-bad .result ≡ firstBad ws (a .heads) 4 = c .before .before .before .before .first-bad .ensures ∙ ap (λ n. firstBad ws n 4) end in
-    let none = none-bad ws (c .before .before .before .before .before .before .before .pre) (omega arith) in
-    c .turned-back2 .ensures ∙ ap (λ n. signOf (refuse 1 (4 + n))) (c .before .before .before .before .before .wide .ensures) ∙ ap signOf (sym (surplus-bad ws (c .before .before .before .before .before .before .before .pre) (none .0) (omega arith)))
+    let e = c .before .before .before in
+    c .turned-back2 .ensures ∙ ap (λ (n : ℕ). signOf (refuse 1 (4 + n))) (e .before .before .wide .ensures) ∙ surplus-bad (at-kinds e) (omega arith)
+
+-- ---- and no word is behind them
 
 wide-requires-2 : tie.Need-wide-requires-2
 wide-requires-2 c κs = search needs
@@ -55,37 +66,25 @@ add-get : tie.Need-add-get
 add-get c = search needs
 
 get-requires : tie.Need-get-requires
-get-requires c κs =
-    let a = c .before .before .before .before .before .before .before .args in
-    let ws = words (now (a .signature)) in
-    let end : 4 + c .before .before .before .before .before .wide .result - 4 ≡ a .heads = omega arith in
-    let bad : c .before .before .before .before .first-bad .result ≡ firstBad ws (a .heads) 4 = c .before .before .before .before .first-bad .ensures ∙ ap (λ n. firstBad ws n 4) end in
-    let i = begins-inside ws (c .before .before .before .before .before .before .before .pre) in
-    let none = none-bad ws (c .before .before .before .before .before .before .before .pre) (omega arith) in
-    omega arith
+get-requires c κs = omega (arith, at-kinds (c .before .before .before))
+
+abbrev get-kinds : tie.After-get → tie.Else1
+get-kinds c = c .before .before .before .before
+
+-- the word of the value-eq head's kind
+at-get : (c : tie.After-get) → let s = start (get-kinds c .before) in c .get .result ≡ getD (ws s) (4 + s .args .equals) 0
+at-get c = c .get .ensures .is ∙ ap (λ (n : ℕ). getD (ws (start (get-kinds c .before))) (4 + n) 0) (c .before .wide2 .ensures)
 
 turned-back-requires-3 : tie.Need-turned-back-requires-3
 turned-back-requires-3 c κs = search needs
 
 returns-3 : tie.Need-returns-3
-returns-3 c =
-    let a = c .before .before .before .before .before .before .before .before .before .args in
-    let ws = words (now (a .signature)) in
-    let end : 4 + c .before .before .before .before .before .before .before .wide .result - 4 ≡ a .heads = omega arith in
-    let bad : c .before .before .before .before .before .before .first-bad .result ≡ firstBad ws (a .heads) 4 = c .before .before .before .before .before .before .first-bad .ensures ∙ ap (λ n. firstBad ws n 4) end in
-    let none = none-bad ws (c .before .before .before .before .before .before .before .before .before .pre) (omega arith) in
-    let word : c .before .get .result ≡ getD ws (4 + a .equals) 0 = c .before .get .ensures .is ∙ ap (λ n. getD ws (4 + n) 0) (c .before .before .wide2 .ensures) in
-    rw (signature-read ws (c .before .before .before .before .before .before .before .before .before .pre) (none .0) (omega arith) (eq-eqb _ _ (sym word ∙ c .if3 .taken)), length-kindsFrom ws (a .heads) 4)
+returns-3 c = let g = c .before in signature-read (at-kinds (get-kinds g)) (omega (arith, at-kinds (get-kinds g))) (at-get g) (c .if3 .taken)
 
 returns-4 : tie.Need-returns-4
 returns-4 c =
-    let a = c .before .before .before .before .before .before .before .before .before .before .args in
-    let ws = words (now (a .signature)) in
-    let end : 4 + c .before .before .before .before .before .before .before .before .wide .result - 4 ≡ a .heads = omega arith in
-    let bad : c .before .before .before .before .before .before .before .first-bad .result ≡ firstBad ws (a .heads) 4 = c .before .before .before .before .before .before .before .first-bad .ensures ∙ ap (λ n. firstBad ws n 4) end in
-    let none = none-bad ws (c .before .before .before .before .before .before .before .before .before .before .pre) (omega arith) in
-    let word : c .before .before .get .result ≡ getD ws (4 + a .equals) 0 = c .before .before .get .ensures .is ∙ ap (λ n. getD ws (4 + n) 0) (c .before .before .before .wide2 .ensures) in
-    c .turned-back3 .ensures ∙ ap signOf (sym (equals-no-primitive ws (c .before .before .before .before .before .before .before .before .before .before .pre) (none .0) (omega arith) (ne-eqb _ _ (λ e. c .before .if3 .left (word ∙ e)))))
+    let g = c .before .before in
+    c .turned-back3 .ensures ∙ equals-no-primitive (at-kinds (get-kinds g)) (omega (arith, at-kinds (get-kinds g))) (at-get g) (c .before .if3 .left)
 
 pub read-kinds-spec : {M : Type 1} → statement M
 read-kinds-spec =
