@@ -32,7 +32,8 @@ fn lower_bare(
     requires { ⌜ Room (length (words (now rule))) at to sp log (length (words (now scratch))) ⌝ }
     requires { ⌜ (w ≡ getD (words (now rule)) at 0) × (w < literalBase) × (countOf w ≡ 0) ⌝ }
     ensures { λ r. ⌜ ((sig : Sig) (x : ExprAt sig (words (now (rule .entry))) depth at) (bound : List ℕ) → Counted sig (words (now (counters .entry)))
-        → Walked 1 (InAnswer log r) (lowered sig bound (x .value) (words (now (counters .entry)))) (x .size) at to sp log (words (now (scratch .entry))) (words (now (counters .entry))) (words (now (scratch .exit))) (words (now (counters .exit))) r) ⌝ }
+        → Walked 1 (InAnswer log r) (lowered sig bound (x .value) (words (now (counters .entry)))) (x .size)
+        at to sp log (words (now (scratch .entry))) (words (now (counters .entry))) (words (now (scratch .exit))) (words (now (counters .exit))) r) ⌝ }
 {
     let h = (w - walks::HEAD) / walks::LIMIT_16;
     let v = walks::take(counters, scratch, log, h);
@@ -70,8 +71,10 @@ pub fn lower(
     requires { ⌜ Under (λ sig. ExprAt sig (words (now rule)) depth at × Counted sig (words (now counters)) × Names sig (words (now scratch)) scope) ⌝ }
     requires { ⌜ Room (length (words (now rule))) at to sp log (length (words (now scratch))) ⌝ }
     requires { ⌜ ScopeRoom (length (words (now rule))) at to sp scope ⌝ }
-    ensures { λ r. ⌜ ((sig : Sig) (x : ExprAt sig (words (now (rule .entry))) depth at) (bound : List ℕ) → Counted sig (words (now (counters .entry))) → Scoped sig bound (words (now (scratch .entry))) scope
-        → Walked 1 (InAnswer log r) (lowered sig bound (x .value) (words (now (counters .entry)))) (x .size) at to sp log (words (now (scratch .entry))) (words (now (counters .entry))) (words (now (scratch .exit))) (words (now (counters .exit))) r) ⌝ }
+    ensures { λ r. ⌜ ((sig : Sig) (x : ExprAt sig (words (now (rule .entry))) depth at) (bound : List ℕ)
+        → Counted sig (words (now (counters .entry))) → Scoped sig bound (words (now (scratch .entry))) scope
+        → Walked 1 (InAnswer log r) (lowered sig bound (x .value) (words (now (counters .entry)))) (x .size)
+        at to sp log (words (now (scratch .entry))) (words (now (counters .entry))) (words (now (scratch .exit))) (words (now (counters .exit))) r) ⌝ }
 {
     let w = octets::get(rule, at);
     if walks::LITERAL <= w {
@@ -148,8 +151,10 @@ fn lower_all(
     requires { ⌜ Under (λ sig. ExprsAt sig (words (now rule)) depth n at × Counted sig (words (now counters)) × Names sig (words (now scratch)) scope) ⌝ }
     requires { ⌜ Room (length (words (now rule))) at to sp log (length (words (now scratch))) ⌝ }
     requires { ⌜ ScopeRoom (length (words (now rule))) at to sp scope ⌝ }
-    ensures { λ r. ⌜ ((sig : Sig) (x : ExprsAt sig (words (now (rule .entry))) depth n at) (bound : List ℕ) → Counted sig (words (now (counters .entry))) → Scoped sig bound (words (now (scratch .entry))) scope
-        → Walked n (OnStack sp n log (words (now (scratch .exit))) r) (loweredAll sig bound (x .value) (words (now (counters .entry)))) (x .size) at to sp log (words (now (scratch .entry))) (words (now (counters .entry))) (words (now (scratch .exit))) (words (now (counters .exit))) r) ⌝ }
+    ensures { λ r. ⌜ ((sig : Sig) (x : ExprsAt sig (words (now (rule .entry))) depth n at) (bound : List ℕ)
+        → Counted sig (words (now (counters .entry))) → Scoped sig bound (words (now (scratch .entry))) scope
+        → Walked n (OnStack sp n log (words (now (scratch .exit))) r) (loweredAll sig bound (x .value) (words (now (counters .entry)))) (x .size)
+        at to sp log (words (now (scratch .entry))) (words (now (counters .entry))) (words (now (scratch .exit))) (words (now (counters .exit))) r) ⌝ }
 {
     let mut left = n;
     let mut top = sp;

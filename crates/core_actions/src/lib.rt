@@ -44,12 +44,15 @@ pub fn lower_action(
     sp: usize,
     log: usize,
 ) -> Acted
-    requires { ⌜ Under (λ sig. ActionAt sig (words (now rule)) at × Counted sig (words (now counters)) × Names sig (words (now scratch)) scope × Signed sig (words (now signature))) ⌝ }
+    requires { ⌜ Under (λ sig. ActionAt sig (words (now rule)) at × Counted sig (words (now counters)) × Names sig (words (now scratch)) scope
+        × Signed sig (words (now signature))) ⌝ }
     requires { ⌜ Room (length (words (now rule))) at to sp log (length (words (now scratch))) ⌝ }
     requires { ⌜ ScopeRoom (length (words (now rule))) at to sp scope ⌝ }
     requires { ⌜ scope .first + scope .names ≡ sp ⌝ }
-    ensures { λ r. ⌜ ((sig : Sig) (x : ActionAt sig (words (now (rule .entry))) at) (bound : List ℕ) → Counted sig (words (now (counters .entry))) → Scoped sig bound (words (now (scratch .entry))) scope → Signed sig (words (now (signature .entry)))
-        → Acts (lowerAction sig bound (x .value) (words (now (counters .entry)))) sig scope (x .size) at to sp log (words (now (scratch .entry))) (words (now (counters .entry))) (words (now (scratch .exit))) (words (now (counters .exit))) r) ⌝ }
+    ensures { λ r. ⌜ ((sig : Sig) (x : ActionAt sig (words (now (rule .entry))) at) (bound : List ℕ)
+        → Counted sig (words (now (counters .entry))) → Scoped sig bound (words (now (scratch .entry))) scope → Signed sig (words (now (signature .entry)))
+        → Acts (lowerAction sig bound (x .value) (words (now (counters .entry)))) sig scope (x .size)
+        at to sp log (words (now (scratch .entry))) (words (now (counters .entry))) (words (now (scratch .exit))) (words (now (counters .exit))) r) ⌝ }
 {
     let w = octets::get(rule, at);
     let code = w - walks::ACTION;
@@ -87,11 +90,14 @@ pub fn to_core_actions(
     to: usize,
     log: usize,
 ) -> Acted
-    requires { ⌜ Under (λ sig. ActionsAt sig (words (now rule)) n at × Counted sig (words (now counters)) × Names sig (words (now scratch)) scope × Signed sig (words (now signature))) ⌝ }
+    requires { ⌜ Under (λ sig. ActionsAt sig (words (now rule)) n at × Counted sig (words (now counters)) × Names sig (words (now scratch)) scope
+        × Signed sig (words (now signature))) ⌝ }
     requires { ⌜ Room (length (words (now rule))) at to (scope .first + scope .names) log (length (words (now scratch))) ⌝ }
     requires { ⌜ ScopeRoom (length (words (now rule))) at to (scope .first + scope .names) scope ⌝ }
-    ensures { λ r. ⌜ ((sig : Sig) (x : ActionsAt sig (words (now (rule .entry))) n at) (bound : List ℕ) → Counted sig (words (now (counters .entry))) → Scoped sig bound (words (now (scratch .entry))) scope → Signed sig (words (now (signature .entry)))
-        → Walked 0 (Gave r) (donePiece (toCoreActions sig bound (x .value) (words (now (counters .entry))))) (x .size) at to (scope .first + scope .names) log (words (now (scratch .entry))) (words (now (counters .entry))) (words (now (scratch .exit))) (words (now (counters .exit))) (r .walk)) ⌝ }
+    ensures { λ r. ⌜ ((sig : Sig) (x : ActionsAt sig (words (now (rule .entry))) n at) (bound : List ℕ)
+        → Counted sig (words (now (counters .entry))) → Scoped sig bound (words (now (scratch .entry))) scope → Signed sig (words (now (signature .entry)))
+        → Walked 0 (Gave r) (donePiece (toCoreActions sig bound (x .value) (words (now (counters .entry))))) (x .size)
+        at to (scope .first + scope .names) log (words (now (scratch .entry))) (words (now (counters .entry))) (words (now (scratch .exit))) (words (now (counters .exit))) (r .walk)) ⌝ }
 {
     let mut left = n;
     let mut names = scope.names;

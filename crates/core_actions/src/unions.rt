@@ -59,7 +59,8 @@ fn constructs(signature: &[u8], w: u32) -> bool
 // Whether the union at `at` becomes a set: 1 where its left side is the constructor call, 2 where its right side is, else 0.
 pub fn as_set(signature: &[u8], rule: &[u8], at: usize) -> u32
     requires { ⌜ Under (λ sig. PairAt sig (words (now rule)) at × (heads sig ≤ limit12) × Signed sig (words (now signature))) ⌝ }
-    ensures { λ r. ⌜ ((sig : Sig) (x : PairAt sig (words (now (rule .entry))) at) → heads sig ≤ limit12 → Signed sig (words (now (signature .entry))) → r ≡ setMode sig (x .left .value) (x .right .value)) ⌝ }
+    ensures { λ r. ⌜ ((sig : Sig) (x : PairAt sig (words (now (rule .entry))) at)
+        → heads sig ≤ limit12 → Signed sig (words (now (signature .entry))) → r ≡ setMode sig (x .left .value) (x .right .value)) ⌝ }
 {
     if octets::get(signature, 3) != ONE {
         return 0;
@@ -97,11 +98,15 @@ pub fn lower_union(
     sp: usize,
     log: usize,
 ) -> Acted
-    requires { ⌜ Under (λ sig. PairAt sig (words (now rule)) at × Counted sig (words (now counters)) × Names sig (words (now scratch)) scope × Signed sig (words (now signature))) ⌝ }
+    requires { ⌜ Under (λ sig. PairAt sig (words (now rule)) at × Counted sig (words (now counters)) × Names sig (words (now scratch)) scope
+        × Signed sig (words (now signature))) ⌝ }
     requires { ⌜ Room (length (words (now rule))) at to sp log (length (words (now scratch))) ⌝ }
     requires { ⌜ ScopeRoom (length (words (now rule))) at to sp scope ⌝ }
-    ensures { λ r. ⌜ ((sig : Sig) (x : PairAt sig (words (now (rule .entry))) at) (bound : List ℕ) → Counted sig (words (now (counters .entry))) → Scoped sig bound (words (now (scratch .entry))) scope → Signed sig (words (now (signature .entry)))
-        → Acts (lowerUnion sig bound (unionAsSet sig (x .left .value) (x .right .value)) (x .left .value) (x .right .value) (words (now (counters .entry)))) sig scope (1 + (x .left .size + x .right .size)) at to sp log (words (now (scratch .entry))) (words (now (counters .entry))) (words (now (scratch .exit))) (words (now (counters .exit))) r) ⌝ }
+    ensures { λ r. ⌜ ((sig : Sig) (x : PairAt sig (words (now (rule .entry))) at) (bound : List ℕ)
+        → Counted sig (words (now (counters .entry))) → Scoped sig bound (words (now (scratch .entry))) scope → Signed sig (words (now (signature .entry)))
+        → Acts (lowerUnion sig bound (unionAsSet sig (x .left .value) (x .right .value)) (x .left .value) (x .right .value) (words (now (counters .entry))))
+        sig scope (1 + (x .left .size + x .right .size))
+        at to sp log (words (now (scratch .entry))) (words (now (counters .entry))) (words (now (scratch .exit))) (words (now (counters .exit))) r) ⌝ }
 {
     let mode = as_set(signature, rule, at);
     if mode == 1 {
