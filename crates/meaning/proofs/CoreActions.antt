@@ -14,7 +14,8 @@ use Rattle.rules.specs.Refusals.{ok, unbound, alreadyDefined}
 use Rattle.rules.specs.ToQuery.{count, Fresh, fresh}
 use Rattle.rules.specs.ToCoreActions.{readable, Low, Lows, lowerExpr, lowerExprs, Done, lowerSet, lowerChange, AsSet, optional, unionAsSet, lowerUnion, lowerLet, lowerAction, toCoreActions}
 use Rattle.rules.specs.Canonicalize.{bindings, Replacement}
-use Rattle.meaning.specs.Meaning.{World, All, val, Event, called, wasSet, deleted, subsumed, united, Answers, Run, upd, give, note, runExpr, runExprs, runSet, UnionSet, unionSet, runUnion, runAction, runActions, runCoreAction, runCoreActions}
+use Rattle.meaning.specs.Meaning.{World, All, val, Event, called, wasSet, deleted, subsumed, united, Answers, Run, upd, give, note}
+use Rattle.meaning.specs.Meaning.{runExpr, runExprs, runSet, UnionSet, unionSet, runUnion, runAction, runActions, runCoreAction, runCoreActions}
 use Rattle.meaning.specs.Demand3.{SameSet}
 use Rattle.meaning.proofs.Results.{bind-ok, ok-inj, refuse-ok, demand-ok}
 use Rattle.meaning.proofs.Fresh.{Before, Grows, before-later, plain-before, Took, took, fresh-var}

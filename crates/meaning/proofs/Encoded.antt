@@ -8,11 +8,14 @@ use mathlib.Core.List.{List, [], _∷_, _++_, append-assoc, append-nil}
 use lib.ListN.{length, getD, drop, length-append}
 use lib.Dec.{leb, ltb, eqb}
 use borrow.Author.Tests.{lt-ltb, le-leb, ne-eqb, le-ltb}
-use Rattle.rules.specs.Words.{limit12, limit16, headBase, equalityBase, headerBase, headWord, headerWord, equalityWord, actionWord, within, isLiteralWord, isHeadWord, isEqualityWord, isHeaderWord, headOf, countOf, factsOf, actionsOf, Code, codeOf, noCode}
+use Rattle.rules.specs.Words.{limit12, limit16, headBase, equalityBase, headerBase, headWord, headerWord, equalityWord, actionWord, within, isLiteralWord}
+use Rattle.rules.specs.Words.{isHeadWord, isEqualityWord, isHeaderWord, headOf, countOf, factsOf, actionsOf, Code, codeOf, noCode}
 use Rattle.rules.specs.Refusals.{Res, ok, _>>=_, demand, unfit}
 use Rattle.rules.specs.Signature.{Sig, heads}
 use Rattle.rules.specs.Written.{Read, Reader, readWord, readRow, codeAt}
-use Rattle.rules.specs.Flat.{Tab, Atom, tab, CoreAction, Let, Set, Delete, Subsume, Union, Panic, Call, tabWords, actionWords, wordsOf, encode, isTarget, isTerm, readTerm, isTable, isNone, isPair, isOdd, isEmpty, AtomShape, atomShape, atomShapeAt, readAtomShape, readAtom, readTerms, readCoreCode, readCoreAction, readFlat}
+use Rattle.rules.specs.Flat.{Tab, Atom, tab, CoreAction, Let, Set, Delete, Subsume, Union, Panic, Call, tabWords, actionWords, wordsOf}
+use Rattle.rules.specs.Flat.{encode, isTarget, isTerm, readTerm, isTable, isNone, isPair, isOdd, isEmpty, AtomShape, atomShape}
+use Rattle.rules.specs.Flat.{atomShapeAt, readAtomShape, readAtom, readTerms, readCoreCode, readCoreAction, readFlat}
 use Rattle.meaning.specs.Meaning.{All}
 
 -- ---- a place in a list, by what stands there and behind it

@@ -12,7 +12,8 @@ use Rattle.rules.specs.Signature.{Sig, isFresh, elem}
 use Rattle.rules.specs.Written.{Expr, Exprs, leaf, call, end, _then_, Fact, holds, equal, Action, let′, set′, delete′, subsume′, union′, panic′, expr′, Rule}
 use Rattle.rules.specs.Flat.{Atom, eqn, tab, CoreAction, Let, Set, Delete, Subsume, Union, Panic, Call}
 use Rattle.rules.specs.ToQuery.{count, Fresh, fresh, Flat, Flats, flatten, flattenAll, Query, flattenFact, toQuery, bodyVars}
-use Rattle.rules.specs.ToCoreActions.{readable, Low, Lows, lowerExpr, lowerExprs, Done, lowerSet, lowerChange, AsSet, unionAsSet, lowerUnion, lowerLet, lowerAction, toCoreActions, CoreRule, toCoreRule}
+use Rattle.rules.specs.ToCoreActions.{readable, Low, Lows, lowerExpr, lowerExprs, Done, lowerSet, lowerChange, AsSet, unionAsSet}
+use Rattle.rules.specs.ToCoreActions.{lowerUnion, lowerLet, lowerAction, toCoreActions, CoreRule, toCoreRule}
 use Rattle.meaning.specs.Meaning.{All}
 use Rattle.meaning.specs.FreshVars.{Distinct, madeByAtoms, madeByActions, made, leaves, leavesAll, factLeaves, actionLeaves, PairByWord, FreshAreNew}
 use Rattle.meaning.proofs.Lists.{all-append, all-map, or-right}
@@ -187,7 +188,8 @@ module _ (s : Sig) (bound : List ℕ) where
         let f = bind-ok (fresh p h (q .0 .next)) _ r (q .2) in
         subst (λ (x : Low). Takes cs (x .next) (madeByActions (x .acts))) (ok-inj _ _ (f .2))
         (subst (λ (l : List ℕ). Takes cs (f .0 .next) l) (sym (actions-row (q .0 .acts) _))
-        (takes-then cs (q .0 .next) (f .0 .next) (madeByActions (q .0 .acts)) (f .0 .var ∷ []) (lowers-take es cs (q .0) (q .1)) (takes-one h (q .0 .next) (f .0) (took p h (q .0 .next) (f .0) (f .1)))))
+        (takes-then cs (q .0 .next) (f .0 .next) (madeByActions (q .0 .acts)) (f .0 .var ∷ []) (lowers-take es cs (q .0) (q .1))
+        (takes-one h (q .0 .next) (f .0) (took p h (q .0 .next) (f .0) (f .1)))))
 
     lowers-take : (es : Exprs) (cs : List ℕ) (r : Lows) → lowerExprs s bound es cs ≡ ok r → Takes cs (r .next) (madeByActions (r .acts))
     lowers-take end cs r e = subst (λ (x : Lows). Takes cs (x .next) (madeByActions (x .acts))) (ok-inj _ _ e) (takes-none cs)

@@ -7,11 +7,17 @@ use mathlib.Core.Option.{Option, none, some}
 use lib.ListN.{length, getD}
 use lib.Dec.{leb, ltb, eqb}
 use Rattle.octets.specs.Words.{words}
-use Rattle.rules.specs.Words.{limit12, limit16, maxDepth, maxWritten, maxFlat, scratchWords, signatureBase, equalityWord, within, isNameWord, isLiteralWord, isHeadWord, isHeaderWord, countOf, factsOf, actionsOf, Code, aLet, aSet, aDelete, aSubsume, aUnion, aPanic, aCall, anExpression, noCode}
-use Rattle.rules.specs.Refusals.{Res, ok, refuse, _>>=_, demand, badSignature, fewCounters, smallScratch, badLength, unfit, tooDeep, unbound, alreadyDefined, usedUp, shortOutput, noTerms, notTwo, ragged}
+use Rattle.rules.specs.Words.{limit12, limit16, maxDepth, maxWritten, maxFlat, scratchWords, signatureBase, equalityWord, within}
+use Rattle.rules.specs.Words.{isNameWord, isLiteralWord, isHeadWord, isHeaderWord, countOf, factsOf, actionsOf}
+use Rattle.rules.specs.Words.{Code, aLet, aSet, aDelete, aSubsume, aUnion, aPanic, aCall, anExpression, noCode}
+use Rattle.rules.specs.Refusals.{Res, ok, refuse, _>>=_, demand, badSignature, fewCounters, smallScratch, badLength, unfit}
+use Rattle.rules.specs.Refusals.{tooDeep, unbound, alreadyDefined, usedUp, shortOutput, noTerms, notTwo, ragged}
 use Rattle.rules.specs.Signature.{Sig, heads, elem, payloadAt, kindsAt, readSignature}
-use Rattle.rules.specs.Written.{Expr, Exprs, leaf, call, end, _then_, Fact, holds, equal, Action, let′, set′, delete′, subsume′, union′, panic′, expr′, Rule, Read, Reader, Shape, isLeaf, isCall, isBad, readWord, readRow, allRead, readMany, shapeAt, readShape, readExpr, readTarget, readEqual, readHolds, readFact, readCode, codeAt, readAction, readWritten}
-use Rattle.rules.specs.Flat.{CoreAction, Delete, Subsume, isTarget, isTerm, readTerm, AtomShape, isPair, isOdd, isTable, isEmpty, isNone, atomShapeAt, readAtomShape, readAtom, readTerms, readCoreCode, readCoreAction, readFlat}
+use Rattle.rules.specs.Written.{Expr, Exprs, leaf, call, end, _then_, Fact, holds, equal, Action, let′, set′, delete′, subsume′, union′, panic′, expr′}
+use Rattle.rules.specs.Written.{Rule, Read, Reader, Shape, isLeaf, isCall, isBad, readWord, readRow, allRead, readMany, shapeAt, readShape, readExpr}
+use Rattle.rules.specs.Written.{readTarget, readEqual, readHolds, readFact, readCode, codeAt, readAction, readWritten}
+use Rattle.rules.specs.Flat.{CoreAction, Delete, Subsume, isTarget, isTerm, readTerm, AtomShape, isPair, isOdd, isTable, isEmpty, isNone}
+use Rattle.rules.specs.Flat.{atomShapeAt, readAtomShape, readAtom, readTerms, readCoreCode, readCoreAction, readFlat}
 use Rattle.rules.specs.ToQuery.{count, fresh, flatten, flattenAll, flattenFact, toQuery, bodyVars}
 use Rattle.rules.specs.ToCoreActions.{readable, lowerExpr, lowerExprs, lowerSet, lowerChange, AsSet, unionAsSet, lowerUnion, lowerLet, lowerAction, toCoreActions, toCoreRule}
 use Rattle.rules.specs.RemoveDupVars.{settle}
@@ -141,7 +147,9 @@ module _ (P : ℕ → Type 0) where
 
       atom-shape-among : (sh : AtomShape) (w p : ℕ) → Among (readAtomShape s ws sh w p)
       atom-shape-among isPair w p = among-bind (readTerm s ws (suc p)) _ (term-among (suc p)) (λ a. among-bind (readTerm s ws (a .at)) _ (term-among (a .at)) (λ b. tt))
-      atom-shape-among isTable w p = among-bind (readRow (readTerm s ws) (countOf w - 1) (suc p)) _ (terms-among (countOf w - 1) (suc p)) (λ ts. among-bind (readTerm s ws (ts .at)) _ (term-among (ts .at)) (λ t. tt))
+      atom-shape-among isTable w p =
+          among-bind (readRow (readTerm s ws) (countOf w - 1) (suc p)) _ (terms-among (countOf w - 1) (suc p))
+          (λ ts. among-bind (readTerm s ws (ts .at)) _ (term-among (ts .at)) (λ t. tt))
       atom-shape-among isOdd w p = twelve
       atom-shape-among isEmpty w p = eleven
       atom-shape-among isNone w p = five
@@ -160,8 +168,10 @@ module _ (P : ℕ → Type 0) where
       pub flat-among : Among (readFlat s ws)
       flat-among =
           among-bind (readWord ws isHeaderWord 0) _ (word-among ws isHeaderWord 0)
-          (λ w. among-bind (readRow (readAtom s ws) (factsOf (w .value)) (w .at)) _ (row-among (readAtom s ws) (λ p. atom-shape-among (atomShapeAt s ws p) (getD ws p 0) p) (factsOf (w .value)) (w .at))
-          (λ fs. among-bind (readRow (readCoreAction s ws) (actionsOf (w .value)) (fs .at)) _ (row-among (readCoreAction s ws) (λ p. core-code-among p (codeAt ws p) (suc p)) (actionsOf (w .value)) (fs .at))
+          (λ w. among-bind (readRow (readAtom s ws) (factsOf (w .value)) (w .at)) _
+          (row-among (readAtom s ws) (λ p. atom-shape-among (atomShapeAt s ws p) (getD ws p 0) p) (factsOf (w .value)) (w .at))
+          (λ fs. among-bind (readRow (readCoreAction s ws) (actionsOf (w .value)) (fs .at)) _
+          (row-among (readCoreAction s ws) (λ p. core-code-among p (codeAt ws p) (suc p)) (actionsOf (w .value)) (fs .at))
           (λ xs. all-read-among ws _)))
 
   -- ---- lowering
@@ -261,9 +271,11 @@ pub lower-numbers : LowerNumbers
 lower-numbers signature rule counters output scratch n p e =
     let P = OneOf lowerNumbers in
     among-is P (lowerRes signature rule counters output scratch) n p
-    (among-bind P (slicesWhole (length signature ∷ length rule ∷ length counters ∷ length output ∷ scratch ∷ [])) _ (whole-among P refl (length signature ∷ length rule ∷ length counters ∷ length output ∷ scratch ∷ []))
+    (among-bind P (slicesWhole (length signature ∷ length rule ∷ length counters ∷ length output ∷ scratch ∷ [])) _
+    (whole-among P refl (length signature ∷ length rule ∷ length counters ∷ length output ∷ scratch ∷ []))
     (λ ns. among-bind P (readSignature (words signature)) _ (signature-among P refl (words signature))
-    (λ s. among-bind P (demand (leb (heads s) (length (words counters))) fewCounters 0 (words counters)) _ (among-demand P (leb (heads s) (length (words counters))) fewCounters 0 (words counters) refl)
+    (λ s. among-bind P (demand (leb (heads s) (length (words counters))) fewCounters 0 (words counters)) _
+    (among-demand P (leb (heads s) (length (words counters))) fewCounters 0 (words counters) refl)
     (λ c. among-bind P (scratchFits (scratch / 4)) _ (scratch-among P refl (scratch / 4))
     (λ k. among-bind P (lengthFits maxWritten (words rule)) _ (length-among P refl maxWritten (words rule))
     (λ l. among-bind P (readWritten s (words rule)) _ (written-among P refl refl s (words rule))
@@ -278,7 +290,8 @@ settle-numbers signature rule output scratch n p e =
     (λ ns. among-bind P (readSignature (words signature)) _ (signature-among P refl (words signature))
     (λ s. among-bind P (scratchFits (scratch / 4)) _ (scratch-among P refl (scratch / 4))
     (λ k. among-bind P (lengthFits maxFlat (words rule)) _ (length-among P refl maxFlat (words rule))
-    (λ l. among-bind P (readFlat s (words rule)) _ (flat-among P refl refl refl s (words rule)) (λ f. output-among P refl (length output / 4) (settledResult (settle s (f .atoms)) (f .actions) [])))))))
+    (λ l. among-bind P (readFlat s (words rule)) _ (flat-among P refl refl refl s (words rule))
+    (λ f. output-among P refl (length output / 4) (settledResult (settle s (f .atoms)) (f .actions) [])))))))
     e
 
 pub free-vars-numbers : FreeVarsNumbers
@@ -288,5 +301,6 @@ free-vars-numbers signature rule output n p e =
     (among-bind P (slicesWhole (length signature ∷ length rule ∷ length output ∷ [])) _ (whole-among P refl (length signature ∷ length rule ∷ length output ∷ []))
     (λ ns. among-bind P (readSignature (words signature)) _ (signature-among P refl (words signature))
     (λ s. among-bind P (lengthFits maxFlat (words rule)) _ (length-among P refl maxFlat (words rule))
-    (λ l. among-bind P (readFlat s (words rule)) _ (flat-among P refl refl refl s (words rule)) (λ f. output-among P refl (length output / 4) (record { words = getFreeVars s (f .actions); replacements = 0; passes = 0; counters = [] }))))))
+    (λ l. among-bind P (readFlat s (words rule)) _ (flat-among P refl refl refl s (words rule))
+    (λ f. output-among P refl (length output / 4) (record { words = getFreeVars s (f .actions); replacements = 0; passes = 0; counters = [] }))))))
     e

@@ -12,7 +12,8 @@ use Rattle.rules.specs.Words.{isLiteralWord, isHeadWord, isHeaderWord, countOf,
 use Rattle.rules.specs.Refusals.{ok, unfit, noTerms, notTwo}
 use Rattle.rules.specs.Signature.{Sig, heads}
 use Rattle.rules.specs.Written.{Read, readWord, readRow}
-use Rattle.rules.specs.Flat.{Atom, CoreAction, FlatRule, atomWords, actionWords, wordsOf, isTarget, isTerm, readTerm, AtomShape, isPair, isOdd, isTable, isEmpty, isNone, atomShape, readAtomShape, readAtom, Terms, readTerms, readCoreCode, readCoreAction, readFlat}
+use Rattle.rules.specs.Flat.{Atom, CoreAction, FlatRule, atomWords, actionWords, wordsOf, isTarget, isTerm, readTerm, AtomShape, isPair, isOdd, isTable}
+use Rattle.rules.specs.Flat.{isEmpty, isNone, atomShape, readAtomShape, readAtom, Terms, readTerms, readCoreCode, readCoreAction, readFlat}
 use Rattle.meaning.proofs.Sizes.{total}
 use Rattle.meaning.proofs.Results.{refuse-ok, ok-inj, bind-ok, demand-ok}
 use Rattle.meaning.proofs.ReadSizes.{Spans, SpansAll, CodeSpans, oneWord, row-size, word-size, code-spans}

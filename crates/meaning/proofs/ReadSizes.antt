@@ -8,10 +8,12 @@ use mathlib.Core.List.{List}
 use lib.ListN.{length, getD}
 use lib.Dec.{ltb, leb, eqb}
 use borrow.Author.Tests.{ltb-true, leb-true}
-use Rattle.rules.specs.Words.{maxDepth, equalityWord, isNameWord, isLiteralWord, isHeadWord, isHeaderWord, countOf, factsOf, actionsOf, Code, aLet, aSet, aDelete, aSubsume, aUnion, aPanic, aCall, anExpression, noCode, codeOf}
+use Rattle.rules.specs.Words.{maxDepth, equalityWord, isNameWord, isLiteralWord, isHeadWord, isHeaderWord, countOf, factsOf, actionsOf}
+use Rattle.rules.specs.Words.{Code, aLet, aSet, aDelete, aSubsume, aUnion, aPanic, aCall, anExpression, noCode, codeOf}
 use Rattle.rules.specs.Refusals.{ok, refuse, unfit, tooDeep}
 use Rattle.rules.specs.Signature.{Sig, heads}
-use Rattle.rules.specs.Written.{Expr, Exprs, Action, Rule, Read, Reader, readWord, readRow, readMany, Shape, isLeaf, isCall, isBad, shape, readShape, readExpr, Target, readTarget, readEqual, readHolds, readFact, readCode, codeAt, readAction, readWritten}
+use Rattle.rules.specs.Written.{Expr, Exprs, Action, Rule, Read, Reader, readWord, readRow, readMany, Shape, isLeaf, isCall, isBad, shape, readShape}
+use Rattle.rules.specs.Written.{readExpr, Target, readTarget, readEqual, readHolds, readFact, readCode, codeAt, readAction, readWritten}
 use Rattle.meaning.proofs.Sizes.{exprSize, exprsSize, factSize, actionSize, total, ruleSize}
 use Rattle.meaning.proofs.Lists.{and-left}
 use Rattle.meaning.proofs.Results.{refuse-ok, ok-inj, bind-ok, demand-ok}

@@ -9,10 +9,14 @@ use mathlib.Core.List.{List}
 use lib.ListN.{length, getD}
 use lib.Dec.{leb, ltb, eqb}
 use borrow.Author.Tests.{ltb-true, leb-true, lt-leb}
-use Rattle.rules.specs.Words.{limit12, limit16, maxDepth, freshBase, nameBase, literalBase, headBase, equalityWord, within, isNameWord, isLiteralWord, isHeadWord, isHeaderWord, headOf, countOf, factsOf, actionsOf, Code, aLet, aSet, aDelete, aSubsume, aUnion, aPanic, aCall, anExpression, noCode}
+use Rattle.rules.specs.Words.{limit12, limit16, maxDepth, freshBase, nameBase, literalBase, headBase, equalityWord, within}
+use Rattle.rules.specs.Words.{isNameWord, isLiteralWord, isHeadWord, isHeaderWord, headOf, countOf, factsOf, actionsOf, Code}
+use Rattle.rules.specs.Words.{aLet, aSet, aDelete, aSubsume, aUnion, aPanic, aCall, anExpression, noCode}
 use Rattle.rules.specs.Refusals.{ok, refuse, unfit, tooDeep}
 use Rattle.rules.specs.Signature.{Sig, heads, isFresh, isName, isConstructor}
-use Rattle.rules.specs.Written.{Expr, Exprs, leaf, call, end, _then_, Fact, holds, equal, Action, let′, set′, delete′, subsume′, union′, panic′, expr′, Rule, Read, Reader, isLeaf, isCall, isBad, readMany, readRow, readShape, readExpr, readWord, Target, readTarget, readEqual, readHolds, readFact, readCode, codeAt, readAction, readWritten}
+use Rattle.rules.specs.Written.{Expr, Exprs, leaf, call, end, _then_, Fact, holds, equal, Action, let′, set′, delete′, subsume′, union′, panic′}
+use Rattle.rules.specs.Written.{expr′, Rule, Read, Reader, isLeaf, isCall, isBad, readMany, readRow, readShape, readExpr, readWord, Target}
+use Rattle.rules.specs.Written.{readTarget, readEqual, readHolds, readFact, readCode, codeAt, readAction, readWritten}
 use Rattle.rules.specs.ToCoreActions.{AsSet, optional, unionAsSet}
 use Rattle.meaning.specs.Meaning.{All}
 use Rattle.meaning.proofs.Lists.{and-left, and-right}

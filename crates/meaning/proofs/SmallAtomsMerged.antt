@@ -21,7 +21,8 @@ use Rattle.meaning.proofs.WordLaws.{length-tab}
 use Rattle.meaning.proofs.MergePass.{alike-same, IsEqn, merged-eqns}
 use Rattle.meaning.proofs.Replacements.{olds, olds-length}
 use Rattle.meaning.proofs.Room.{weight-settle}
-use Rattle.meaning.proofs.SmallAtoms.{isSmall, consIf, smallOuts, smallOutsIn, hasEqn, eqn-left, eqn-right, cons-kept, cons-first, Kept, taken, isOut, isNext, TakenOrOut, kept-resolved, kept-canonicalized}
+use Rattle.meaning.proofs.SmallAtoms.{isSmall, consIf, smallOuts, smallOutsIn, hasEqn, eqn-left, eqn-right, cons-kept, cons-first}
+use Rattle.meaning.proofs.SmallAtoms.{Kept, taken, isOut, isNext, TakenOrOut, kept-resolved, kept-canonicalized}
 
 -- ---- through a merge pass
 

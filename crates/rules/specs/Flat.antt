@@ -6,7 +6,9 @@ use mathlib.Core.Bool.{Bool, _||_, cond}
 use mathlib.Core.List.{List, [], _∷_, _++_}
 use lib.ListN.{length, getD}
 use lib.Dec.{ltb, eqb}
-use Rattle.rules.specs.Words.{headWord, headerWord, equalityWord, actionWord, isNameWord, isLiteralWord, isFreshWord, isHeadWord, isEqualityWord, isHeaderWord, headOf, countOf, factsOf, actionsOf, Code, aLet, aSet, aDelete, aSubsume, aUnion, aPanic, aCall, anExpression, noCode}
+use Rattle.rules.specs.Words.{headWord, headerWord, equalityWord, actionWord, isNameWord, isLiteralWord, isFreshWord}
+use Rattle.rules.specs.Words.{isHeadWord, isEqualityWord, isHeaderWord, headOf, countOf, factsOf, actionsOf}
+use Rattle.rules.specs.Words.{Code, aLet, aSet, aDelete, aSubsume, aUnion, aPanic, aCall, anExpression, noCode}
 use Rattle.rules.specs.Refusals.{Res, ok, refuse, _>>=_, unfit, noTerms, notTwo}
 use Rattle.rules.specs.Signature.{Sig, heads}
 use Rattle.rules.specs.Written.{Reader, readWord, readRow, codeAt, allRead}

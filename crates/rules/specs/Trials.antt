@@ -48,39 +48,140 @@ zeros = 0 ∷ 0 ∷ 0 ∷ 0 ∷ []
 abbrev pub trials : List Trial
 trials =
     -- P1
-    record { signature = flagOn; rule = 0x0400_2001 ∷ 0x0800_0002 ∷ 0x4000_0002 ∷ 0x1001_0001 ∷ 0x4000_0001 ∷ 0x0800_0002 ∷ 0x4000_0003 ∷ 0x1001_0001 ∷ 0x4000_0001 ∷ 0x0200_0002 ∷ 0x1003_0001 ∷ 0x4000_0001 ∷ 0x4000_0003 ∷ []; counters = zeros; room = 17; expected = took (0x0400_1004 ∷ 0x1001_0002 ∷ 0x4000_0001 ∷ 0x8001_0001 ∷ 0x0200_0001 ∷ 0x8001_0000 ∷ 0x8001_0001 ∷ 0x0200_0001 ∷ 0x4000_0003 ∷ 0x8001_0001 ∷ 0x0200_0001 ∷ 0x4000_0002 ∷ 0x8001_0000 ∷ 0x0200_0002 ∷ 0x1003_0001 ∷ 0x4000_0001 ∷ 0x4000_0003 ∷ []) 3 2 (0 ∷ 2 ∷ 0 ∷ 1 ∷ []) } ∷
+    record {
+      signature = flagOn;
+      rule = 0x0400_2001 ∷ 0x0800_0002 ∷ 0x4000_0002 ∷ 0x1001_0001 ∷ 0x4000_0001 ∷ 0x0800_0002 ∷ 0x4000_0003 ∷ 0x1001_0001 ∷ 0x4000_0001
+          ∷ 0x0200_0002 ∷ 0x1003_0001 ∷ 0x4000_0001 ∷ 0x4000_0003 ∷ [];
+      counters = zeros;
+      room = 17;
+      expected = took (0x0400_1004 ∷ 0x1001_0002 ∷ 0x4000_0001 ∷ 0x8001_0001 ∷ 0x0200_0001 ∷ 0x8001_0000 ∷ 0x8001_0001 ∷ 0x0200_0001
+          ∷ 0x4000_0003 ∷ 0x8001_0001 ∷ 0x0200_0001 ∷ 0x4000_0002 ∷ 0x8001_0000 ∷ 0x0200_0002 ∷ 0x1003_0001 ∷ 0x4000_0001 ∷ 0x4000_0003
+          ∷ []) 3 2 (0 ∷ 2 ∷ 0 ∷ 1 ∷ []);
+    } ∷
     -- P1 with 16 words of output
-    record { signature = flagOn; rule = 0x0400_2001 ∷ 0x0800_0002 ∷ 0x4000_0002 ∷ 0x1001_0001 ∷ 0x4000_0001 ∷ 0x0800_0002 ∷ 0x4000_0003 ∷ 0x1001_0001 ∷ 0x4000_0001 ∷ 0x0200_0002 ∷ 0x1003_0001 ∷ 0x4000_0001 ∷ 0x4000_0003 ∷ []; counters = zeros; room = 16; expected = turnedBack 10 17 } ∷
+    record {
+      signature = flagOn;
+      rule = 0x0400_2001 ∷ 0x0800_0002 ∷ 0x4000_0002 ∷ 0x1001_0001 ∷ 0x4000_0001 ∷ 0x0800_0002 ∷ 0x4000_0003 ∷ 0x1001_0001 ∷ 0x4000_0001
+          ∷ 0x0200_0002 ∷ 0x1003_0001 ∷ 0x4000_0001 ∷ 0x4000_0003 ∷ [];
+      counters = zeros;
+      room = 16;
+      expected = turnedBack 10 17;
+    } ∷
     -- P2
     record { signature = flagOn; rule = 0x0400_0000 ∷ []; counters = zeros; room = 100; expected = took (0x0400_0000 ∷ []) 0 1 zeros } ∷
     -- P3
-    record { signature = flagOn; rule = 0x0400_1000 ∷ 0x0800_0002 ∷ 0x2000_0001 ∷ 0x2000_0002 ∷ []; counters = zeros; room = 100; expected = took (0x0400_1000 ∷ 0x1000_0003 ∷ 0x2000_0001 ∷ 0x2000_0002 ∷ 0x2000_0000 ∷ []) 0 1 zeros } ∷
+    record {
+      signature = flagOn;
+      rule = 0x0400_1000 ∷ 0x0800_0002 ∷ 0x2000_0001 ∷ 0x2000_0002 ∷ [];
+      counters = zeros;
+      room = 100;
+      expected = took (0x0400_1000 ∷ 0x1000_0003 ∷ 0x2000_0001 ∷ 0x2000_0002 ∷ 0x2000_0000 ∷ []) 0 1 zeros;
+    } ∷
     -- P4
-    record { signature = flagOn; rule = 0x0400_1000 ∷ 0x0800_0002 ∷ 0x2000_0001 ∷ 0x2000_0001 ∷ []; counters = zeros; room = 100; expected = took (0x0400_0000 ∷ []) 0 1 zeros } ∷
+    record {
+      signature = flagOn;
+      rule = 0x0400_1000 ∷ 0x0800_0002 ∷ 0x2000_0001 ∷ 0x2000_0001 ∷ [];
+      counters = zeros;
+      room = 100;
+      expected = took (0x0400_0000 ∷ []) 0 1 zeros;
+    } ∷
     -- P5
-    record { signature = flagOn; rule = 0x0400_1000 ∷ 0x0800_0002 ∷ 0x4000_0001 ∷ 0x4000_0000 ∷ []; counters = zeros; room = 100; expected = took (0x0400_0001 ∷ 0x0200_0001 ∷ 0x4000_0001 ∷ 0x4000_0000 ∷ []) 1 1 zeros } ∷
+    record {
+      signature = flagOn;
+      rule = 0x0400_1000 ∷ 0x0800_0002 ∷ 0x4000_0001 ∷ 0x4000_0000 ∷ [];
+      counters = zeros;
+      room = 100;
+      expected = took (0x0400_0001 ∷ 0x0200_0001 ∷ 0x4000_0001 ∷ 0x4000_0000 ∷ []) 1 1 zeros;
+    } ∷
     -- P6
-    record { signature = flagOn; rule = 0x0400_1000 ∷ 0x0800_0002 ∷ 0x2000_0001 ∷ 0x4000_0001 ∷ []; counters = zeros; room = 100; expected = took (0x0400_0001 ∷ 0x0200_0001 ∷ 0x4000_0001 ∷ 0x2000_0001 ∷ []) 1 1 zeros } ∷
+    record {
+      signature = flagOn;
+      rule = 0x0400_1000 ∷ 0x0800_0002 ∷ 0x2000_0001 ∷ 0x4000_0001 ∷ [];
+      counters = zeros;
+      room = 100;
+      expected = took (0x0400_0001 ∷ 0x0200_0001 ∷ 0x4000_0001 ∷ 0x2000_0001 ∷ []) 1 1 zeros;
+    } ∷
     -- P7
-    record { signature = flagOn; rule = 0x0400_1000 ∷ 0x0800_0002 ∷ 0x4000_0001 ∷ 0x4000_0002 ∷ []; counters = zeros; room = 100; expected = took (0x0400_0001 ∷ 0x0200_0001 ∷ 0x4000_0001 ∷ 0x4000_0002 ∷ []) 1 1 zeros } ∷
+    record {
+      signature = flagOn;
+      rule = 0x0400_1000 ∷ 0x0800_0002 ∷ 0x4000_0001 ∷ 0x4000_0002 ∷ [];
+      counters = zeros;
+      room = 100;
+      expected = took (0x0400_0001 ∷ 0x0200_0001 ∷ 0x4000_0001 ∷ 0x4000_0002 ∷ []) 1 1 zeros;
+    } ∷
     -- P8
-    record { signature = flagOn; rule = 0x0400_1001 ∷ 0x4000_0001 ∷ 0x0200_0008 ∷ 0x4000_0001 ∷ []; counters = zeros; room = 100; expected = turnedBack 7 3 } ∷
+    record {
+      signature = flagOn;
+      rule = 0x0400_1001 ∷ 0x4000_0001 ∷ 0x0200_0008 ∷ 0x4000_0001 ∷ [];
+      counters = zeros;
+      room = 100;
+      expected = turnedBack 7 3;
+    } ∷
     -- P9
-    record { signature = flagOn; rule = 0x0400_1001 ∷ 0x0800_0002 ∷ 0x4000_0001 ∷ 0x4000_0001 ∷ 0x0200_0001 ∷ 0x4000_0001 ∷ 0x4000_0009 ∷ []; counters = zeros; room = 100; expected = turnedBack 8 4 } ∷
+    record {
+      signature = flagOn;
+      rule = 0x0400_1001 ∷ 0x0800_0002 ∷ 0x4000_0001 ∷ 0x4000_0001 ∷ 0x0200_0001 ∷ 0x4000_0001 ∷ 0x4000_0009 ∷ [];
+      counters = zeros;
+      room = 100;
+      expected = turnedBack 8 4;
+    } ∷
     -- P10
-    record { signature = flagOn; rule = 0x0400_0001 ∷ 0x0200_0005 ∷ 0x4000_0001 ∷ 0x1002_0001 ∷ 0x4000_0002 ∷ []; counters = zeros; room = 100; expected = turnedBack 7 4 } ∷
+    record {
+      signature = flagOn;
+      rule = 0x0400_0001 ∷ 0x0200_0005 ∷ 0x4000_0001 ∷ 0x1002_0001 ∷ 0x4000_0002 ∷ [];
+      counters = zeros;
+      room = 100;
+      expected = turnedBack 7 4;
+    } ∷
     -- P10 with the flag off
-    record { signature = flagOff; rule = 0x0400_0001 ∷ 0x0200_0005 ∷ 0x4000_0001 ∷ 0x1002_0001 ∷ 0x4000_0002 ∷ []; counters = zeros; room = 100; expected = turnedBack 7 2 } ∷
+    record {
+      signature = flagOff;
+      rule = 0x0400_0001 ∷ 0x0200_0005 ∷ 0x4000_0001 ∷ 0x1002_0001 ∷ 0x4000_0002 ∷ [];
+      counters = zeros;
+      room = 100;
+      expected = turnedBack 7 2;
+    } ∷
     -- P11
-    record { signature = flagOn; rule = 0x0400_2000 ∷ 0x0800_0002 ∷ 0x2000_0001 ∷ 0x1001_0001 ∷ 0x4000_0001 ∷ 0x0800_0002 ∷ 0x2000_0002 ∷ 0x1001_0001 ∷ 0x4000_0001 ∷ []; counters = zeros; room = 100; expected = took (0x0400_2002 ∷ 0x1000_0003 ∷ 0x2000_0001 ∷ 0x2000_0002 ∷ 0x2000_0000 ∷ 0x1001_0002 ∷ 0x4000_0001 ∷ 0x2000_0001 ∷ 0x0200_0001 ∷ 0x8001_0001 ∷ 0x2000_0002 ∷ 0x0200_0001 ∷ 0x8001_0000 ∷ 0x2000_0001 ∷ []) 2 2 (0 ∷ 2 ∷ 0 ∷ 0 ∷ []) } ∷
+    record {
+      signature = flagOn;
+      rule = 0x0400_2000 ∷ 0x0800_0002 ∷ 0x2000_0001 ∷ 0x1001_0001 ∷ 0x4000_0001 ∷ 0x0800_0002 ∷ 0x2000_0002 ∷ 0x1001_0001 ∷ 0x4000_0001 ∷ [];
+      counters = zeros;
+      room = 100;
+      expected = took (0x0400_2002 ∷ 0x1000_0003 ∷ 0x2000_0001 ∷ 0x2000_0002 ∷ 0x2000_0000 ∷ 0x1001_0002 ∷ 0x4000_0001 ∷ 0x2000_0001
+          ∷ 0x0200_0001 ∷ 0x8001_0001 ∷ 0x2000_0002 ∷ 0x0200_0001 ∷ 0x8001_0000 ∷ 0x2000_0001 ∷ []) 2 2 (0 ∷ 2 ∷ 0 ∷ 0 ∷ []);
+    } ∷
     -- P12
-    record { signature = flagOn; rule = 0x0400_1000 ∷ 0x1001_0000 ∷ []; counters = 0 ∷ 65535 ∷ 0 ∷ 0 ∷ []; room = 100; expected = took (0x0400_1000 ∷ 0x1001_0001 ∷ 0x8001_ffff ∷ []) 0 1 (0 ∷ 65536 ∷ 0 ∷ 0 ∷ []) } ∷
+    record {
+      signature = flagOn;
+      rule = 0x0400_1000 ∷ 0x1001_0000 ∷ [];
+      counters = 0 ∷ 65535 ∷ 0 ∷ 0 ∷ [];
+      room = 100;
+      expected = took (0x0400_1000 ∷ 0x1001_0001 ∷ 0x8001_ffff ∷ []) 0 1 (0 ∷ 65536 ∷ 0 ∷ 0 ∷ []);
+    } ∷
     -- P12 with the counter used up
-    record { signature = flagOn; rule = 0x0400_1000 ∷ 0x1001_0000 ∷ []; counters = 0 ∷ 65536 ∷ 0 ∷ 0 ∷ []; room = 100; expected = turnedBack 9 1 } ∷
+    record {
+      signature = flagOn;
+      rule = 0x0400_1000 ∷ 0x1001_0000 ∷ [];
+      counters = 0 ∷ 65536 ∷ 0 ∷ 0 ∷ [];
+      room = 100;
+      expected = turnedBack 9 1;
+    } ∷
     -- P13
-    record { signature = flagOn; rule = 0x0400_1000 ∷ replicate 31 0x1001_0001 ++ 0x4000_0001 ∷ []; counters = zeros; room = 100; expected = took (0x0401_f000 ∷ 0x1001_0002 ∷ 0x4000_0001 ∷ 0x8001_001e ∷ nested 30) 0 1 (0 ∷ 31 ∷ 0 ∷ 0 ∷ []) } ∷
+    record {
+      signature = flagOn;
+      rule = 0x0400_1000 ∷ replicate 31 0x1001_0001 ++ 0x4000_0001 ∷ [];
+      counters = zeros;
+      room = 100;
+      expected = took (0x0401_f000 ∷ 0x1001_0002 ∷ 0x4000_0001 ∷ 0x8001_001e ∷ nested 30) 0 1 (0 ∷ 31 ∷ 0 ∷ 0 ∷ []);
+    } ∷
     -- P13 with one call more
-    record { signature = flagOn; rule = 0x0400_1000 ∷ replicate 32 0x1001_0001 ++ 0x4000_0001 ∷ []; counters = zeros; room = 100; expected = turnedBack 6 33 } ∷
+    record {
+      signature = flagOn;
+      rule = 0x0400_1000 ∷ replicate 32 0x1001_0001 ++ 0x4000_0001 ∷ [];
+      counters = zeros;
+      room = 100;
+      expected = turnedBack 6 33;
+    } ∷
     []
 
 -- ---- the call on bytes

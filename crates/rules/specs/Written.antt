@@ -6,7 +6,8 @@ use mathlib.Core.Bool.{Bool, true, false, _||_, _&&_, cond}
 use mathlib.Core.List.{List, [], _∷_}
 use lib.ListN.{length, getD}
 use lib.Dec.{ltb, leb, eqb}
-use Rattle.rules.specs.Words.{maxDepth, equalityWord, isNameWord, isLiteralWord, isHeadWord, isHeaderWord, headOf, countOf, factsOf, actionsOf, Code, aLet, aSet, aDelete, aSubsume, aUnion, aPanic, aCall, anExpression, noCode, codeOf}
+use Rattle.rules.specs.Words.{maxDepth, equalityWord, isNameWord, isLiteralWord, isHeadWord, isHeaderWord, headOf, countOf, factsOf, actionsOf}
+use Rattle.rules.specs.Words.{Code, aLet, aSet, aDelete, aSubsume, aUnion, aPanic, aCall, anExpression, noCode, codeOf}
 use Rattle.rules.specs.Refusals.{Res, ok, refuse, _>>=_, demand, unfit, tooDeep}
 use Rattle.rules.specs.Signature.{Sig, heads}
 

@@ -7,7 +7,9 @@ use native.Mathlib.Omega.{arith}
 use lib.ListN.{getD}
 use lib.Dec.{ltb, leb, eqb, lit≤}
 use borrow.Author.Tests.{le-leb, lt-leb, leb-true, leb-false, eq-eqb, ne-eqb}
-use Rattle.rules.specs.Words.{limit12, limit16, freshBase, nameBase, literalBase, headBase, equalityBase, headerBase, actionBase, signatureBase, actionWord, within, isNameWord, isLiteralWord, isHeadWord, isFreshWord, isEqualityWord, isHeaderWord, headOf, countOf, factsOf, actionsOf, freshWord, headWord, headerWord, noCode, codeOf}
+use Rattle.rules.specs.Words.{limit12, limit16, freshBase, nameBase, literalBase, headBase, equalityBase, headerBase, actionBase}
+use Rattle.rules.specs.Words.{signatureBase, actionWord, within, isNameWord, isLiteralWord, isHeadWord, isFreshWord, isEqualityWord}
+use Rattle.rules.specs.Words.{isHeaderWord, headOf, countOf, factsOf, actionsOf, freshWord, headWord, headerWord, noCode, codeOf}
 use Rattle.words.specs.Word.{wordOf, kind, spelled, Fits}
 use Rattle.words.specs.declared.Word.{Word}
 use Rattle.words.specs.declared.Word.the-variants.{Fresh, Name, Literal, Head, Equality, Header, Action, Signature, Unfit}
@@ -54,13 +56,30 @@ module _ (w : ℕ) where
   unfolding wordOf
   is-action h =
       let r = within-true (actionWord 1) 8 w h in
-      simp (lt-leb freshBase w (omega arith), lt-leb nameBase w (omega arith), lt-leb literalBase w (omega arith), lt-leb headBase w (omega arith), lt-leb equalityBase w (omega arith), lt-leb headerBase w (omega arith), h)
+      simp (
+        lt-leb freshBase w (omega arith),
+        lt-leb nameBase w (omega arith),
+        lt-leb literalBase w (omega arith),
+        lt-leb headBase w (omega arith),
+        lt-leb equalityBase w (omega arith),
+        lt-leb headerBase w (omega arith),
+        h,
+      )
 
   pub is-signature : within signatureBase signatureBase w ≡ true → wordOf w ≡ Signature (w - signatureBase)
   unfolding wordOf
   is-signature h =
       let r = within-true signatureBase signatureBase w h in
-      simp (lt-leb freshBase w (omega arith), lt-leb nameBase w (omega arith), lt-leb literalBase w (omega arith), lt-leb headBase w (omega arith), lt-leb equalityBase w (omega arith), lt-leb headerBase w (omega arith), lt-leb (actionWord 1) w (omega arith), h)
+      simp (
+        lt-leb freshBase w (omega arith),
+        lt-leb nameBase w (omega arith),
+        lt-leb literalBase w (omega arith),
+        lt-leb headBase w (omega arith),
+        lt-leb equalityBase w (omega arith),
+        lt-leb headerBase w (omega arith),
+        lt-leb (actionWord 1) w (omega arith),
+        h,
+      )
 
   pub is-unfit : w < freshBase → isNameWord w ≡ false → isLiteralWord w ≡ false → within headBase headBase w ≡ false → isEqualityWord w ≡ false
       → isHeaderWord w ≡ false → within (actionWord 1) 8 w ≡ false → within signatureBase signatureBase w ≡ false → wordOf w ≡ Unfit
@@ -265,7 +284,16 @@ module _ (w : ℕ) where
   -- and has no code
   pub no-action : eqb (kind (wordOf w)) 6 ≡ false → codeOf w ≡ noCode
   no-action other =
-      simp (not-code 1 (lit≤ tt) (lit≤ tt), not-code 2 (lit≤ tt) (lit≤ tt), not-code 3 (lit≤ tt) (lit≤ tt), not-code 4 (lit≤ tt) (lit≤ tt), not-code 5 (lit≤ tt) (lit≤ tt), not-code 6 (lit≤ tt) (lit≤ tt), not-code 7 (lit≤ tt) (lit≤ tt), not-code 8 (lit≤ tt) (lit≤ tt))
+      simp (
+        not-code 1 (lit≤ tt) (lit≤ tt),
+        not-code 2 (lit≤ tt) (lit≤ tt),
+        not-code 3 (lit≤ tt) (lit≤ tt),
+        not-code 4 (lit≤ tt) (lit≤ tt),
+        not-code 5 (lit≤ tt) (lit≤ tt),
+        not-code 6 (lit≤ tt) (lit≤ tt),
+        not-code 7 (lit≤ tt) (lit≤ tt),
+        not-code 8 (lit≤ tt) (lit≤ tt),
+      )
     where
       not-code : (n : ℕ) → 1 ≤ n → n ≤ 8 → eqb w (actionWord n) ≡ false
       not-code n lo hi =

@@ -5,7 +5,9 @@
 use Prim.Native.Nat.{ℕ, _+_, _-_, _/_, _%_, _≤_, _<_}
 use mathlib.Core.Bool.{cond}
 use lib.Dec.{leb}
-use Rattle.rules.specs.Words.{limit12, limit16, freshBase, nameBase, literalBase, headBase, equalityBase, actionBase, signatureBase, freshWord, headWord, headerWord, actionWord, within, isNameWord, isLiteralWord, isEqualityWord, isHeaderWord, headOf, countOf, factsOf, actionsOf}
+use Rattle.rules.specs.Words.{limit12, limit16, freshBase, nameBase, literalBase, headBase, equalityBase, actionBase}
+use Rattle.rules.specs.Words.{signatureBase, freshWord, headWord, headerWord, actionWord, within, isNameWord, isLiteralWord}
+use Rattle.rules.specs.Words.{isEqualityWord, isHeaderWord, headOf, countOf, factsOf, actionsOf}
 use Rattle.words.specs.declared.Word.{Word}
 use Rattle.words.specs.declared.Word.the-variants.{Fresh, Name, Literal, Head, Equality, Header, Action, Signature, Unfit}
 

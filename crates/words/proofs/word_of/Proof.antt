@@ -5,7 +5,8 @@ use mathlib.Core.Path.{refl, sym}
 use borrow.Author.Needs.{needs}
 use Rattle.rules.specs.Words.{limit12, limit16, nameBase, literalBase, headBase, equalityBase, headerBase, signatureBase, actionWord}
 use Rattle.words.proofs.Ranges.{kind-range, kind-from, none-of-eight, true-within}
-use Rattle.words.proofs.WordLaws.{is-fresh, is-name, is-literal, is-head, is-equality, is-header, is-action, is-signature, unfit-name, unfit-literal, unfit-header, unfit-action, unfit-no-action, unfit-low}
+use Rattle.words.proofs.WordLaws.{is-fresh, is-name, is-literal, is-head, is-equality, is-header, is-action, is-signature}
+use Rattle.words.proofs.WordLaws.{unfit-name, unfit-literal, unfit-header, unfit-action, unfit-no-action, unfit-low}
 use Rattle.words.proofs.word_of.Statement.{statement}
 use Rattle.words.proofs.word_of.Tie as tie
 
