@@ -113,7 +113,8 @@ module _ (sig : Sig) (ws : List ℕ) (few : heads sig ≤ limit12) where
       w : ℕ
       w = getD ws at 0
 
-      sides : (a : ExprAt sig ws maxDepth (at + 1)) (b : ExprAt sig ws maxDepth (at + 1 + a .size)) → flattenFact (equal at (a .value) (b .value)) cs ≡ ok r → Small (r .atoms) 0 (1 + (a .size + b .size))
+      sides : (a : ExprAt sig ws maxDepth (at + 1)) (b : ExprAt sig ws maxDepth (at + 1 + a .size)) → flattenFact (equal at (a .value) (b .value)) cs ≡ ok r
+          → Small (r .atoms) 0 (1 + (a .size + b .size))
       sides a b e =
           let l = bind-ok (flatten (a .value) cs) _ r e in
           let q = bind-ok (flatten (b .value) (l .0 .next)) _ r (l .2) in

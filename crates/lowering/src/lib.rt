@@ -47,7 +47,8 @@ pub fn to_core_rule(
 ) -> Lowering
     requires { ⌜ Good (words (now signature)) (words (now rule)) (words (now counters)) (length (words (now scratch))) ⌝ }
     ensures { λ r. ⌜ ((sig : Sig) (rl : Rule) → readSignature (words (now (signature .entry))) ≡ ok sig → readWritten sig (words (now (rule .entry))) ≡ ok rl
-        → Lowers (toCoreRule sig rl (words (now (counters .entry)))) (length (words (now (rule .entry)))) (words (now (counters .entry))) (words (now (scratch .exit))) (words (now (counters .exit))) r) ⌝ }
+        → Lowers (toCoreRule sig rl (words (now (counters .entry)))) (length (words (now (rule .entry))))
+        (words (now (counters .entry))) (words (now (scratch .exit))) (words (now (counters .exit))) r) ⌝ }
 {
     let n = octets::count(rule);
     let log = LOG_AT * n;

@@ -51,8 +51,8 @@ pub record There (sig : Sig) (ws : List ℕ) (d sp len : ℕ) (l : Walk) : Type 
   pub room : Room (length ws) (l .next) (l .to) sp (l .log) len
 
 -- the right one of two expressions behind a word at `at`, where the left one is done
-pub right-there : (sig : Sig) (ws : List ℕ) (d : ℕ) {at to sp lg len : ℕ} {l : Walk} (len1 k : ℕ) → Room (length ws) at to sp lg len → len1 ≡ len → Went 1 k (at + 1) to lg l → ExprAt sig ws d (at + 1 + k)
-    → There sig ws d sp len1 l
+pub right-there : (sig : Sig) (ws : List ℕ) (d : ℕ) {at to sp lg len : ℕ} {l : Walk} (len1 k : ℕ) → Room (length ws) at to sp lg len → len1 ≡ len
+    → Went 1 k (at + 1) to lg l → ExprAt sig ws d (at + 1 + k) → There sig ws d sp len1 l
 right-there sig ws d {at} {l = l} len1 k r e g b =
     let n = g .next in
     let u = g .upTo in

@@ -141,7 +141,10 @@ module _ (sig : Sig) (ws : List ℕ) where
             let old : w < freshBase = omega (arith, l .old) in
             subst (P (x .value)) one (subst (λ (t : Expr). P t 1) tree (k (l .inside) old))
 
-    -- and one below them is a call
+    -- and one below them is a call. P of the call that the word w starts:
+    abbrev Called : (P : Expr → ℕ → Type 0) (d at w : ℕ) → Type 0
+    Called P d at w = (es : ExprsAt sig ws (d - 1) (countOf w) (at + 1)) → 0 < d → headBase ≤ w → headOf w < heads sig → P (call at (headOf w) (es .value)) (1 + es .size)
+
     pub call-cases : (P : Expr → ℕ → Type 0) (d at w : ℕ) (x : ExprAt sig ws d at) → w ≡ getD ws at 0 → w < literalBase
         → ((es : ExprsAt sig ws (d - 1) (countOf w) (at + 1)) → 0 < d → headBase ≤ w → headOf w < heads sig → P (call at (headOf w) (es .value)) (1 + es .size)) → P (x .value) (x .size)
     call-cases P d at w x e low k =
@@ -156,10 +159,8 @@ module _ (sig : Sig) (ws : List ℕ) where
             let es = exprs-at (d - 1) (countOf v) (at + 1) (c .exprs) reads (omega (arith, x .inside)) in
             let on = exprs-on (d - 1) (countOf v) (at + 1) (c .exprs) reads in
             let size : 1 + es .size ≡ x .size = omega arith in
-            let all : (u : ℕ) → u ≡ v → ((es : ExprsAt sig ws (d - 1) (countOf u) (at + 1)) → 0 < d → headBase ≤ u → headOf u < heads sig → P (call at (headOf u) (es .value)) (1 + es .size))
-            → P (call at (headOf v) (es .value)) (1 + es .size) =
-            λ u eu f. subst (λ (y : ℕ). ((es : ExprsAt sig ws (d - 1) (countOf y) (at + 1)) → 0 < d → headBase ≤ y → headOf y < heads sig → P (call at (headOf y) (es .value)) (1 + es .size))) eu f es z (c .high) (c .head) in
-            subst (P (x .value)) size (subst (λ (t : Expr). P t (1 + es .size)) tree (all w e k))
+            let here : P (call at (headOf v) (es .value)) (1 + es .size) = subst (Called P d at) e k es z (c .high) (c .head) in
+            subst (P (x .value)) size (subst (λ (t : Expr). P t (1 + es .size)) tree here)
 
   -- ---- n expressions: the first and the others, or none
 

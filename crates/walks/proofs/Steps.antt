@@ -11,7 +11,7 @@ use Rattle.octets.proofs.Splice.{part-same, part-join, part-one}
 use Rattle.rules.specs.Refusals.{Res, ok, refuse, _>>=_, usedUp}
 use Rattle.rules.specs.ToQuery.{Fresh, fresh}
 use Rattle.walks.specs.Log.{Taken}
-use Rattle.walks.specs.Steps.{Piece, nothing, both, andThen, Kept, Wrote, Walked, InAnswer, OnStack}
+use Rattle.walks.specs.Steps.{Piece, nothing, both, andThen, Kept, Walked, InAnswer, OnStack}
 use Rattle.walks.specs.declared.Walk.{Walk}
 use Rattle.walks.proofs.Frames.{kept-none, kept-wide, kept-then, kept-log, kept-push, kept-put, joined, spliced}
 
@@ -198,38 +198,37 @@ pub record Own (T : Piece → Type 0) (p : Piece) (ys next : List ℕ) (g : Piec
   pub counters : g .next ≡ next
   pub terms : T g
 
-module _ (to sp lg K p log : ℕ) (s cs s2 cs2 s3 xs ys : List ℕ) (wordsRoom : to + 4 * K ≤ sp) (stackRoom : sp + K ≤ lg) (logRoom : lg + K ≤ length s)
-    (one : Kept to (to + 4 * K) sp (sp + K) lg (lg + K) s cs s2 cs2 log) (here : p ≡ to + length xs) (fits : length xs + length ys ≤ 4 * K) (put : s3 ≡ splice s2 p ys) where
-  behind : Kept p (to + 4 * K) sp (sp + K) log (lg + K) s2 cs2 s3 cs2 log
+-- K words were read from `at` on, and the piece p was made of them, whose words end at w. With ys there, up to e, the piece is g
+module _ (m K at to sp lg w log e t : ℕ) (s cs s2 cs2 s3 ys next : List ℕ) (p g : Piece)
+    (wordsRoom : to + 4 * K ≤ sp) (stackRoom : sp + K ≤ lg) (logRoom : lg + K ≤ length s)
+    (one : Kept to (to + 4 * K) sp (sp + K) lg (lg + K) s cs s2 cs2 log) (here : w ≡ to + length (p .words)) (there : part s2 to (length (p .words)) ≡ p .words)
+    (fits : length (p .words) + (length ys + m) ≤ 4 * K) (put : s3 ≡ splice s2 w ys) (ends : e ≡ w + length ys) where
+  behind : Kept w (to + 4 * K) sp (sp + K) log (lg + K) s2 cs2 s3 cs2 log
   behind =
       let z = one .size in
       let l = one .inLog in
-      kept-put p (to + 4 * K) sp (sp + K) log (lg + K) p ys s2 cs2 s3 (omega arith) (omega arith) (omega arith) (omega arith) (omega arith) (omega arith) put
+      kept-put w (to + 4 * K) sp (sp + K) log (lg + K) w ys s2 cs2 s3 (omega arith) (omega arith) (omega arith) (omega arith) (omega arith) (omega arith) put
 
-  after-kept : Kept to (to + 4 * K) sp (sp + K) lg (lg + K) s cs s3 cs2 log
-  after-kept =
-      kept-then (omega arith) one (kept-wide to (to + 4 * K) sp (sp + K) (lg + K) behind (omega arith) (omega arith) (omega arith) (omega arith) (omega arith))
-
-  after-words : part s2 to (length xs) ≡ xs → part s3 to (length (xs ++ ys)) ≡ xs ++ ys
-  after-words e =
+  own-done : {T : Piece → Type 0} (nx : ℕ) → nx ≡ at + K → cs2 ≡ next → Own T p ys next g
+      → Walked m T (ok g) K at to sp lg s cs s3 cs2 (record { next = nx; to = e; log = log; term = t; refused = 0 })
+  own-done nx en ec o =
+      let l = length-append (p .words) ys in
+      let n : length (g .words) ≡ length (p .words ++ ys) = ap length (o .words) in
       let z = one .size in
-      joined to xs ys behind here e (spliced s2 s3 ys p (omega arith) put)
-
--- the words of a walk that has made a piece, and ys
-owned : {T : Piece → Type 0} (m K nx to : ℕ) (p g : Piece) (s3 cs2 next ys : List ℕ) (r : Walk) → Own T p ys next g → r .refused ≡ 0 → r .next ≡ nx → r .to ≡ to + length (p .words ++ ys)
-    → cs2 ≡ next → part s3 to (length (p .words ++ ys)) ≡ p .words ++ ys → length (p .words ++ ys) + m ≤ 4 * K → Wrote m g K nx to s3 cs2 r × T g
-owned m K nx to p g s3 cs2 next ys r o fine en et ec ew ef =
-    let n : length (g .words) ≡ length (p .words ++ ys) = ap length (o .words) in (
       record {
-        fine = fine;
-        next = en;
-        to = et ∙ ap (λ (i : ℕ). to + i) (sym n);
-        counters = ec ∙ sym (o .counters);
-        written = ap (part s3 to) n ∙ ew ∙ sym (o .words);
-        fits = omega arith;
-      },
-      o .terms,
-    )
+        kept = kept-then (omega arith) one (kept-wide to (to + 4 * K) sp (sp + K) (lg + K) behind (omega arith) (omega arith) (omega arith) (omega arith) (omega arith));
+        ended = (
+          record {
+            fine = refl;
+            next = en;
+            to = omega arith;
+            counters = ec ∙ sym (o .counters);
+            written = ap (part s3 to) n ∙ joined to (p .words) ys behind here there (spliced s2 s3 ys w (omega arith) put) ∙ sym (o .words);
+            fits = omega arith;
+          },
+          o .terms,
+        );
+      }
 
 -- K words were read in all, of which the walk read k
 pub written : {m1 : ℕ} {T1 : Piece → Type 0} (m : ℕ) (T : Piece → Type 0) (k K at1 at to sp lg : ℕ) (s cs s1 cs1 s2 ys : List ℕ) (a : Walk) (e t : ℕ) (x : Res Piece) (g : Piece → Piece)
@@ -240,18 +239,9 @@ pub written : {m1 : ℕ} {T1 : Piece → Type 0} (m : ℕ) (T : Piece → Type 0
 written {m1} {T1} m T k K at1 at to sp lg s cs s1 cs1 s2 ys a e t (refuse n q) g r1 r2 r3 h ha few w fine put ee own = absurd (omega (arith, w .ended .number, w .ended .some))
 written {m1} {T1} m T k K at1 at to sp lg s cs s1 cs1 s2 ys a e t (ok p) g r1 r2 r3 h ha few w fine put ee own =
     let o = w .ended .0 in
-    let xs = p .words in
-    let lz = length-append xs ys in
     let kk = kept-wide to (to + 4 * K) sp (sp + K) (lg + K) (w .kept) (omega arith) (omega arith) (omega arith) (omega arith) (omega arith) in
-    let all : length xs + length ys + m ≤ 4 * K = omega (arith, o .fits) in
-    let f : length xs + length ys ≤ 4 * K = omega arith in
-    let now = after-words to sp lg K (a .to) (a .log) s cs s1 cs1 s2 xs ys r1 r2 r3 kk (o .to) f put (o .written) in
-    record {
-      kept = after-kept to sp lg K (a .to) (a .log) s cs s1 cs1 s2 xs ys r1 r2 r3 kk (o .to) f put;
-      ended =
-          owned m K (at + K) to p (g p) s2 cs1 (p .next) ys (record { next = a .next; to = e; log = a .log; term = t; refused = 0 }) (own p (w .ended .1)) refl (omega (arith, o .next))
-          (omega (arith, o .to)) (o .counters) now (omega arith);
-    }
+    own-done m K at to sp lg (a .to) (a .log) e t s cs s1 cs1 s2 ys (p .next) p (g p) r1 r2 r3 kk (o .to) (o .written) (omega (arith, o .fits)) put ee
+    (a .next) (omega (arith, o .next)) (o .counters) (own p (w .ended .1))
 
 -- ---- a fresh variable
 
@@ -302,18 +292,8 @@ module _ (k at to sp lg v : ℕ) (s cs s1 cs1 s2 cs2 : List ℕ) (a : Walk)
       go (refuse i p) w = absurd (omega (arith, w .ended .number, w .ended .some))
       go (ok p) w =
           let o = w .ended .0 in
-          let xs = p .words in
-          let lz = length-append xs ys in
-          let kk = entered f u (w .kept) in
-          let all : length xs + length ys + m ≤ 4 * (1 + k) = omega (arith, o .fits) in
-          let fit : length xs + length ys ≤ 4 * (1 + k) = omega arith in
-          let now = after-words to sp lg (1 + k) (a .to) (a .log) s cs s2 cs2 s3 xs ys wordsRoom stackRoom logRoom kk (o .to) fit put (o .written) in
-          record {
-            kept = after-kept to sp lg (1 + k) (a .to) (a .log) s cs s2 cs2 s3 xs ys wordsRoom stackRoom logRoom kk (o .to) fit put;
-            ended =
-                owned m (1 + k) (at + (1 + k)) to p (g f p) s3 cs2 (p .next) ys (record { next = a .next; to = e; log = a .log; term = t; refused = 0 }) (own f p (u .var) (w .ended .1)) refl
-                (omega (arith, o .next)) (omega (arith, o .to)) (o .counters) now (omega arith);
-          }
+          own-done m (1 + k) at to sp lg (a .to) (a .log) e t s cs s2 cs2 s3 ys (p .next) p (g f p) wordsRoom stackRoom logRoom (entered f u (w .kept)) (o .to) (o .written)
+          (omega (arith, o .fits)) put ee (a .next) (omega (arith, o .next)) (o .counters) (own f p (u .var) (w .ended .1))
 
 -- it is taken after a walk: K words were read in all, of which the walk read k. The place of the kind 3 word is q
 module _ (k K at1 at to sp lg h q v : ℕ) (s cs s1 cs1 s2 cs2 : List ℕ) (a : Walk) where
@@ -361,8 +341,6 @@ module _ (k K at1 at to sp lg h q v : ℕ) (s cs s1 cs1 s2 cs2 : List ℕ) (a : 
             let o = w .ended .0 in
             let st = w .ended .1 in
             let w1 = went (ok p) w fine in
-            let xs = p .words in
-            let lz = length-append xs ys in
             let g1 = w1 .from in
             let g2 = w1 .upTo in
             let g3 = w1 .logFrom in
@@ -373,16 +351,10 @@ module _ (k K at1 at to sp lg h q v : ℕ) (s cs s1 cs1 s2 cs2 : List ℕ) (a : 
             (kept-wide to (to + 4 * K) sp (sp + K) (lg + K) (w .kept) (omega arith) (omega arith) (omega arith) (omega arith) (omega arith))
             (kept-wide to (to + 4 * K) sp (sp + K) (lg + K) kl g1 (omega arith) (omega arith) (omega arith) (omega arith)) in
             let on : OnStack sp n lg s2 a p = record { size = st .size; terms = part-same s1 s2 sp n (kl .size) (λ i c d. kl .above i c (omega arith)) ∙ st .terms; uses = st .uses } in
-            let old : part s2 to (length xs) ≡ xs = part-same s1 s2 to (length xs) (kl .size) (λ i c d. kl .below i (omega (arith, o .to))) ∙ o .written in
-            let all : length xs + length ys + m ≤ 4 * K = omega (arith, o .fits) in
-            let fit : length xs + length ys ≤ 4 * K = omega arith in
-            let now = after-words to sp lg K (a .to) (a .log + 1) s cs s2 cs2 s3 xs ys wordsRoom stackRoom logRoom kk (o .to) fit put old in
-            record {
-              kept = after-kept to sp lg K (a .to) (a .log + 1) s cs s2 cs2 s3 xs ys wordsRoom stackRoom logRoom kk (o .to) fit put;
-              ended =
-                  owned m K (at + K) to p (g p f) s3 cs2 (f .next) ys (record { next = a .next; to = e; log = a .log + 1; term = t; refused = 0 }) (own p f on (u .var)) refl
-                  (omega (arith, o .next)) (omega (arith, o .to)) (u .next) now (omega arith);
-            }
+            let old : part s2 to (length (p .words)) ≡ p .words =
+            part-same s1 s2 to (length (p .words)) (kl .size) (λ i c d. kl .below i (omega (arith, o .to))) ∙ o .written in
+            own-done m K at to sp lg (a .to) (a .log + 1) e t s cs s2 cs2 s3 ys (f .next) p (g p f) wordsRoom stackRoom logRoom kk (o .to) old (omega (arith, o .fits)) put there
+            (a .next) (omega (arith, o .next)) (u .next) (own p f on (u .var))
 
 -- the same walk, more said of its piece
 pub retold : {m k at to sp lg : ℕ} {T T′ : Piece → Type 0} {s cs s1 cs1 : List ℕ} {a : Walk} (x : Res Piece) → Walked m T x k at to sp lg s cs s1 cs1 a → ((p : Piece) → T p → T′ p)

@@ -47,7 +47,8 @@ pub struct Walk {
 // The next fresh variable of the head h, logged at `log`; 0 where its counter is used up.
 pub fn take(counters: &mut [u8], scratch: &mut [u8], log: usize, h: u32) -> u32
     requires { ⌜ (h < limit12) × (h < length (words (now counters))) × (log < length (words (now scratch))) ⌝ }
-    ensures { λ r. ⌜ ((p : ℕ) → Taken (fresh p h (words (now (counters .entry)))) p log (words (now (scratch .entry))) (words (now (counters .entry))) (words (now (scratch .exit))) (words (now (counters .exit))) r) ⌝ }
+    ensures { λ r. ⌜ ((p : ℕ) → Taken (fresh p h (words (now (counters .entry)))) p log
+        (words (now (scratch .entry))) (words (now (counters .entry))) (words (now (scratch .exit))) (words (now (counters .exit))) r) ⌝ }
 {
     let c = octets::get(counters, h as usize);
     if LIMIT_16 <= c {
