@@ -27,6 +27,13 @@ wordAt input line = spelt 0 (part input (line * 9) 8)
 abbrev pub isGood : List ℕ → ℕ → Bool
 isGood input line = ltb line maxLines && leb (line * 9 + 9) (length input) && areDigits (part input (line * 9) 8) && eqb (getD input (line * 9 + 8) 0) lineFeed
 
+-- a line is the word w, or is malformed
+abbrev pub HasWord : List ℕ → ℕ → ℕ → Type 0
+HasWord input line w = Word w ≡ lineOf (lineAt input (line * 9) line)
+
+abbrev pub HasNone : List ℕ → ℕ → Type 0
+HasNone input line = Malformed ≡ lineOf (lineAt input (line * 9) line)
+
 first-two : (a b c d : Bool) → (a && b && c && d) ≡ true → (a ≡ true) × (b ≡ true)
 first-two a b c d e =
     let two = and-left (a && b) c (and-left (a && b && c) d e) in
@@ -98,13 +105,13 @@ read-start input l = record { good = λ i h. absurd (omega arith); whole = omega
 
 module _ {input l m : List ℕ} {line : ℕ} (s : ReadTo input l m line) where
   -- a line with a word is one of those that are read, and is whole
-  pub read-good : (w : ℕ) → Word w ≡ lineOf (lineAt input (line * 9) line) → (line < maxLines) × (line * 9 + 9 ≤ length input) × (w ≡ wordAt input line) × (isGood input line ≡ true)
+  pub read-good : (w : ℕ) → HasWord input line w → (line < maxLines) × (line * 9 + 9 ≤ length input) × (w ≡ wordAt input line) × (isGood input line ≡ true)
   read-good w e =
       let told = word-demanded (isGood input line) (suc line) (wordAt input line) w e in
       let both = first-two (ltb line maxLines) (leb (line * 9 + 9) (length input)) (areDigits (part input (line * 9) 8)) (eqb (getD input (line * 9 + 8) 0) lineFeed) (told .0) in
       (ltb-true line maxLines (both .0), leb-true (line * 9 + 9) (length input) (both .1), told .1, told .0)
 
-  pub read-next : (w : ℕ) (k : List ℕ) → maxLines ≤ length (words l) → Word w ≡ lineOf (lineAt input (line * 9) line) → length k ≡ length m → words k ≡ set (words m) line w
+  pub read-next : (w : ℕ) (k : List ℕ) → maxLines ≤ length (words l) → HasWord input line w → length k ≡ length m → words k ≡ set (words m) line w
       → ReadTo input l k (line + 1)
   read-next w k room e size put =
       let got = read-good w e in
@@ -124,7 +131,7 @@ module _ {input l m : List ℕ} {line : ℕ} (s : ReadTo input l m line) where
               let same : i ≡ line = omega (arith, ltb-false i line e) in
               ap (isGood input) same ∙ b
 
-  pub read-refused : line * 9 < length input → Malformed ≡ lineOf (lineAt input (line * 9) line)
+  pub read-refused : line * 9 < length input → HasNone input line
       → LinesRead input (words l) (words m) (record { refused = badLine; place = line + 1; count = 0 })
   read-refused h e =
       let is : readLines input ≡ refuse badLine (suc line) = lines-refused input line (s .good) h (malformed-demanded (isGood input line) (suc line) (wordAt input line) e) in

@@ -199,9 +199,28 @@ length-tenth k l =
 pub length-spaced : (k : ℕ) → length (spaced k) ≤ 21
 length-spaced k = omega (arith, length-decimal 20 k [])
 
--- ---- a result
+-- ---- an answer, part by part
 
--- its first number counts its words
+-- xs stand at the text's start, up to q, which is at most `most`
+pub record Front (l xs m : List ℕ) (q most : ℕ) : Type 0 where
+  pub wrote : Wrote l 0 xs m q
+  pub size : length m ≡ length l
+  pub near : q ≤ most
+
+-- its name
+pub front-name : {l xs m : List ℕ} {q : ℕ} → Wrote l 0 xs m q → length m ≡ length l → Front l xs m q (length xs)
+front-name w size = record { wrote = w; size = size; near = omega (arith, w .end) }
+
+module _ {l xs m : List ℕ} {q most : ℕ} (f : Front l xs m q most) where
+  -- a number behind it
+  pub front-number : {ys n : List ℕ} {r : ℕ} → Wrote m q ys n r × (r ≤ q + 21) → length n ≡ length m → Front l (xs ++ ys) n r (most + 21)
+  front-number w size = record { wrote = wrote-then (f .wrote) (w .0) (omega arith); size = size ∙ f .size; near = omega (arith, w .1, f .near) }
+
+  -- the end of its first line, and what comes behind
+  pub front-lines : {ys n : List ℕ} {r : ℕ} → q < length m → Wrote (set m q lineFeed) (q + 1) ys n r → Wrote l 0 (xs ++ ((lineFeed ∷ []) ++ ys)) n r
+  front-lines h w = wrote-then (f .wrote) (wrote-then (wrote-one m q lineFeed h) w (omega arith)) (omega arith)
+
+-- the first number of a result counts its words
 pub printed-ok : (ws : List ℕ) (n replacements passes : ℕ) → length ws ≡ n
     → (111 ∷ 107 ∷ []) ++ spaced n ++ spaced replacements ++ spaced passes ++ (lineFeed ∷ wordsOf wordLine ws) ≡ printed (accepted ws replacements passes)
 printed-ok ws n replacements passes e =

@@ -1,4 +1,4 @@
--- `lines::printing::byte_of` meets its contract: the two ways of its test are those of `byteOf`. Assumes nothing.
+-- The byte of a digit: the test is that of `byteOf`, and each way gives the byte that `byteOf` gives there. Assumes nothing.
 use borrow.Author.Tests.{lt-ltb, le-ltb}
 use borrow.Author.Needs.{needs}
 use Rattle.lines.proofs.printing.byte_of.Statement.{statement}

@@ -1,4 +1,4 @@
--- `lines::printing::put_bytes` meets its contract: the first `i` bytes are written. Assumes nothing.
+-- Printing bytes as they are: after i turns the first i of them are written. Assumes nothing.
 use Prim.Native.Nat.{_-_}
 use lib.ListN.{length}
 use Rattle.lines.proofs.Texts.{BytesTo, bytes-start, bytes-next, bytes-end}

@@ -1,4 +1,4 @@
--- `lines::printing::put_spaced` meets its contract: a space, and the number behind it. Assumes nothing.
+-- Printing a number behind a space: a byte is stored and the digits follow it, at most twenty of them. Assumes nothing.
 use mathlib.Core.Path.{_∙_}
 use lib.ListN.{length-set}
 use Rattle.lines.proofs.Texts.{wrote-one, wrote-then, length-spaced}
@@ -19,9 +19,12 @@ put-decimal-requires c κs = simp length-set (omega arith)
 same-length : tie.Need-same-length
 same-length c = c .before .before .put-decimal .kept .0 ∙ simp length-set
 
+abbrev start : tie.After-put-decimal → tie.Start
+start c = c .before .before .before
+
 returns : tie.Need-returns
 returns c =
-    let a = c .before .before .before .before .before .args in
+    let a = start (c .before .before) .args in
     let space = wrote-one (a .text .now) (a .at) 32 (omega arith) in
     let wrote = wrote-then {l = a .text .now} space (c .before .before .put-decimal .ensures) (omega arith) in
     (wrote, omega (arith, length-spaced (a .k)))

@@ -1,4 +1,4 @@
--- `lines::printing::put_words` meets its contract: the words passed are written, nine bytes each. Assumes nothing.
+-- Printing words: those passed are written, nine bytes each, so that the next one's place is known. Assumes nothing.
 use Prim.Native.Nat.{_-_}
 use Rattle.octets.specs.Words.{words}
 use Rattle.lines.proofs.Texts.{LinesTo, lines-start, lines-next, lines-end}
@@ -15,6 +15,14 @@ abbrev μ-loop : tie.MeasureT-loop
 
 loop-holds : tie.Need-loop-holds Inv-loop μ-loop
 loop-holds c = lines-start _ _ _ _
+
+-- ---- a turn
+
+abbrev In : Type 0
+In = tie.In-loop Inv-loop μ-loop
+
+abbrev start : In → tie.Start Inv-loop μ-loop
+start c = c .before .before .before .before
 
 get-requires : tie.Need-get-requires Inv-loop μ-loop
 get-requires c κs = omega arith
@@ -38,7 +46,13 @@ loop-less : tie.Need-loop-less Inv-loop μ-loop
 loop-less c = search needs
 
 loop-again : tie.Need-loop-again Inv-loop μ-loop
-loop-again c = lines-next (c .before .before .before .before .before .before .loop .inv) (omega arith) (c .before .before .before .before .before .before .before .before .before .pre .1) (c .before .before .before .before .before .before .before .before .before .pre .0) (c .before .before .before .get .ensures .is) (c .before .before .put-hexadecimal .kept .0) (c .before .before .put-hexadecimal .ensures)
+loop-again c =
+    let g : tie.After-get Inv-loop μ-loop = c .before .before .before in
+    let u : In = g .before .before in
+    let p = c .before .before .put-hexadecimal in
+    lines-next (u .before .loop .inv) (u .loop-test .taken) (start u .pre .1) (start u .pre .0) (g .get .ensures .is) (p .kept .0) (p .ensures)
+
+-- ---- all are written
 
 same-length : tie.Need-same-length Inv-loop μ-loop
 same-length c = c .before .loop .inv .size
