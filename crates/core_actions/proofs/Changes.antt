@@ -21,6 +21,7 @@ use Rattle.core_actions.specs.Scopes.{Scoped, ScopeRoom}
 use Rattle.core_actions.specs.Lowered.{loweredAll}
 use Rattle.core_actions.specs.Acts.{ChangeAt, changePiece, changed, Gave}
 use Rattle.core_actions.specs.declared.actions.Acted.{Acted}
+use Rattle.core_actions.proofs.Acting.{ended}
 use Rattle.core_actions.proofs.Sites.{Site, Tree, tree, Known, Begun, begun-as, asks}
 
 -- ---- where it stands
@@ -54,10 +55,6 @@ pub argued : {k : Site} {j d n w : ℕ} {s1 cs1 : List ℕ} {a : Walk} → Begun
     → Argued k j d n w s1 cs1 a
 argued g es ec walk =
     record { begun = g; walk = λ t. walk (t .sig) (t .it .exprs) (t .bound) (t .counted) (t .scoped); size = es; counters = ec }
-
--- an answer that is a refusal
-abbrev pub ended : Walk → Acted
-ended a = record { walk = a; names = 0; count = 0 }
 
 -- they are fine: what the use of a counter and the action's own words ask, with room for j - 2 terms behind theirs
 pub record Fine {k : Site} {j d n w : ℕ} {s1 cs1 : List ℕ} {a : Walk} (m : Argued k j d n w s1 cs1 a) : Type 0 where

@@ -9,6 +9,8 @@ pub mod Calls
 pub mod Sites
 pub mod Plain
 pub mod Acting
+pub mod Lets
+pub mod Pairs
 pub mod Changes
 pub mod NameSets
 pub mod Forests

@@ -24,8 +24,8 @@ use Rattle.core_actions.specs.declared.actions.Acted.{Acted}
 use Rattle.core_actions.proofs.Scopes.{scope-fits}
 use Rattle.core_actions.proofs.Pieces.{lowered-leaf, done-set, same-set}
 use Rattle.core_actions.proofs.Sites.{Site, Tree, tree, tree-as, Begun}
-use Rattle.core_actions.proofs.Acting.{acts-stop, acts-same, scope-after}
-use Rattle.core_actions.proofs.Changes.{Headed, Argued, Fine, ended, Used, Termed, closing, closed-full, closed}
+use Rattle.core_actions.proofs.Acting.{ended, acts-stop, acts-same, scope-after}
+use Rattle.core_actions.proofs.Changes.{Headed, Argued, Fine, Used, Termed, closing, closed-full, closed}
 
 -- ---- both words are read: the name as v, and the call's kind 3 word as w
 

@@ -1,3 +1,4 @@
+-- The answer field by field is the answer. Assumes nothing.
 use mathlib.Core.Path.{refl}
 use Rattle.core_actions.proofs.actions.apart.Statement.{statement}
 use Rattle.core_actions.proofs.actions.apart.Tie as tie

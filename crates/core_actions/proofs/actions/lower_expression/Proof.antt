@@ -1,48 +1,43 @@
-use Prim.Native.Nat.{_+_, _-_}
-use mathlib.Core.Path.{refl}
+-- An expression as an action: what its walk writes is the action, since its term is left out and nothing is bound. Assumes nothing.
+use Prim.Native.Nat.{_+_}
 use native.Mathlib.Omega.{arith}
 use Rattle.octets.specs.Words.{words}
-use Rattle.octets.proofs.Words.{length-words}
+use Rattle.octets.proofs.Words.{length-words, length-words-kept}
 use Rattle.rules.specs.Words.{maxDepth}
-use Rattle.walks.proofs.Asks.{expr-inside}
-use Rattle.core_actions.proofs.Acting.{expression-acts}
+use Rattle.walks.specs.Steps.{ExprAt}
+use Rattle.core_actions.proofs.Sites.{Site, site-of, Begun, begun, asks}
+use Rattle.core_actions.proofs.Acting.{LowAt, expression-logged, expression-done}
 use borrow.Author.Needs.{needs}
 use Rattle.core_actions.proofs.actions.lower_expression.Statement.{statement}
 use Rattle.core_actions.proofs.actions.lower_expression.Tie as tie
 
+abbrev site : tie.Start → Site
+site c = let a = c .args in site-of (words (a .rule .now)) (words (a .scratch .now)) (words (a .counters .now)) (a .at) (a .to) (a .sp) (a .log) (a .scope)
+
+at-start : (c : tie.Start) → Begun (site c) (λ sig. ExprAt sig (site c .ws) maxDepth (site c .at + 1))
+at-start c =
+    begun (c .pre .0) (c .pre .1 .0) (c .pre .1 .1) (omega (arith, length-words (c .args .rule .now), c .good))
+    (omega (arith, length-words (c .args .scratch .now), c .good))
+
 add-lower : tie.Need-add-lower
-add-lower c =
-    let a = c .before .before .before .args in
-    let ws = words (a .rule .now) in
-    let cs = words (a .counters .now) in
-    let s = words (a .scratch .now) in
-    let q = c .before .before .before .pre .0 in
-    let room = c .before .before .before .pre .1 .0 in
-    let sr = c .before .before .before .pre .1 .1 in
-    let i = expr-inside (q .sig) ws maxDepth (a .at + 1) (q .known .0) in
-    omega (arith, length-words (a .rule .now), c .before .before .before .good)
+add-lower c = omega (arith, at-start (c .before .before .before))
 
 lower-requires : tie.Need-lower-requires
-lower-requires c κs =
-    let a = c .before .before .before .before .before .args in
-    let ws = words (a .rule .now) in
-    let cs = words (a .counters .now) in
-    let s = words (a .scratch .now) in
-    let q = c .before .before .before .before .before .pre .0 in
-    let room = c .before .before .before .before .before .pre .1 .0 in
-    let sr = c .before .before .before .before .before .pre .1 .1 in
-    (record { sig = q .sig; known = (q .known .0, q .known .1, q .known .2) }, (record { words = omega (arith, room .words); stack = omega (arith, room .stack); log = omega (arith, room .log) }, record { few = sr .few; body = sr .body; names = omega (arith, sr .names); top = sr .top }))
+lower-requires c κs = let s = c .before .before .before .before .before in asks (at-start s) (s .args .at + 1) (omega arith)
+
+abbrev start : tie.After-lower → tie.Start
+start c = c .before .before .before .before .before .before
+
+at-lower : (c : tie.After-lower)
+    → let e = c .lower in
+    let k = site (start c) in
+    LowAt k (k .at + 1) (words (e .last .1 .1 .1 .1 .1 .0)) (words (e .last .1 .1 .1 .1 .0)) (e .result)
+at-lower c =
+    let e = c .lower in
+    record { walk = e .ensures; size = length-words-kept _ _ (e .kept .1 .1 .1 .1 .1 .0); counters = length-words-kept _ _ (e .kept .1 .1 .1 .1 .0) }
 
 sub-t10 : tie.Need-sub-t10
-sub-t10 c =
-    let a = c .before .before .before .before .before .before .before .before .before .before .before .args in
-    let ws = words (a .rule .now) in
-    let cs = words (a .counters .now) in
-    let s = words (a .scratch .now) in
-    let q = c .before .before .before .before .before .before .before .before .before .before .before .pre .0 in
-    let room = c .before .before .before .before .before .before .before .before .before .before .before .pre .1 .0 in
-    let sr = c .before .before .before .before .before .before .before .before .before .before .before .pre .1 .1 in
-    omega (arith, c .before .before .before .before .before .lower .ensures (q .sig) (q .known .0) (q .known .2 .bound) (q .known .1) (q .known .2 .scoped) .kept .upTo)
+sub-t10 c = let l = c .before .before .before .before .before in expression-logged (at-start (start l)) (at-lower l)
 
 same-length : tie.Need-same-length
 same-length c = search needs
@@ -51,16 +46,7 @@ same-length-2 : tie.Need-same-length-2
 same-length-2 c = search needs
 
 returns : tie.Need-returns
-returns c =
-    let a = c .before .before .before .before .before .before .before .before .before .before .before .args in
-    let ws = words (a .rule .now) in
-    let cs = words (a .counters .now) in
-    let s = words (a .scratch .now) in
-    let q = c .before .before .before .before .before .before .before .before .before .before .before .pre .0 in
-    let room = c .before .before .before .before .before .before .before .before .before .before .before .pre .1 .0 in
-    let sr = c .before .before .before .before .before .before .before .before .before .before .before .pre .1 .1 in
-    let k = c .before .before .before .before .before .lower in
-    λ sig x bound n sc. expression-acts sig bound ws (a .at) (a .to) (a .sp) (a .log) (a .scope) s cs x _ _ (record { walk = k .result; names = 0; count = k .result .log - a .log }) (k .ensures sig x bound n sc) room sr sc refl refl
+returns c = let l = c .before .before .before .before .before in expression-done (at-start (start l)) (at-lower l)
 
 pub lower-expression-spec : {M : Type 1} → statement M
 lower-expression-spec =

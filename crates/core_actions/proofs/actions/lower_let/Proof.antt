@@ -1,90 +1,77 @@
-use Prim.Native.Nat.{_+_}
+-- A let: a name that is bound already is refused, and so is what its expression is refused for; else the action's words are the name and the term, and
+-- the name, put behind those let so far, is one name more of the scope. Assumes nothing.
+use Prim.Native.Nat.{ℕ, _+_}
 use mathlib.Core.Path.{_≡_, refl, _∙_}
 use native.Mathlib.Omega.{arith}
 use lib.ListN.{length, getD}
 use Rattle.octets.specs.Words.{words}
 use Rattle.octets.proofs.Words.{length-words, length-words-kept}
-use Rattle.core_actions.proofs.Scopes.{scope-fits}
-use Rattle.core_actions.proofs.Acting.{let-twice, let-stop, let-room, let-done}
+use Rattle.core_actions.proofs.Sites.{Site, site-of, begun}
+use Rattle.core_actions.proofs.Acting.{LowAt, Fine}
+use Rattle.core_actions.proofs.Lets.{Letting, name-asks, expr-asks, let-twice, let-refused, let-fine, let-done}
 use borrow.Author.Needs.{needs}
 use Rattle.core_actions.proofs.actions.lower_let.Statement.{statement}
 use Rattle.core_actions.proofs.actions.lower_let.Tie as tie
 
+-- ---- the name
+
+abbrev site : tie.Start → Site
+site c = let a = c .args in site-of (words (a .rule .now)) (words (a .scratch .now)) (words (a .counters .now)) (a .at) (a .to) (a .sp) (a .log) (a .scope)
+
+at-start : (c : tie.Start) (v : ℕ) → v ≡ getD (words (c .args .rule .now)) (c .args .at + 1) 0 → Letting (site c) v
+at-start c v is =
+    record {
+      begun =
+          begun (c .pre .0) (c .pre .1 .0) (c .pre .1 .1 .0) (omega (arith, length-words (c .args .rule .now), c .good))
+          (omega (arith, length-words (c .args .scratch .now), c .good));
+      is = is;
+      end = c .pre .1 .1 .1;
+    }
+
 add-get : tie.Need-add-get
-add-get c =
-    let a = c .before .before .before .args in
-    let ws = words (a .rule .now) in
-    let cs = words (a .counters .now) in
-    let s = words (a .scratch .now) in
-    let q = c .before .before .before .pre .0 in
-    let room = c .before .before .before .pre .1 .0 in
-    let sr = c .before .before .before .pre .1 .1 .0 in
-    let i = q .known .0 .expr .inside in
-    omega (arith, length-words (a .rule .now), c .before .before .before .good)
+add-get c = omega (arith, at-start (c .before .before .before) _ refl .begun)
 
 get-requires : tie.Need-get-requires
-get-requires c κs =
-    let a = c .before .before .before .args in
-    let ws = words (a .rule .now) in
-    let cs = words (a .counters .now) in
-    let s = words (a .scratch .now) in
-    let q = c .before .before .before .pre .0 in
-    let room = c .before .before .before .pre .1 .0 in
-    let sr = c .before .before .before .pre .1 .1 .0 in
-    let i = q .known .0 .expr .inside in
-    omega arith
+get-requires c κs = omega (arith, at-start (c .before .before .before) _ refl .begun)
+
+abbrev start : tie.After-get → tie.Start
+start c = c .before .before .before .before
+
+at-get : (c : tie.After-get) → Letting (site (start c)) (c .get .result)
+at-get c = at-start (start c) _ (c .get .ensures .is)
 
 taken-requires : tie.Need-taken-requires
-taken-requires c κs =
-    let a = c .before .before .before .before .before .args in
-    let ws = words (a .rule .now) in
-    let cs = words (a .counters .now) in
-    let s = words (a .scratch .now) in
-    let q = c .before .before .before .before .before .pre .0 in
-    let room = c .before .before .before .before .before .pre .1 .0 in
-    let sr = c .before .before .before .before .before .pre .1 .1 .0 in
-    let i = q .known .0 .expr .inside in
-    scope-fits sr room (omega arith)
+taken-requires c κs = name-asks (at-get (c .before))
+
+-- ---- it is bound already
 
 same-length : tie.Need-same-length
 same-length c = search needs
 
 returns : tie.Need-returns
-returns c =
-    let a = c .before .before .before .before .before .before .before .args in
-    let ws = words (a .rule .now) in
-    let cs = words (a .counters .now) in
-    let s = words (a .scratch .now) in
-    let q = c .before .before .before .before .before .before .before .pre .0 in
-    let room = c .before .before .before .before .before .before .before .pre .1 .0 in
-    let sr = c .before .before .before .before .before .before .before .pre .1 .1 .0 in
-    let v = c .before .before .before .get .result in
-    let is : v ≡ getD ws (a .at + 1) 0 = c .before .before .before .get .ensures .is in
-    λ sig x bound n sc. let-twice sig bound ws (a .at) (a .to) (a .sp) (a .log) (a .scope) s cs x v is (c .before .taken .result) (c .before .taken .ensures sig bound sc (omega (arith, x .old))) (c .if1 .taken)
+returns c = let t = c .before in let-twice (at-get (t .before .before)) (t .taken .ensures) (c .if1 .taken)
+
+-- ---- it is free: the expression
+
+abbrev else-get : tie.Else1 → tie.After-get
+else-get c = c .before .before .before
 
 add-lower : tie.Need-add-lower
-add-lower c =
-    let a = c .before .before .before .before .before .before .before .args in
-    let ws = words (a .rule .now) in
-    let cs = words (a .counters .now) in
-    let s = words (a .scratch .now) in
-    let q = c .before .before .before .before .before .before .before .pre .0 in
-    let room = c .before .before .before .before .before .before .before .pre .1 .0 in
-    let sr = c .before .before .before .before .before .before .before .pre .1 .1 .0 in
-    let i = q .known .0 .expr .inside in
-    omega (arith, length-words (a .rule .now), c .before .before .before .before .before .before .before .good)
+add-lower c = omega (arith, at-get (else-get c) .begun)
 
 lower-requires : tie.Need-lower-requires
-lower-requires c κs =
-    let a = c .before .before .before .before .before .before .before .before .before .args in
-    let ws = words (a .rule .now) in
-    let cs = words (a .counters .now) in
-    let s = words (a .scratch .now) in
-    let q = c .before .before .before .before .before .before .before .before .before .pre .0 in
-    let room = c .before .before .before .before .before .before .before .before .before .pre .1 .0 in
-    let sr = c .before .before .before .before .before .before .before .before .before .pre .1 .1 .0 in
-    let i = q .known .0 .expr .inside in
-    (record { sig = q .sig; known = (q .known .0 .expr, q .known .1, q .known .2) }, (record { words = omega (arith, room .words); stack = omega (arith, room .stack); log = omega (arith, room .log) }, record { few = sr .few; body = sr .body; names = omega (arith, sr .names); top = sr .top }))
+lower-requires c κs = expr-asks (at-get (else-get (c .before .before)))
+
+abbrev low-else : tie.After-lower → tie.Else1
+low-else c = c .before .before .before
+
+at-lower : (c : tie.After-lower)
+    → let e = c .lower in
+    let k = site (start (else-get (low-else c))) in
+    LowAt k (k .at + 2) (words (e .last .1 .1 .1 .1 .1 .0)) (words (e .last .1 .1 .1 .1 .0)) (e .result)
+at-lower c =
+    let e = c .lower in
+    record { walk = e .ensures; size = length-words-kept _ _ (e .kept .1 .1 .1 .1 .1 .0); counters = length-words-kept _ _ (e .kept .1 .1 .1 .1 .0) }
 
 same-length-2 : tie.Need-same-length-2
 same-length-2 c = search needs
@@ -94,126 +81,56 @@ same-length-3 c = search needs
 
 returns-2 : tie.Need-returns-2
 returns-2 c =
-    let a = c .before .before .before .before .before .before .before .before .before .before .before .before .before .before .before .before .args in
-    let ws = words (a .rule .now) in
-    let cs = words (a .counters .now) in
-    let s = words (a .scratch .now) in
-    let q = c .before .before .before .before .before .before .before .before .before .before .before .before .before .before .before .before .pre .0 in
-    let room = c .before .before .before .before .before .before .before .before .before .before .before .before .before .before .before .before .pre .1 .0 in
-    let sr = c .before .before .before .before .before .before .before .before .before .before .before .before .before .before .before .before .pre .1 .1 .0 in
-    let v = c .before .before .before .before .before .before .before .before .before .before .before .before .get .result in
-    let is : v ≡ getD ws (a .at + 1) 0 = c .before .before .before .before .before .before .before .before .before .before .before .before .get .ensures .is in
-    let k = c .before .before .before .before .before .before .lower in
-    let s1 = words (k .last .1 .1 .1 .1 .1 .0) in
-    let cs1 = words (k .last .1 .1 .1 .1 .0) in
-    let hc : length cs1 ≡ length cs = length-words-kept (k .last .1 .1 .1 .1 .0) (a .counters .now) (k .kept .1 .1 .1 .1 .0) in
-    let hs : length s1 ≡ length s = length-words-kept (k .last .1 .1 .1 .1 .1 .0) (a .scratch .now) (k .kept .1 .1 .1 .1 .1 .0) in
-    λ sig x bound n sc. let-stop sig bound ws (a .at) (a .to) (a .sp) (a .log) (a .scope) s cs x v is (c .before .before .before .before .before .before .before .before .before .before .taken .result) (c .before .before .before .before .before .before .before .before .before .before .taken .ensures sig bound sc (omega (arith, x .old))) (c .before .before .before .before .before .before .before .before .before .if1 .left) s1 cs1 (k .result) (k .ensures sig (x .expr) bound n sc) _ refl (c .if2 .taken)
+    let l = c .before .before .before .before .before .before in
+    let f = low-else l in
+    let-refused (at-get (else-get f)) (f .before .taken .ensures) (f .if1 .left) (at-lower l) (c .if2 .taken)
+
+-- ---- it is fine: the action, and the name behind those let
+
+abbrev else-low : tie.Else2 → tie.After-lower
+else-low c = c .before .before .before .before .before .before
+
+at-else : (c : tie.Else2)
+    → let e = else-low c .lower in Fine (site (start (else-get (low-else (else-low c))))) (words (e .last .1 .1 .1 .1 .1 .0)) (e .result)
+at-else c =
+    let f = low-else (else-low c) in
+    let-fine (at-get (else-get f)) (f .before .taken .ensures) (f .if1 .left) (at-lower (else-low c)) (c .if2 .left)
 
 put-three-requires : tie.Need-put-three-requires
-put-three-requires c κs =
-    let a = c .before .before .before .before .before .before .before .before .before .before .before .before .before .before .before .before .before .args in
-    let ws = words (a .rule .now) in
-    let cs = words (a .counters .now) in
-    let s = words (a .scratch .now) in
-    let q = c .before .before .before .before .before .before .before .before .before .before .before .before .before .before .before .before .before .pre .0 in
-    let room = c .before .before .before .before .before .before .before .before .before .before .before .before .before .before .before .before .before .pre .1 .0 in
-    let sr = c .before .before .before .before .before .before .before .before .before .before .before .before .before .before .before .before .before .pre .1 .1 .0 in
-    let v = c .before .before .before .before .before .before .before .before .before .before .before .before .before .get .result in
-    let is : v ≡ getD ws (a .at + 1) 0 = c .before .before .before .before .before .before .before .before .before .before .before .before .before .get .ensures .is in
-    let k = c .before .before .before .before .before .before .before .lower in
-    let s1 = words (k .last .1 .1 .1 .1 .1 .0) in
-    let cs1 = words (k .last .1 .1 .1 .1 .0) in
-    let hc : length cs1 ≡ length cs = length-words-kept (k .last .1 .1 .1 .1 .0) (a .counters .now) (k .kept .1 .1 .1 .1 .0) in
-    let hs : length s1 ≡ length s = length-words-kept (k .last .1 .1 .1 .1 .1 .0) (a .scratch .now) (k .kept .1 .1 .1 .1 .1 .0) in
-    let b = q .known .2 .bound in
-    let x = q .known .0 in
-    let-room (q .sig) b ws (a .at) (a .to) (a .sp) (a .log) (a .scope) s cs x v is (c .before .before .before .before .before .before .before .before .before .before .before .taken .result) (c .before .before .before .before .before .before .before .before .before .before .before .taken .ensures (q .sig) b (q .known .2 .scoped) (omega (arith, x .old))) (c .before .before .before .before .before .before .before .before .before .before .if1 .left) s1 cs1 (k .result) (k .ensures (q .sig) (x .expr) b (q .known .1) (q .known .2 .scoped)) (c .before .if2 .left) room (length s1) hs .1
+put-three-requires c κs = at-else (c .before) .words
+
+abbrev three-else : tie.After-put-three → tie.Else2
+three-else c = c .before .before
+
+at-three : (c : tie.After-put-three) → length (words (c .put-three .last .0)) ≡ length (words (else-low (three-else c) .lower .last .1 .1 .1 .1 .1 .0))
+at-three c = length-words-kept _ _ (c .put-three .kept .0)
 
 put-requires : tie.Need-put-requires
-put-requires c κs =
-    let a = c .before .before .before .before .before .before .before .before .before .before .before .before .before .before .before .before .before .before .before .before .before .args in
-    let ws = words (a .rule .now) in
-    let cs = words (a .counters .now) in
-    let s = words (a .scratch .now) in
-    let q = c .before .before .before .before .before .before .before .before .before .before .before .before .before .before .before .before .before .before .before .before .before .pre .0 in
-    let room = c .before .before .before .before .before .before .before .before .before .before .before .before .before .before .before .before .before .before .before .before .before .pre .1 .0 in
-    let sr = c .before .before .before .before .before .before .before .before .before .before .before .before .before .before .before .before .before .before .before .before .before .pre .1 .1 .0 in
-    let v = c .before .before .before .before .before .before .before .before .before .before .before .before .before .before .before .before .before .get .result in
-    let is : v ≡ getD ws (a .at + 1) 0 = c .before .before .before .before .before .before .before .before .before .before .before .before .before .before .before .before .before .get .ensures .is in
-    let k = c .before .before .before .before .before .before .before .before .before .before .before .lower in
-    let s1 = words (k .last .1 .1 .1 .1 .1 .0) in
-    let cs1 = words (k .last .1 .1 .1 .1 .0) in
-    let hc : length cs1 ≡ length cs = length-words-kept (k .last .1 .1 .1 .1 .0) (a .counters .now) (k .kept .1 .1 .1 .1 .0) in
-    let hs : length s1 ≡ length s = length-words-kept (k .last .1 .1 .1 .1 .1 .0) (a .scratch .now) (k .kept .1 .1 .1 .1 .1 .0) in
-    let b = q .known .2 .bound in
-    let x = q .known .0 in
-    omega (arith, let-room (q .sig) b ws (a .at) (a .to) (a .sp) (a .log) (a .scope) s cs x v is (c .before .before .before .before .before .before .before .before .before .before .before .before .before .before .before .taken .result) (c .before .before .before .before .before .before .before .before .before .before .before .before .before .before .before .taken .ensures (q .sig) b (q .known .2 .scoped) (omega (arith, x .old))) (c .before .before .before .before .before .before .before .before .before .before .before .before .before .before .if1 .left) s1 cs1 (k .result) (k .ensures (q .sig) (x .expr) b (q .known .1) (q .known .2 .scoped)) (c .before .before .before .before .before .if2 .left) room (length s1) hs .2, length-words-kept (c .before .before .before .put-three .last .0) (k .last .1 .1 .1 .1 .1 .0) (c .before .before .before .put-three .kept .0))
+put-requires c κs = let p = c .before .before .before in omega (arith, at-else (three-else p) .top, at-three p)
+
+abbrev put-three : tie.After-put → tie.After-put-three
+put-three c = c .before .before .before .before
 
 sub-t12 : tie.Need-sub-t12
-sub-t12 c =
-    let a = c .before .before .before .before .before .before .before .before .before .before .before .before .before .before .before .before .before .before .before .before .before .before .before .before .before .args in
-    let ws = words (a .rule .now) in
-    let cs = words (a .counters .now) in
-    let s = words (a .scratch .now) in
-    let q = c .before .before .before .before .before .before .before .before .before .before .before .before .before .before .before .before .before .before .before .before .before .before .before .before .before .pre .0 in
-    let room = c .before .before .before .before .before .before .before .before .before .before .before .before .before .before .before .before .before .before .before .before .before .before .before .before .before .pre .1 .0 in
-    let sr = c .before .before .before .before .before .before .before .before .before .before .before .before .before .before .before .before .before .before .before .before .before .before .before .before .before .pre .1 .1 .0 in
-    let v = c .before .before .before .before .before .before .before .before .before .before .before .before .before .before .before .before .before .before .before .before .before .get .result in
-    let is : v ≡ getD ws (a .at + 1) 0 = c .before .before .before .before .before .before .before .before .before .before .before .before .before .before .before .before .before .before .before .before .before .get .ensures .is in
-    let k = c .before .before .before .before .before .before .before .before .before .before .before .before .before .before .before .lower in
-    let s1 = words (k .last .1 .1 .1 .1 .1 .0) in
-    let cs1 = words (k .last .1 .1 .1 .1 .0) in
-    let hc : length cs1 ≡ length cs = length-words-kept (k .last .1 .1 .1 .1 .0) (a .counters .now) (k .kept .1 .1 .1 .1 .0) in
-    let hs : length s1 ≡ length s = length-words-kept (k .last .1 .1 .1 .1 .1 .0) (a .scratch .now) (k .kept .1 .1 .1 .1 .1 .0) in
-    let b = q .known .2 .bound in
-    let x = q .known .0 in
-    let-room (q .sig) b ws (a .at) (a .to) (a .sp) (a .log) (a .scope) s cs x v is (c .before .before .before .before .before .before .before .before .before .before .before .before .before .before .before .before .before .before .before .taken .result) (c .before .before .before .before .before .before .before .before .before .before .before .before .before .before .before .before .before .before .before .taken .ensures (q .sig) b (q .known .2 .scoped) (omega (arith, x .old))) (c .before .before .before .before .before .before .before .before .before .before .before .before .before .before .before .before .before .before .if1 .left) s1 cs1 (k .result) (k .ensures (q .sig) (x .expr) b (q .known .1) (q .known .2 .scoped)) (c .before .before .before .before .before .before .before .before .before .if2 .left) room (length s1) hs .0
+sub-t12 c = at-else (three-else (put-three (c .before .before .before))) .logged
 
 add-t28 : tie.Need-add-t28
-add-t28 c =
-    let a = c .before .before .before .before .before .before .before .before .before .before .before .before .before .before .before .before .before .before .before .before .before .before .before .before .before .args in
-    let ws = words (a .rule .now) in
-    let cs = words (a .counters .now) in
-    let s = words (a .scratch .now) in
-    let q = c .before .before .before .before .before .before .before .before .before .before .before .before .before .before .before .before .before .before .before .before .before .before .before .before .before .pre .0 in
-    let room = c .before .before .before .before .before .before .before .before .before .before .before .before .before .before .before .before .before .before .before .before .before .before .before .before .before .pre .1 .0 in
-    let sr = c .before .before .before .before .before .before .before .before .before .before .before .before .before .before .before .before .before .before .before .before .before .before .before .before .before .pre .1 .1 .0 in
-    let v = c .before .before .before .before .before .before .before .before .before .before .before .before .before .before .before .before .before .before .before .before .before .get .result in
-    let is : v ≡ getD ws (a .at + 1) 0 = c .before .before .before .before .before .before .before .before .before .before .before .before .before .before .before .before .before .before .before .before .before .get .ensures .is in
-    let k = c .before .before .before .before .before .before .before .before .before .before .before .before .before .before .before .lower in
-    let s1 = words (k .last .1 .1 .1 .1 .1 .0) in
-    let cs1 = words (k .last .1 .1 .1 .1 .0) in
-    let hc : length cs1 ≡ length cs = length-words-kept (k .last .1 .1 .1 .1 .0) (a .counters .now) (k .kept .1 .1 .1 .1 .0) in
-    let hs : length s1 ≡ length s = length-words-kept (k .last .1 .1 .1 .1 .1 .0) (a .scratch .now) (k .kept .1 .1 .1 .1 .1 .0) in
-    let b = q .known .2 .bound in
-    let x = q .known .0 in
-    let r = let-room (q .sig) b ws (a .at) (a .to) (a .sp) (a .log) (a .scope) s cs x v is (c .before .before .before .before .before .before .before .before .before .before .before .before .before .before .before .before .before .before .before .taken .result) (c .before .before .before .before .before .before .before .before .before .before .before .before .before .before .before .before .before .before .before .taken .ensures (q .sig) b (q .known .2 .scoped) (omega (arith, x .old))) (c .before .before .before .before .before .before .before .before .before .before .before .before .before .before .before .before .before .before .if1 .left) s1 cs1 (k .result) (k .ensures (q .sig) (x .expr) b (q .known .1) (q .known .2 .scoped)) (c .before .before .before .before .before .before .before .before .before .if2 .left) room (length s1) hs in
-    omega (arith, k .ensures (q .sig) (x .expr) b (q .known .1) (q .known .2 .scoped) .kept .inLog, x .expr .inside, room .log, length-words (a .scratch .now), c .before .before .before .before .before .before .before .before .before .before .before .before .before .before .before .before .before .before .before .before .before .before .before .before .before .good)
+add-t28 c = omega (arith, at-else (three-else (put-three (c .before .before .before))))
 
 same-length-4 : tie.Need-same-length-4
-same-length-4 c = c .before .before .before .before .before .before .before .before .before .before .before .before .before .before .before .lower .kept .1 .1 .1 .1 .0
+same-length-4 c = else-low (three-else (put-three (c .before .before .before))) .lower .kept .1 .1 .1 .1 .0
 
 same-length-5 : tie.Need-same-length-5
-same-length-5 c = c .before .before .before .put .kept .0 ∙ c .before .before .before .before .before .before .before .put-three .kept .0 ∙ c .before .before .before .before .before .before .before .before .before .before .before .before .before .before .before .lower .kept .1 .1 .1 .1 .1 .0
+same-length-5 c =
+    let p = c .before .before .before in
+    p .put .kept .0 ∙ put-three p .put-three .kept .0 ∙ else-low (three-else (put-three p)) .lower .kept .1 .1 .1 .1 .1 .0
 
 returns-3 : tie.Need-returns-3
 returns-3 c =
-    let a = c .before .before .before .before .before .before .before .before .before .before .before .before .before .before .before .before .before .before .before .before .before .before .before .before .before .args in
-    let ws = words (a .rule .now) in
-    let cs = words (a .counters .now) in
-    let s = words (a .scratch .now) in
-    let q = c .before .before .before .before .before .before .before .before .before .before .before .before .before .before .before .before .before .before .before .before .before .before .before .before .before .pre .0 in
-    let room = c .before .before .before .before .before .before .before .before .before .before .before .before .before .before .before .before .before .before .before .before .before .before .before .before .before .pre .1 .0 in
-    let sr = c .before .before .before .before .before .before .before .before .before .before .before .before .before .before .before .before .before .before .before .before .before .before .before .before .before .pre .1 .1 .0 in
-    let v = c .before .before .before .before .before .before .before .before .before .before .before .before .before .before .before .before .before .before .before .before .before .get .result in
-    let is : v ≡ getD ws (a .at + 1) 0 = c .before .before .before .before .before .before .before .before .before .before .before .before .before .before .before .before .before .before .before .before .before .get .ensures .is in
-    let k = c .before .before .before .before .before .before .before .before .before .before .before .before .before .before .before .lower in
-    let s1 = words (k .last .1 .1 .1 .1 .1 .0) in
-    let cs1 = words (k .last .1 .1 .1 .1 .0) in
-    let hc : length cs1 ≡ length cs = length-words-kept (k .last .1 .1 .1 .1 .0) (a .counters .now) (k .kept .1 .1 .1 .1 .0) in
-    let hs : length s1 ≡ length s = length-words-kept (k .last .1 .1 .1 .1 .1 .0) (a .scratch .now) (k .kept .1 .1 .1 .1 .1 .0) in
-    λ sig x bound n sc. let-done sig bound ws (a .at) (a .to) (a .sp) (a .log) (a .scope) s cs x v is (c .before .before .before .before .before .before .before .before .before .before .before .before .before .before .before .before .before .before .before .taken .result) (c .before .before .before .before .before .before .before .before .before .before .before .before .before .before .before .before .before .before .before .taken .ensures sig bound sc (omega (arith, x .old))) (c .before .before .before .before .before .before .before .before .before .before .before .before .before .before .before .before .before .before .if1 .left) s1 cs1 (k .result) (k .ensures sig (x .expr) bound n sc) (c .before .before .before .before .before .before .before .before .before .if2 .left) room sr (c .before .before .before .before .before .before .before .before .before .before .before .before .before .before .before .before .before .before .before .before .before .before .before .before .before .pre .1 .1 .1) sc _ _ _ _ (c .before .before .before .before .before .before .before .put-three .ensures .0) (c .before .before .before .before .before .before .before .put-three .ensures .1) (c .before .before .before .put .ensures) refl refl refl
+    let p = c .before .before .before in
+    let q = three-else (put-three p) in
+    let f = low-else (else-low q) in
+    let-done (at-get (else-get f)) (f .before .taken .ensures) (f .if1 .left) (at-lower (else-low q)) (q .if2 .left) (put-three p .put-three .ensures) (p .put .ensures)
 
 pub lower-let-spec : {M : Type 1} → statement M
 lower-let-spec =

@@ -1,68 +1,55 @@
+-- A panic: its two words are written as they stand, and nothing is walked or bound. Assumes nothing.
+use Prim.Native.Nat.{ℕ, _+_}
+use mathlib.Core.Path.{_≡_, refl}
 use native.Mathlib.Omega.{arith}
+use lib.ListN.{getD}
 use Rattle.octets.specs.Words.{words}
 use Rattle.octets.proofs.Words.{length-words}
-use Rattle.core_actions.proofs.Acting.{panic-acts}
+use Rattle.core_actions.proofs.Sites.{Site, site-of}
+use Rattle.core_actions.proofs.Acting.{Panics, panic-done}
 use borrow.Author.Needs.{needs}
 use Rattle.core_actions.proofs.actions.lower_panic.Statement.{statement}
 use Rattle.core_actions.proofs.actions.lower_panic.Tie as tie
 
+abbrev site : tie.Start → Site
+site c = let a = c .args in site-of (words (a .rule .now)) (words (a .scratch .now)) (words (a .counters .now)) (a .at) (a .to) (a .sp) (a .log) (a .scope)
+
+at-start : (c : tie.Start) (l : ℕ) → l ≡ getD (words (c .args .rule .now)) (c .args .at + 1) 0 → Panics (site c) l
+at-start c l is =
+    record {
+      is = is;
+      inside = c .pre .0;
+      room = c .pre .1 .0;
+      scopeRoom = c .pre .1 .1;
+      ruleFits = omega (arith, length-words (c .args .rule .now), c .good);
+    }
+
 add-get : tie.Need-add-get
-add-get c =
-    let a = c .before .before .before .args in
-    let ws = words (a .rule .now) in
-    let cs = words (a .counters .now) in
-    let s = words (a .scratch .now) in
-    let inside = c .before .before .before .pre .0 in
-    let room = c .before .before .before .pre .1 .0 in
-    let sr = c .before .before .before .pre .1 .1 in
-    omega (arith, length-words (a .rule .now), c .before .before .before .good)
+add-get c = omega (arith, at-start (c .before .before .before) _ refl)
 
 get-requires : tie.Need-get-requires
-get-requires c κs =
-    let a = c .before .before .before .args in
-    let ws = words (a .rule .now) in
-    let cs = words (a .counters .now) in
-    let s = words (a .scratch .now) in
-    let inside = c .before .before .before .pre .0 in
-    let room = c .before .before .before .pre .1 .0 in
-    let sr = c .before .before .before .pre .1 .1 in
-    inside
+get-requires c κs = c .before .before .before .pre .0
+
+abbrev start : tie.After-get → tie.Start
+start c = c .before .before .before .before
+
+at-get : (c : tie.After-get) → Panics (site (start c)) (c .get .result)
+at-get c = at-start (start c) _ (c .get .ensures .is)
 
 put-two-requires : tie.Need-put-two-requires
-put-two-requires c κs =
-    let a = c .before .before .before .before .before .args in
-    let ws = words (a .rule .now) in
-    let cs = words (a .counters .now) in
-    let s = words (a .scratch .now) in
-    let inside = c .before .before .before .before .before .pre .0 in
-    let room = c .before .before .before .before .before .pre .1 .0 in
-    let sr = c .before .before .before .before .before .pre .1 .1 in
-    omega (arith, room .words, room .stack, room .log)
+put-two-requires c κs = omega (arith, at-get (c .before))
+
+abbrev put-get : tie.After-put-two → tie.After-get
+put-get c = c .before .before
 
 add-t11 : tie.Need-add-t11
-add-t11 c =
-    let a = c .before .before .before .before .before .before .before .before .args in
-    let ws = words (a .rule .now) in
-    let cs = words (a .counters .now) in
-    let s = words (a .scratch .now) in
-    let inside = c .before .before .before .before .before .before .before .before .pre .0 in
-    let room = c .before .before .before .before .before .before .before .before .pre .1 .0 in
-    let sr = c .before .before .before .before .before .before .before .before .pre .1 .1 in
-    omega (arith, length-words (a .rule .now), c .before .before .before .before .before .before .before .before .good)
+add-t11 c = omega (arith, at-get (put-get (c .before .before)))
 
 same-length : tie.Need-same-length
 same-length c = search needs
 
 returns : tie.Need-returns
-returns c =
-    let a = c .before .before .before .before .before .before .before .before .args in
-    let ws = words (a .rule .now) in
-    let cs = words (a .counters .now) in
-    let s = words (a .scratch .now) in
-    let inside = c .before .before .before .before .before .before .before .before .pre .0 in
-    let room = c .before .before .before .before .before .before .before .before .pre .1 .0 in
-    let sr = c .before .before .before .before .before .before .before .before .pre .1 .1 in
-    λ sig bound sc. panic-acts sig bound ws (a .at) (a .to) (a .sp) (a .log) (a .scope) s cs (c .before .before .before .before .get .result) (c .before .before .before .before .get .ensures .is) inside room sr sc _ _ (c .before .before .put-two .ensures .0) (c .before .before .put-two .ensures .1)
+returns c = panic-done (at-get (put-get (c .before .before))) (c .before .before .put-two .ensures)
 
 pub lower-panic-spec : {M : Type 1} → statement M
 lower-panic-spec =

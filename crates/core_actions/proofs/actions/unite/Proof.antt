@@ -1,41 +1,44 @@
+-- A union that stays one: both sides are lowered, the right one from where the walk of the left one stands, and the action's words are the two terms;
+-- the first side that is refused refuses the union. Assumes nothing.
 use Prim.Native.Nat.{_+_}
-use mathlib.Core.Path.{_≡_, refl, _∙_}
+use mathlib.Core.Path.{_≡_, _∙_}
 use native.Mathlib.Omega.{arith}
 use lib.ListN.{length}
 use Rattle.octets.specs.Words.{words}
 use Rattle.octets.proofs.Words.{length-words, length-words-kept}
-use Rattle.rules.specs.Words.{maxDepth}
-use Rattle.walks.proofs.Asks.{counted-kept}
-use Rattle.walks.proofs.Asks.{expr-inside}
-use Rattle.core_actions.proofs.Acting.{union-left, union-right, union-scope, union-scope-room, union-stop, union-room, union-done}
+use Rattle.core_actions.proofs.Sites.{Site, site-of, Begun, begun}
+use Rattle.core_actions.proofs.Acting.{LowAt, Fine}
+use Rattle.core_actions.proofs.Pairs.{Pair, left-asks, behind, left-refused, right-asks, right-refused, both-fine, union-done}
 use borrow.Author.Needs.{needs}
 use Rattle.core_actions.proofs.actions.unite.Statement.{statement}
 use Rattle.core_actions.proofs.actions.unite.Tie as tie
 
+-- ---- the left side
+
+abbrev site : tie.Start → Site
+site c = let a = c .args in site-of (words (a .rule .now)) (words (a .scratch .now)) (words (a .counters .now)) (a .at) (a .to) (a .sp) (a .log) (a .scope)
+
+at-start : (c : tie.Start) → Begun (site c) (Pair (site c))
+at-start c =
+    begun (c .pre .0) (c .pre .1 .0) (c .pre .1 .1) (omega (arith, length-words (c .args .rule .now), c .good))
+    (omega (arith, length-words (c .args .scratch .now), c .good))
+
 add-lower : tie.Need-add-lower
-add-lower c =
-    let a = c .before .before .before .args in
-    let ws = words (a .rule .now) in
-    let cs = words (a .counters .now) in
-    let s = words (a .scratch .now) in
-    let q = c .before .before .before .pre .0 in
-    let room = c .before .before .before .pre .1 .0 in
-    let sr = c .before .before .before .pre .1 .1 in
-    let x = q .known .0 in
-    let i = x .right .inside in
-    let j = expr-inside (q .sig) ws maxDepth (a .at + 1) (x .left) in
-    omega (arith, length-words (a .rule .now), c .before .before .before .good)
+add-lower c = omega (arith, at-start (c .before .before .before))
 
 lower-requires : tie.Need-lower-requires
-lower-requires c κs =
-    let a = c .before .before .before .before .before .args in
-    let ws = words (a .rule .now) in
-    let cs = words (a .counters .now) in
-    let s = words (a .scratch .now) in
-    let q = c .before .before .before .before .before .pre .0 in
-    let room = c .before .before .before .before .before .pre .1 .0 in
-    let sr = c .before .before .before .before .before .pre .1 .1 in
-    (record { sig = q .sig; known = (q .known .0 .left, q .known .1, q .known .2) }, (record { words = omega (arith, room .words); stack = omega (arith, room .stack); log = omega (arith, room .log) }, record { few = sr .few; body = sr .body; names = omega (arith, sr .names); top = sr .top }))
+lower-requires c κs = left-asks (at-start (c .before .before .before .before .before))
+
+abbrev start : tie.After-lower → tie.Start
+start c = c .before .before .before .before .before .before
+
+at-left : (c : tie.After-lower)
+    → let l = c .lower in
+    let k = site (start c) in
+    LowAt k (k .at + 1) (words (l .last .1 .1 .1 .1 .1 .0)) (words (l .last .1 .1 .1 .1 .0)) (l .result)
+at-left c =
+    let l = c .lower in
+    record { walk = l .ensures; size = length-words-kept _ _ (l .kept .1 .1 .1 .1 .1 .0); counters = length-words-kept _ _ (l .kept .1 .1 .1 .1 .0) }
 
 same-length : tie.Need-same-length
 same-length c = search needs
@@ -45,152 +48,88 @@ same-length-2 c = search needs
 
 returns : tie.Need-returns
 returns c =
-    let a = c .before .before .before .before .before .before .before .before .before .before .before .before .args in
-    let ws = words (a .rule .now) in
-    let cs = words (a .counters .now) in
-    let s = words (a .scratch .now) in
-    let q = c .before .before .before .before .before .before .before .before .before .before .before .before .pre .0 in
-    let room = c .before .before .before .before .before .before .before .before .before .before .before .before .pre .1 .0 in
-    let sr = c .before .before .before .before .before .before .before .before .before .before .before .before .pre .1 .1 in
-    let k = c .before .before .before .before .before .before .lower in
-    let s1 = words (k .last .1 .1 .1 .1 .1 .0) in
-    let cs1 = words (k .last .1 .1 .1 .1 .0) in
-    let hc : length cs1 ≡ length cs = length-words-kept (k .last .1 .1 .1 .1 .0) (a .counters .now) (k .kept .1 .1 .1 .1 .0) in
-    let hs : length s1 ≡ length s = length-words-kept (k .last .1 .1 .1 .1 .1 .0) (a .scratch .now) (k .kept .1 .1 .1 .1 .1 .0) in
-    λ sig x bound n sc. union-left sig bound ws (a .at) (a .to) (a .sp) (a .log) (a .scope) s cs x room sr sc s1 cs1 (k .result) (k .ensures sig (x .left) bound n sc) _ refl (c .if1 .taken)
+    let l = c .before .before .before .before .before .before in
+    left-refused (at-start (start l)) (at-left l) (c .if1 .taken)
+
+-- ---- it is fine: the right side
+
+abbrev else-left : tie.Else1 → tie.After-lower
+else-left c = c .before .before .before .before .before .before
 
 lower-requires-2 : tie.Need-lower-requires-2
 lower-requires-2 c κs =
-    let a = c .before .before .before .before .before .before .before .before .before .before .before .before .before .before .args in
-    let ws = words (a .rule .now) in
-    let cs = words (a .counters .now) in
-    let s = words (a .scratch .now) in
-    let q = c .before .before .before .before .before .before .before .before .before .before .before .before .before .before .pre .0 in
-    let room = c .before .before .before .before .before .before .before .before .before .before .before .before .before .before .pre .1 .0 in
-    let sr = c .before .before .before .before .before .before .before .before .before .before .before .before .before .before .pre .1 .1 in
-    let k = c .before .before .before .before .before .before .before .before .lower in
-    let s1 = words (k .last .1 .1 .1 .1 .1 .0) in
-    let cs1 = words (k .last .1 .1 .1 .1 .0) in
-    let hc : length cs1 ≡ length cs = length-words-kept (k .last .1 .1 .1 .1 .0) (a .counters .now) (k .kept .1 .1 .1 .1 .0) in
-    let hs : length s1 ≡ length s = length-words-kept (k .last .1 .1 .1 .1 .1 .0) (a .scratch .now) (k .kept .1 .1 .1 .1 .1 .0) in
-    let t = union-right (q .sig) (q .known .2 .bound) ws (a .at) (a .to) (a .sp) (a .log) (a .scope) s cs (q .known .0) room sr (q .known .2 .scoped) s1 cs1 (k .result) (k .ensures (q .sig) (q .known .0 .left) (q .known .2 .bound) (q .known .1) (q .known .2 .scoped)) (c .before .before .if1 .left) (length s1) hs in
-    (record { sig = q .sig; known = (t .expr, counted-kept (q .known .1) hc, record { bound = q .known .2 .bound; scoped = union-scope (q .sig) (q .known .2 .bound) ws (a .at) (a .to) (a .sp) (a .log) (a .scope) s cs (q .known .0) room sr (q .known .2 .scoped) s1 cs1 (k .result) (k .ensures (q .sig) (q .known .0 .left) (q .known .2 .bound) (q .known .1) (q .known .2 .scoped)) (c .before .before .if1 .left) }) }, (t .room, union-scope-room (q .sig) (q .known .2 .bound) ws (a .at) (a .to) (a .sp) (a .log) (a .scope) s cs (q .known .0) room sr (q .known .2 .scoped) s1 cs1 (k .result) (k .ensures (q .sig) (q .known .0 .left) (q .known .2 .bound) (q .known .1) (q .known .2 .scoped)) (c .before .before .if1 .left)))
+    let e = c .before .before in
+    right-asks (at-start (start (else-left e))) (at-left (else-left e)) (e .if1 .left)
+
+abbrev right-else : tie.After-lower2 → tie.Else1
+right-else c = c .before .before .before
+
+at-right : (c : tie.After-lower2)
+    → let l = else-left (right-else c) .lower in
+    let r = c .lower2 in
+    LowAt (behind (site (start (else-left (right-else c)))) (words (l .last .1 .1 .1 .1 .1 .0)) (words (l .last .1 .1 .1 .1 .0)) (l .result)) (l .result .next)
+    (words (r .last .1 .1 .1 .1 .1 .0)) (words (r .last .1 .1 .1 .1 .0)) (r .result)
+at-right c =
+    let r = c .lower2 in
+    record { walk = r .ensures; size = length-words-kept _ _ (r .kept .1 .1 .1 .1 .1 .0); counters = length-words-kept _ _ (r .kept .1 .1 .1 .1 .0) }
+
+-- both slices are as long as at the start
+counters-kept : (c : tie.After-lower2) → length (c .lower2 .last .1 .1 .1 .1 .0) ≡ length (start (else-left (right-else c)) .args .counters .now)
+counters-kept c = c .lower2 .kept .1 .1 .1 .1 .0 ∙ else-left (right-else c) .lower .kept .1 .1 .1 .1 .0
+
+scratch-kept : (c : tie.After-lower2) → length (c .lower2 .last .1 .1 .1 .1 .1 .0) ≡ length (start (else-left (right-else c)) .args .scratch .now)
+scratch-kept c = c .lower2 .kept .1 .1 .1 .1 .1 .0 ∙ else-left (right-else c) .lower .kept .1 .1 .1 .1 .1 .0
+
+abbrev then-right : tie.Then2 → tie.After-lower2
+then-right c = c .before .before .before .before .before .before
 
 same-length-3 : tie.Need-same-length-3
-same-length-3 c = c .before .before .before .before .before .before .lower2 .kept .1 .1 .1 .1 .0 ∙ c .before .before .before .before .before .before .before .before .before .before .before .before .before .before .before .lower .kept .1 .1 .1 .1 .0
+same-length-3 c = counters-kept (then-right c)
 
 same-length-4 : tie.Need-same-length-4
-same-length-4 c = c .before .before .before .before .before .before .lower2 .kept .1 .1 .1 .1 .1 .0 ∙ c .before .before .before .before .before .before .before .before .before .before .before .before .before .before .before .lower .kept .1 .1 .1 .1 .1 .0
+same-length-4 c = scratch-kept (then-right c)
 
 returns-2 : tie.Need-returns-2
 returns-2 c =
-    let a = c .before .before .before .before .before .before .before .before .before .before .before .before .before .before .before .before .before .before .before .before .before .args in
-    let ws = words (a .rule .now) in
-    let cs = words (a .counters .now) in
-    let s = words (a .scratch .now) in
-    let q = c .before .before .before .before .before .before .before .before .before .before .before .before .before .before .before .before .before .before .before .before .before .pre .0 in
-    let room = c .before .before .before .before .before .before .before .before .before .before .before .before .before .before .before .before .before .before .before .before .before .pre .1 .0 in
-    let sr = c .before .before .before .before .before .before .before .before .before .before .before .before .before .before .before .before .before .before .before .before .before .pre .1 .1 in
-    let k = c .before .before .before .before .before .before .before .before .before .before .before .before .before .before .before .lower in
-    let s1 = words (k .last .1 .1 .1 .1 .1 .0) in
-    let cs1 = words (k .last .1 .1 .1 .1 .0) in
-    let hc : length cs1 ≡ length cs = length-words-kept (k .last .1 .1 .1 .1 .0) (a .counters .now) (k .kept .1 .1 .1 .1 .0) in
-    let hs : length s1 ≡ length s = length-words-kept (k .last .1 .1 .1 .1 .1 .0) (a .scratch .now) (k .kept .1 .1 .1 .1 .1 .0) in
-    let m = c .before .before .before .before .before .before .lower2 in
-    let s2 = words (m .last .1 .1 .1 .1 .1 .0) in
-    let cs2 = words (m .last .1 .1 .1 .1 .0) in
-    let hs2 : length s2 ≡ length s = length-words-kept (m .last .1 .1 .1 .1 .1 .0) (k .last .1 .1 .1 .1 .1 .0) (m .kept .1 .1 .1 .1 .1 .0) ∙ hs in
-    λ sig x bound n sc. union-stop sig bound ws (a .at) (a .to) (a .sp) (a .log) (a .scope) s cs x room sr sc s1 cs1 (k .result) (k .ensures sig (x .left) bound n sc) (c .before .before .before .before .before .before .before .before .before .if1 .left) s2 cs2 (m .result) (λ e. m .ensures sig e bound (counted-kept n hc) (union-scope sig bound ws (a .at) (a .to) (a .sp) (a .log) (a .scope) s cs x room sr sc s1 cs1 (k .result) (k .ensures sig (x .left) bound n sc) (c .before .before .before .before .before .before .before .before .before .if1 .left))) _ refl (c .if2 .taken)
+    let r = then-right c in
+    let e = right-else r in
+    right-refused (at-start (start (else-left e))) (at-left (else-left e)) (e .if1 .left) (at-right r) (c .if2 .taken)
+
+-- ---- both are fine: the action
+
+abbrev else-right : tie.Else2 → tie.After-lower2
+else-right c = c .before .before .before .before .before .before
+
+at-else : (c : tie.Else2)
+    → let r = else-right c .lower2 in Fine (site (start (else-left (right-else (else-right c))))) (words (r .last .1 .1 .1 .1 .1 .0)) (r .result)
+at-else c =
+    let e = right-else (else-right c) in
+    both-fine (at-start (start (else-left e))) (at-left (else-left e)) (e .if1 .left) (at-right (else-right c)) (c .if2 .left)
 
 put-three-requires : tie.Need-put-three-requires
-put-three-requires c κs =
-    let a = c .before .before .before .before .before .before .before .before .before .before .before .before .before .before .before .before .before .before .before .before .before .before .args in
-    let ws = words (a .rule .now) in
-    let cs = words (a .counters .now) in
-    let s = words (a .scratch .now) in
-    let q = c .before .before .before .before .before .before .before .before .before .before .before .before .before .before .before .before .before .before .before .before .before .before .pre .0 in
-    let room = c .before .before .before .before .before .before .before .before .before .before .before .before .before .before .before .before .before .before .before .before .before .before .pre .1 .0 in
-    let sr = c .before .before .before .before .before .before .before .before .before .before .before .before .before .before .before .before .before .before .before .before .before .before .pre .1 .1 in
-    let k = c .before .before .before .before .before .before .before .before .before .before .before .before .before .before .before .before .lower in
-    let s1 = words (k .last .1 .1 .1 .1 .1 .0) in
-    let cs1 = words (k .last .1 .1 .1 .1 .0) in
-    let hc : length cs1 ≡ length cs = length-words-kept (k .last .1 .1 .1 .1 .0) (a .counters .now) (k .kept .1 .1 .1 .1 .0) in
-    let hs : length s1 ≡ length s = length-words-kept (k .last .1 .1 .1 .1 .1 .0) (a .scratch .now) (k .kept .1 .1 .1 .1 .1 .0) in
-    let m = c .before .before .before .before .before .before .before .lower2 in
-    let s2 = words (m .last .1 .1 .1 .1 .1 .0) in
-    let cs2 = words (m .last .1 .1 .1 .1 .0) in
-    let hs2 : length s2 ≡ length s = length-words-kept (m .last .1 .1 .1 .1 .1 .0) (k .last .1 .1 .1 .1 .1 .0) (m .kept .1 .1 .1 .1 .1 .0) ∙ hs in
-    let r = union-room (q .sig) (q .known .2 .bound) ws (a .at) (a .to) (a .sp) (a .log) (a .scope) s cs (q .known .0) room sr (q .known .2 .scoped) s1 cs1 (k .result) (k .ensures (q .sig) (q .known .0 .left) (q .known .2 .bound) (q .known .1) (q .known .2 .scoped)) (c .before .before .before .before .before .before .before .before .before .before .if1 .left) s2 cs2 (m .result) (λ e. m .ensures (q .sig) e (q .known .2 .bound) (counted-kept (q .known .1) hc) (union-scope (q .sig) (q .known .2 .bound) ws (a .at) (a .to) (a .sp) (a .log) (a .scope) s cs (q .known .0) room sr (q .known .2 .scoped) s1 cs1 (k .result) (k .ensures (q .sig) (q .known .0 .left) (q .known .2 .bound) (q .known .1) (q .known .2 .scoped)) (c .before .before .before .before .before .before .before .before .before .before .if1 .left))) (length s2) (c .before .if2 .left) hs2 in
-    r .1
+put-three-requires c κs = at-else (c .before) .words
+
+abbrev three-else : tie.After-put-three → tie.Else2
+three-else c = c .before .before
 
 sub-t12 : tie.Need-sub-t12
-sub-t12 c =
-    let a = c .before .before .before .before .before .before .before .before .before .before .before .before .before .before .before .before .before .before .before .before .before .before .before .before .before .before .args in
-    let ws = words (a .rule .now) in
-    let cs = words (a .counters .now) in
-    let s = words (a .scratch .now) in
-    let q = c .before .before .before .before .before .before .before .before .before .before .before .before .before .before .before .before .before .before .before .before .before .before .before .before .before .before .pre .0 in
-    let room = c .before .before .before .before .before .before .before .before .before .before .before .before .before .before .before .before .before .before .before .before .before .before .before .before .before .before .pre .1 .0 in
-    let sr = c .before .before .before .before .before .before .before .before .before .before .before .before .before .before .before .before .before .before .before .before .before .before .before .before .before .before .pre .1 .1 in
-    let k = c .before .before .before .before .before .before .before .before .before .before .before .before .before .before .before .before .before .before .before .before .lower in
-    let s1 = words (k .last .1 .1 .1 .1 .1 .0) in
-    let cs1 = words (k .last .1 .1 .1 .1 .0) in
-    let hc : length cs1 ≡ length cs = length-words-kept (k .last .1 .1 .1 .1 .0) (a .counters .now) (k .kept .1 .1 .1 .1 .0) in
-    let hs : length s1 ≡ length s = length-words-kept (k .last .1 .1 .1 .1 .1 .0) (a .scratch .now) (k .kept .1 .1 .1 .1 .1 .0) in
-    let m = c .before .before .before .before .before .before .before .before .before .before .before .lower2 in
-    let s2 = words (m .last .1 .1 .1 .1 .1 .0) in
-    let cs2 = words (m .last .1 .1 .1 .1 .0) in
-    let hs2 : length s2 ≡ length s = length-words-kept (m .last .1 .1 .1 .1 .1 .0) (k .last .1 .1 .1 .1 .1 .0) (m .kept .1 .1 .1 .1 .1 .0) ∙ hs in
-    let r = union-room (q .sig) (q .known .2 .bound) ws (a .at) (a .to) (a .sp) (a .log) (a .scope) s cs (q .known .0) room sr (q .known .2 .scoped) s1 cs1 (k .result) (k .ensures (q .sig) (q .known .0 .left) (q .known .2 .bound) (q .known .1) (q .known .2 .scoped)) (c .before .before .before .before .before .before .before .before .before .before .before .before .before .before .if1 .left) s2 cs2 (m .result) (λ e. m .ensures (q .sig) e (q .known .2 .bound) (counted-kept (q .known .1) hc) (union-scope (q .sig) (q .known .2 .bound) ws (a .at) (a .to) (a .sp) (a .log) (a .scope) s cs (q .known .0) room sr (q .known .2 .scoped) s1 cs1 (k .result) (k .ensures (q .sig) (q .known .0 .left) (q .known .2 .bound) (q .known .1) (q .known .2 .scoped)) (c .before .before .before .before .before .before .before .before .before .before .before .before .before .before .if1 .left))) (length s2) (c .before .before .before .before .before .if2 .left) hs2 in
-    r .0
+sub-t12 c = at-else (three-else (c .before .before .before)) .logged
 
 add-t25 : tie.Need-add-t25
-add-t25 c =
-    let a = c .before .before .before .before .before .before .before .before .before .before .before .before .before .before .before .before .before .before .before .before .before .before .before .before .before .before .args in
-    let ws = words (a .rule .now) in
-    let cs = words (a .counters .now) in
-    let s = words (a .scratch .now) in
-    let q = c .before .before .before .before .before .before .before .before .before .before .before .before .before .before .before .before .before .before .before .before .before .before .before .before .before .before .pre .0 in
-    let room = c .before .before .before .before .before .before .before .before .before .before .before .before .before .before .before .before .before .before .before .before .before .before .before .before .before .before .pre .1 .0 in
-    let sr = c .before .before .before .before .before .before .before .before .before .before .before .before .before .before .before .before .before .before .before .before .before .before .before .before .before .before .pre .1 .1 in
-    let k = c .before .before .before .before .before .before .before .before .before .before .before .before .before .before .before .before .before .before .before .before .lower in
-    let s1 = words (k .last .1 .1 .1 .1 .1 .0) in
-    let cs1 = words (k .last .1 .1 .1 .1 .0) in
-    let hc : length cs1 ≡ length cs = length-words-kept (k .last .1 .1 .1 .1 .0) (a .counters .now) (k .kept .1 .1 .1 .1 .0) in
-    let hs : length s1 ≡ length s = length-words-kept (k .last .1 .1 .1 .1 .1 .0) (a .scratch .now) (k .kept .1 .1 .1 .1 .1 .0) in
-    let m = c .before .before .before .before .before .before .before .before .before .before .before .lower2 in
-    let s2 = words (m .last .1 .1 .1 .1 .1 .0) in
-    let cs2 = words (m .last .1 .1 .1 .1 .0) in
-    let hs2 : length s2 ≡ length s = length-words-kept (m .last .1 .1 .1 .1 .1 .0) (k .last .1 .1 .1 .1 .1 .0) (m .kept .1 .1 .1 .1 .1 .0) ∙ hs in
-    let g = m .ensures (q .sig) (union-right (q .sig) (q .known .2 .bound) ws (a .at) (a .to) (a .sp) (a .log) (a .scope) s cs (q .known .0) room sr (q .known .2 .scoped) s1 cs1 (k .result) (k .ensures (q .sig) (q .known .0 .left) (q .known .2 .bound) (q .known .1) (q .known .2 .scoped)) (c .before .before .before .before .before .before .before .before .before .before .before .before .before .before .if1 .left) (length s1) hs .expr) (q .known .2 .bound) (counted-kept (q .known .1) hc) (union-scope (q .sig) (q .known .2 .bound) ws (a .at) (a .to) (a .sp) (a .log) (a .scope) s cs (q .known .0) room sr (q .known .2 .scoped) s1 cs1 (k .result) (k .ensures (q .sig) (q .known .0 .left) (q .known .2 .bound) (q .known .1) (q .known .2 .scoped)) (c .before .before .before .before .before .before .before .before .before .before .before .before .before .before .if1 .left)) in
-    let t = union-right (q .sig) (q .known .2 .bound) ws (a .at) (a .to) (a .sp) (a .log) (a .scope) s cs (q .known .0) room sr (q .known .2 .scoped) s1 cs1 (k .result) (k .ensures (q .sig) (q .known .0 .left) (q .known .2 .bound) (q .known .1) (q .known .2 .scoped)) (c .before .before .before .before .before .before .before .before .before .before .before .before .before .before .if1 .left) (length s1) hs in
-    omega (arith, g .kept .inLog, t .expr .inside, t .room .log, hs, length-words (a .scratch .now), c .before .before .before .before .before .before .before .before .before .before .before .before .before .before .before .before .before .before .before .before .before .before .before .before .before .before .good)
+add-t25 c = omega (arith, at-else (three-else (c .before .before .before)))
 
 same-length-5 : tie.Need-same-length-5
-same-length-5 c = c .before .before .before .before .before .before .before .before .before .before .before .lower2 .kept .1 .1 .1 .1 .0 ∙ c .before .before .before .before .before .before .before .before .before .before .before .before .before .before .before .before .before .before .before .before .lower .kept .1 .1 .1 .1 .0
+same-length-5 c = counters-kept (else-right (three-else (c .before .before .before)))
 
 same-length-6 : tie.Need-same-length-6
-same-length-6 c = c .before .before .before .put-three .kept .0 ∙ c .before .before .before .before .before .before .before .before .before .before .before .lower2 .kept .1 .1 .1 .1 .1 .0 ∙ c .before .before .before .before .before .before .before .before .before .before .before .before .before .before .before .before .before .before .before .before .lower .kept .1 .1 .1 .1 .1 .0
+same-length-6 c = let p = c .before .before .before in p .put-three .kept .0 ∙ scratch-kept (else-right (three-else p))
 
 returns-3 : tie.Need-returns-3
 returns-3 c =
-    let a = c .before .before .before .before .before .before .before .before .before .before .before .before .before .before .before .before .before .before .before .before .before .before .before .before .before .before .args in
-    let ws = words (a .rule .now) in
-    let cs = words (a .counters .now) in
-    let s = words (a .scratch .now) in
-    let q = c .before .before .before .before .before .before .before .before .before .before .before .before .before .before .before .before .before .before .before .before .before .before .before .before .before .before .pre .0 in
-    let room = c .before .before .before .before .before .before .before .before .before .before .before .before .before .before .before .before .before .before .before .before .before .before .before .before .before .before .pre .1 .0 in
-    let sr = c .before .before .before .before .before .before .before .before .before .before .before .before .before .before .before .before .before .before .before .before .before .before .before .before .before .before .pre .1 .1 in
-    let k = c .before .before .before .before .before .before .before .before .before .before .before .before .before .before .before .before .before .before .before .before .lower in
-    let s1 = words (k .last .1 .1 .1 .1 .1 .0) in
-    let cs1 = words (k .last .1 .1 .1 .1 .0) in
-    let hc : length cs1 ≡ length cs = length-words-kept (k .last .1 .1 .1 .1 .0) (a .counters .now) (k .kept .1 .1 .1 .1 .0) in
-    let hs : length s1 ≡ length s = length-words-kept (k .last .1 .1 .1 .1 .1 .0) (a .scratch .now) (k .kept .1 .1 .1 .1 .1 .0) in
-    let m = c .before .before .before .before .before .before .before .before .before .before .before .lower2 in
-    let s2 = words (m .last .1 .1 .1 .1 .1 .0) in
-    let cs2 = words (m .last .1 .1 .1 .1 .0) in
-    let hs2 : length s2 ≡ length s = length-words-kept (m .last .1 .1 .1 .1 .1 .0) (k .last .1 .1 .1 .1 .1 .0) (m .kept .1 .1 .1 .1 .1 .0) ∙ hs in
-    λ sig x bound n sc. union-done sig bound ws (a .at) (a .to) (a .sp) (a .log) (a .scope) s cs x room sr sc s1 cs1 (k .result) (k .ensures sig (x .left) bound n sc) (c .before .before .before .before .before .before .before .before .before .before .before .before .before .before .if1 .left) s2 cs2 (m .result) (λ e. m .ensures sig e bound (counted-kept n hc) (union-scope sig bound ws (a .at) (a .to) (a .sp) (a .log) (a .scope) s cs x room sr sc s1 cs1 (k .result) (k .ensures sig (x .left) bound n sc) (c .before .before .before .before .before .before .before .before .before .before .before .before .before .before .if1 .left))) _ _ _ (c .before .before .before .before .before .if2 .left) (c .before .before .before .put-three .ensures .0) (c .before .before .before .put-three .ensures .1) refl refl refl
+    let p = c .before .before .before in
+    let q = three-else p in
+    let e = right-else (else-right q) in
+    union-done (at-start (start (else-left e))) (at-left (else-left e)) (e .if1 .left) (at-right (else-right q)) (q .if2 .left) (p .put-three .ensures)
 
 pub unite-spec : {M : Type 1} → statement M
 unite-spec =

@@ -1,0 +1,178 @@
+-- A let: its name must be free, its expression is lowered, the action of the name and the term is written, and the name is put behind those that are
+-- let already. What is known at each step of `lower_let`, and each way out. Assumes nothing.
+use mathlib.Core.Path.{_≡_, refl, sym, ap, _∙_, subst}
+use mathlib.Core.Bool.{Bool, true, false}
+use mathlib.Core.List.{List, [], _∷_, _++_}
+use Prim.Native.Nat.{ℕ, _+_, _-_, _*_, _≤_, _<_}
+use native.Mathlib.Omega.{arith}
+use lib.ListN.{length, getD, set}
+use lib.Seq.{getD-set-same}
+use Rattle.octets.specs.Regions.{splice}
+use Rattle.rules.specs.Words.{maxDepth, freshBase, actionWord}
+use Rattle.rules.specs.Refusals.{Res, ok, refuse, _>>=_, alreadyDefined}
+use Rattle.rules.specs.Signature.{Sig, elem}
+use Rattle.rules.specs.Flat.{Let}
+use Rattle.rules.specs.ToCoreActions.{Low, lowerExpr, lowerLet}
+use Rattle.walks.specs.Steps.{Piece, Walked, InAnswer, Room, Counted, ExprAt}
+use Rattle.walks.specs.declared.Walk.{Walk}
+use Rattle.walks.proofs.Frames.{kept-none}
+use Rattle.walks.proofs.Steps.{stop, stored, Own, written}
+use Rattle.core_actions.specs.Scopes.{Scoped, ScopeRoom, ScopeFits}
+use Rattle.core_actions.specs.Lowered.{lowered}
+use Rattle.core_actions.specs.Acts.{LetAt, Gave, ScopeAfter, Acts}
+use Rattle.core_actions.specs.declared.actions.Acted.{Acted}
+use Rattle.core_actions.proofs.Scopes.{scope-let, scope-fits}
+use Rattle.core_actions.proofs.Pieces.{letPiece, done-let}
+use Rattle.core_actions.proofs.Sites.{Site, Tree, tree, Known, Begun, begun-as, asks}
+use Rattle.core_actions.proofs.Acting.{ended, acts-stop, LowAt, Fine, is-fine}
+
+-- what the contract says of an answer
+abbrev pub Answers : Site → List ℕ → List ℕ → Acted → Type 0
+Answers k s′ cs′ r =
+    (sig : Sig) (x : LetAt sig (k .ws) (k .at)) (bound : List ℕ) → Counted sig (k .cs) → Scoped sig bound (k .s) (k .scope)
+    → Acts (lowerLet (elem (getD (k .ws) (k .at + 1) 0) bound) sig bound (k .at) (getD (k .ws) (k .at + 1) 0) (x .expr .value) (k .cs))
+    sig (k .scope) (2 + x .expr .size) (k .at) (k .to) (k .sp) (k .lg) (k .s) (k .cs) s′ cs′ r
+
+-- ---- the name is read as v
+
+pub record Letting (k : Site) (v : ℕ) : Type 0 where
+  pub begun : Begun k (λ sig. LetAt sig (k .ws) (k .at))
+  pub is : v ≡ getD (k .ws) (k .at + 1) 0
+  pub end : k .scope .first + k .scope .names ≡ k .sp
+
+module _ {k : Site} {v : ℕ} (h : Letting k v) where
+  -- what the test of the name asks
+  pub name-asks : ScopeFits (k .s) (k .scope)
+  name-asks = let g = h .begun in let i = g .tree .it .expr .inside in scope-fits (g .scopeRoom) (g .room) (omega arith)
+
+  -- what lowering the expression asks
+  pub expr-asks : Known k (λ sig. ExprAt sig (k .ws) maxDepth (k .at + 2))
+      × (Room (length (k .ws)) (k .at + 2) (k .to) (k .sp) (k .lg) (length (k .s)) × ScopeRoom (length (k .ws)) (k .at + 2) (k .to) (k .sp) (k .scope))
+  expr-asks = asks (begun-as {Y = λ sig. ExprAt sig (k .ws) maxDepth (k .at + 2)} (h .begun) (λ sig x. x .expr)) (k .at + 2) (omega arith)
+
+  abbrev lets : Type 0
+  lets = Tree k (λ sig. LetAt sig (k .ws) (k .at))
+
+  -- ---- the name is bound where b is true
+
+  abbrev Ends : Bool → List ℕ → List ℕ → Acted → lets → Type 0
+  Ends b s′ cs′ r t =
+      Acts (lowerLet b (t .sig) (t .bound) (k .at) v (t .it .expr .value) (k .cs)) (t .sig) (k .scope) (2 + t .it .expr .size)
+      (k .at) (k .to) (k .sp) (k .lg) (k .s) (k .cs) s′ cs′ r
+
+  module _ {b : Bool} (test : (sig : Sig) (bound : List ℕ) → Scoped sig bound (k .s) (k .scope) → v < freshBase → b ≡ elem v bound) where
+    answers : {s′ cs′ : List ℕ} {r : Acted} (b′ : Bool) → b ≡ b′ → ((t : lets) → Ends b′ s′ cs′ r t) → Answers k s′ cs′ r
+    answers {s′} {cs′} {r} b′ e f sig x bound n sc =
+        let there : b ≡ elem v bound = test sig bound sc (subst (λ (u : ℕ). u < freshBase) (sym (h .is)) (x .old)) in
+        subst
+        (λ (u : ℕ). Acts (lowerLet (elem u bound) sig bound (k .at) u (x .expr .value) (k .cs)) sig (k .scope) (2 + x .expr .size)
+        (k .at) (k .to) (k .sp) (k .lg) (k .s) (k .cs) s′ cs′ r) (h .is)
+        (subst (λ (u : Bool). Ends u s′ cs′ r (tree sig x bound n sc)) (sym e ∙ there) (f (tree sig x bound n sc)))
+
+    pub let-twice : b ≡ true → Answers k (k .s) (k .cs) (ended (record { next = k .at; to = k .to; log = k .lg; term = 0; refused = alreadyDefined }))
+    let-twice e = answers true e twice
+      where
+        twice : (t : lets) → Ends true (k .s) (k .cs) (ended (record { next = k .at; to = k .to; log = k .lg; term = 0; refused = alreadyDefined })) t
+        twice t =
+            let m : ℕ = 2 + t .it .expr .size in
+            record {
+              piece =
+                  record {
+                    kept = kept-none (k .to) (k .to + 4 * m) (k .sp) (k .sp + m) (k .lg) (k .lg + m) (k .s) (k .cs) (omega arith);
+                    ended = record { number = refl; place = refl; some = omega arith };
+                  };
+              after = tt;
+            }
+
+    -- ---- it is free, and the expression is lowered: e, with s1 and cs1 left behind
+
+    module _ (free : b ≡ false) {s1 cs1 : List ℕ} {e : Walk} (l : LowAt k (k .at + 2) s1 cs1 e) where
+      abbrev low : lets → Res Piece
+      low t = lowered (t .sig) (t .bound) (t .it .expr .value) (k .cs)
+
+      walk : (t : lets) → Walked 1 (InAnswer (k .lg) e) (low t) (t .it .expr .size) (k .at + 2) (k .to) (k .sp) (k .lg) (k .s) (k .cs) s1 cs1 e
+      walk t = l .walk (t .sig) (t .it .expr) (t .bound) (t .counted) (t .scoped)
+
+      pub let-refused : (e .refused ≡ 0 → ⊥) → Answers k s1 cs1 (ended e)
+      let-refused bad = answers false free stopped
+        where
+          stopped : (t : lets) → Ends false s1 cs1 (ended e) t
+          stopped t =
+              acts-stop (lowerLet false (t .sig) (t .bound) (k .at) v (t .it .expr .value) (k .cs))
+              (rw (done-let (t .sig) (t .bound) (k .at) v (t .it .expr .value) (k .cs))
+              (stop (2 + t .it .expr .size) (k .at) (low t) (λ q. ok (letPiece v q)) (walk t) bad (omega arith))) bad
+
+      -- ---- it is fine
+
+      pub let-fine : e .refused ≡ 0 → Fine k s1 e
+      let-fine fine = let t = h .begun .tree in is-fine (h .begun) (low t) (walk t) (omega arith) (t .it .expr .inside) fine
+
+      -- the action is written, up to to′, which leaves s2, and the name is put, which leaves s3
+      module _ (fine : e .refused ≡ 0) {s2 s3 : List ℕ} {to′ : ℕ} (put : (to′ ≡ e .to + 3) × (s2 ≡ splice s1 (e .to) (actionWord 1 ∷ v ∷ e .term ∷ [])))
+          (push : s3 ≡ set s2 (k .sp) v) where
+        abbrev answer : Acted
+        answer = record { walk = record { next = e .next; to = to′; log = e .log; term = 0; refused = 0 }; names = 1; count = e .log - k .lg + 1 }
+
+        abbrev Writes : List ℕ → lets → Type 0
+        Writes s′ t =
+            Walked 0 (Gave answer) (_>>=_ (low t) (λ q. ok (letPiece v q))) (2 + t .it .expr .size)
+            (k .at) (k .to) (k .sp) (k .lg) (k .s) (k .cs) s′ cs1 (answer .walk)
+
+        -- room for the whole let
+        record LetRoom (size : ℕ) : Type 0 where
+          pub words : k .to + 4 * (2 + size) ≤ k .sp
+          pub stack : k .sp + (2 + size) ≤ k .lg
+          pub log : k .lg + (2 + size) ≤ length (k .s)
+
+        let-room : (t : lets) → LetRoom (t .it .expr .size)
+        let-room t =
+            let r = h .begun .room in
+            let i = t .it .expr .inside in
+            record { words = omega (arith, r .words); stack = omega (arith, r .stack); log = omega (arith, r .log) }
+
+        action : (t : lets) → Writes s2 t
+        action t =
+            let r = let-room t in
+            let n : ℕ = t .it .expr .size in
+            let ys : List ℕ = actionWord 1 ∷ v ∷ e .term ∷ [] in
+            let own : (p : Piece) → InAnswer (k .lg) e p → Own (Gave answer) p ys (p .next) (letPiece v p) =
+            λ p u. record { words = λ j. p .words ++ actionWord 1 ∷ v ∷ u .term j; counters = refl; terms = gave p u } in
+            written 0 (Gave answer) n (2 + n) (k .at + 2) (k .at) (k .to) (k .sp) (k .lg) (k .s) (k .cs) s1 cs1 s2 ys e to′ 0 (low t) (letPiece v)
+            (r .words) (r .stack) (r .log) (omega arith) (omega arith) (omega arith) (walk t) fine (put .1) (put .0) own
+          where
+            gave : (p : Piece) → InAnswer (k .lg) e p → p .count + 1 ≡ e .log - k .lg + 1
+            gave p u = omega (arith, u .uses)
+
+        named : (t : lets) → Writes s3 t
+        named t =
+            let r = let-room t in
+            stored v (_>>=_ (low t) (λ q. ok (letPiece v q))) (action t) refl push (omega arith) (r .words) (r .stack) (r .log) (λ p here room u. u)
+
+        after : (t : lets) (y : Res Low)
+            → ScopeAfter (_>>=_ y (λ q. ok (record { acts = q .acts ++ Let v (q .term) ∷ []; bound = v ∷ t .bound; next = q .next }))) (t .sig) (k .scope) s3 answer
+        after t (refuse n p) = tt
+        after t (ok q) =
+            let r = let-room t in
+            let i = t .it .expr .inside in
+            let sr = h .begun .scopeRoom in
+            let stack = r .stack in
+            let log = r .log in
+            let end = h .end in
+            let z = action t .kept .size in
+            let kp = named t .kept in
+            let here : getD s3 (k .scope .first + k .scope .names) 0 ≡ v =
+            ap (λ (j : ℕ). getD s3 j 0) end ∙ ap (λ (l : List ℕ). getD l (k .sp) 0) push ∙ getD-set-same s2 (k .sp) v 0 (omega arith) in (
+              omega arith,
+              scope-let (t .sig) (t .bound) (k .s) s3 (k .scope) v (t .scoped) (kp .size) (omega arith) (λ j x. kp .below j (omega (arith, sr .body)))
+                  (λ j x y. kp .between j (omega (arith, sr .names)) (omega arith)) here,
+            )
+
+        pub let-done : Answers k s3 cs1 answer
+        let-done = answers false free done
+          where
+            done : (t : lets) → Ends false s3 cs1 answer t
+            done t =
+                record {
+                  piece = rw (done-let (t .sig) (t .bound) (k .at) v (t .it .expr .value) (k .cs)) (named t);
+                  after = after t (lowerExpr (t .sig) (t .bound) (t .it .expr .value) (k .cs));
+                }
