@@ -68,8 +68,12 @@ pub fn lower_let(
     requires { ⌜ Room (length (words (now rule))) at to sp log (length (words (now scratch))) ⌝ }
     requires { ⌜ ScopeRoom (length (words (now rule))) at to sp scope ⌝ }
     requires { ⌜ scope .first + scope .names ≡ sp ⌝ }
-    ensures { λ r. ⌜ ((sig : Sig) (x : LetAt sig (words (now (rule .entry))) at) (bound : List ℕ) → Counted sig (words (now (counters .entry))) → Scoped sig bound (words (now (scratch .entry))) scope
-        → Acts (lowerLet (elem (getD (words (now (rule .entry))) (at + 1) 0) bound) sig bound at (getD (words (now (rule .entry))) (at + 1) 0) (x .expr .value) (words (now (counters .entry)))) sig scope (2 + x .expr .size) at to sp log (words (now (scratch .entry))) (words (now (counters .entry))) (words (now (scratch .exit))) (words (now (counters .exit))) r) ⌝ }
+    ensures { λ r. ⌜ ((sig : Sig) (x : LetAt sig (words (now (rule .entry))) at) (bound : List ℕ)
+        → Counted sig (words (now (counters .entry))) → Scoped sig bound (words (now (scratch .entry))) scope
+        → Acts (lowerLet (elem (getD (words (now (rule .entry))) (at + 1) 0) bound) sig bound at
+        (getD (words (now (rule .entry))) (at + 1) 0) (x .expr .value) (words (now (counters .entry))))
+        sig scope (2 + x .expr .size)
+        at to sp log (words (now (scratch .entry))) (words (now (counters .entry))) (words (now (scratch .exit))) (words (now (counters .exit))) r) ⌝ }
 {
     let name = octets::get(rule, at + 1);
     if taken(scratch, scope, name) {
@@ -136,8 +140,12 @@ pub fn lower_change(
     requires { ⌜ Room (length (words (now rule))) at to sp log (length (words (now scratch))) ⌝ }
     requires { ⌜ ScopeRoom (length (words (now rule))) at to sp scope ⌝ }
     requires { ⌜ more ≤ 1 ⌝ }
-    ensures { λ r. ⌜ (r .names ≡ 0) × ((sig : Sig) (x : ChangeAt sig (words (now (rule .entry))) more at) (bound : List ℕ) → Counted sig (words (now (counters .entry))) → Scoped sig bound (words (now (scratch .entry))) scope
-        → Walked 0 (Gave r) (changed sig bound code more (at + 1) (headOf (getD (words (now (rule .entry))) (at + 1) 0)) (x .exprs .value) (words (now (counters .entry)))) (2 + x .exprs .size) at to sp log (words (now (scratch .entry))) (words (now (counters .entry))) (words (now (scratch .exit))) (words (now (counters .exit))) (r .walk)) ⌝ }
+    ensures { λ r. ⌜ (r .names ≡ 0)
+        × ((sig : Sig) (x : ChangeAt sig (words (now (rule .entry))) more at) (bound : List ℕ)
+        → Counted sig (words (now (counters .entry))) → Scoped sig bound (words (now (scratch .entry))) scope
+        → Walked 0 (Gave r) (changed sig bound code more (at + 1) (headOf (getD (words (now (rule .entry))) (at + 1) 0)) (x .exprs .value)
+        (words (now (counters .entry)))) (2 + x .exprs .size)
+        at to sp log (words (now (scratch .entry))) (words (now (counters .entry))) (words (now (scratch .exit))) (words (now (counters .exit))) (r .walk)) ⌝ }
 {
     let w = octets::get(rule, at + 1);
     let h = (w - walks::HEAD) / walks::LIMIT_16;
@@ -204,7 +212,9 @@ pub fn lower_panic(
     requires { ⌜ Room (length (words (now rule))) at to sp log (length (words (now scratch))) ⌝ }
     requires { ⌜ ScopeRoom (length (words (now rule))) at to sp scope ⌝ }
     ensures { λ r. ⌜ ((sig : Sig) (bound : List ℕ) → Scoped sig bound (words (now (scratch .entry))) scope
-        → Acts (lowerAction sig bound (panic′ (getD (words (now (rule .entry))) (at + 1) 0)) (words (now (counters .entry)))) sig scope 2 at to sp log (words (now (scratch .entry))) (words (now (counters .entry))) (words (now (scratch .exit))) (words (now (counters .exit))) r) ⌝ }
+        → Acts (lowerAction sig bound (panic′ (getD (words (now (rule .entry))) (at + 1) 0)) (words (now (counters .entry))))
+        sig scope 2
+        at to sp log (words (now (scratch .entry))) (words (now (counters .entry))) (words (now (scratch .exit))) (words (now (counters .exit))) r) ⌝ }
 {
     let l = octets::get(rule, at + 1);
     let end = octets::rows::put_two(scratch, to, PANIC, l);
@@ -235,8 +245,11 @@ pub fn lower_expression(
     requires { ⌜ Under (λ sig. ExprAt sig (words (now rule)) maxDepth (at + 1) × Counted sig (words (now counters)) × Names sig (words (now scratch)) scope) ⌝ }
     requires { ⌜ Room (length (words (now rule))) at to sp log (length (words (now scratch))) ⌝ }
     requires { ⌜ ScopeRoom (length (words (now rule))) at to sp scope ⌝ }
-    ensures { λ r. ⌜ ((sig : Sig) (x : ExprAt sig (words (now (rule .entry))) maxDepth (at + 1)) (bound : List ℕ) → Counted sig (words (now (counters .entry))) → Scoped sig bound (words (now (scratch .entry))) scope
-        → Acts (lowerAction sig bound (expr′ (x .value)) (words (now (counters .entry)))) sig scope (1 + x .size) at to sp log (words (now (scratch .entry))) (words (now (counters .entry))) (words (now (scratch .exit))) (words (now (counters .exit))) r) ⌝ }
+    ensures { λ r. ⌜ ((sig : Sig) (x : ExprAt sig (words (now (rule .entry))) maxDepth (at + 1)) (bound : List ℕ)
+        → Counted sig (words (now (counters .entry))) → Scoped sig bound (words (now (scratch .entry))) scope
+        → Acts (lowerAction sig bound (expr′ (x .value)) (words (now (counters .entry))))
+        sig scope (1 + x .size)
+        at to sp log (words (now (scratch .entry))) (words (now (counters .entry))) (words (now (scratch .exit))) (words (now (counters .exit))) r) ⌝ }
 {
     let e = lower(
         rule,
@@ -270,8 +283,11 @@ pub fn unite(
     requires { ⌜ Under (λ sig. PairAt sig (words (now rule)) at × Counted sig (words (now counters)) × Names sig (words (now scratch)) scope) ⌝ }
     requires { ⌜ Room (length (words (now rule))) at to sp log (length (words (now scratch))) ⌝ }
     requires { ⌜ ScopeRoom (length (words (now rule))) at to sp scope ⌝ }
-    ensures { λ r. ⌜ ((sig : Sig) (x : PairAt sig (words (now (rule .entry))) at) (bound : List ℕ) → Counted sig (words (now (counters .entry))) → Scoped sig bound (words (now (scratch .entry))) scope
-        → Acts (lowerUnion sig bound none (x .left .value) (x .right .value) (words (now (counters .entry)))) sig scope (1 + (x .left .size + x .right .size)) at to sp log (words (now (scratch .entry))) (words (now (counters .entry))) (words (now (scratch .exit))) (words (now (counters .exit))) r) ⌝ }
+    ensures { λ r. ⌜ ((sig : Sig) (x : PairAt sig (words (now (rule .entry))) at) (bound : List ℕ)
+        → Counted sig (words (now (counters .entry))) → Scoped sig bound (words (now (scratch .entry))) scope
+        → Acts (lowerUnion sig bound none (x .left .value) (x .right .value) (words (now (counters .entry))))
+        sig scope (1 + (x .left .size + x .right .size))
+        at to sp log (words (now (scratch .entry))) (words (now (counters .entry))) (words (now (scratch .exit))) (words (now (counters .exit))) r) ⌝ }
 {
     let left = lower(
         rule,
@@ -337,8 +353,12 @@ pub fn set_name(
     requires { ⌜ Under (λ sig. NameCallAt sig (words (now rule)) at × Counted sig (words (now counters)) × Names sig (words (now scratch)) scope) ⌝ }
     requires { ⌜ Room (length (words (now rule))) at to sp log (length (words (now scratch))) ⌝ }
     requires { ⌜ ScopeRoom (length (words (now rule))) at to sp scope ⌝ }
-    ensures { λ r. ⌜ ((sig : Sig) (x : NameCallAt sig (words (now (rule .entry))) at) (bound : List ℕ) → Counted sig (words (now (counters .entry))) → Scoped sig bound (words (now (scratch .entry))) scope
-        → Acts (lowerSet sig bound (at + 2) (headOf (getD (words (now (rule .entry))) (at + 2) 0)) (x .exprs .value) (leaf (at + 1) (getD (words (now (rule .entry))) (at + 1) 0)) (words (now (counters .entry)))) sig scope (3 + x .exprs .size) at to sp log (words (now (scratch .entry))) (words (now (counters .entry))) (words (now (scratch .exit))) (words (now (counters .exit))) r) ⌝ }
+    ensures { λ r. ⌜ ((sig : Sig) (x : NameCallAt sig (words (now (rule .entry))) at) (bound : List ℕ)
+        → Counted sig (words (now (counters .entry))) → Scoped sig bound (words (now (scratch .entry))) scope
+        → Acts (lowerSet sig bound (at + 2) (headOf (getD (words (now (rule .entry))) (at + 2) 0)) (x .exprs .value)
+        (leaf (at + 1) (getD (words (now (rule .entry))) (at + 1) 0)) (words (now (counters .entry))))
+        sig scope (3 + x .exprs .size)
+        at to sp log (words (now (scratch .entry))) (words (now (counters .entry))) (words (now (scratch .exit))) (words (now (counters .exit))) r) ⌝ }
 {
     let name = octets::get(rule, at + 1);
     let w = octets::get(rule, at + 2);
