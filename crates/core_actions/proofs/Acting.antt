@@ -10,7 +10,7 @@ use Rattle.rules.specs.Refusals.{Res, ok, refuse, _>>=_}
 use Rattle.rules.specs.Signature.{Sig}
 use Rattle.rules.specs.Written.{panic′, expr′}
 use Rattle.rules.specs.ToCoreActions.{Done, lowerAction}
-use Rattle.walks.specs.Steps.{Piece, nothing, Kept, Walked, InAnswer, Room, Counted, ExprAt}
+use Rattle.walks.specs.Steps.{Piece, nothing, Kept, Walked, InAnswer, Room, ExprAt}
 use Rattle.walks.specs.declared.Walk.{Walk}
 use Rattle.walks.proofs.Frames.{kept-wide}
 use Rattle.walks.proofs.Steps.{went, stop, none-walked, written}
@@ -21,7 +21,7 @@ use Rattle.core_actions.specs.declared.scope.Scope.{Scope}
 use Rattle.core_actions.specs.declared.actions.Acted.{Acted}
 use Rattle.core_actions.proofs.Scopes.{scoped-kept}
 use Rattle.core_actions.proofs.Pieces.{silent, done-expression, SameBound, same-expression}
-use Rattle.core_actions.proofs.Sites.{Site, Begun}
+use Rattle.core_actions.proofs.Sites.{Site, RoomAt, ScopeRoomAt, Every, WalkedAt, Begun}
 
 -- ---- from a walk to what an action leaves
 
@@ -55,8 +55,8 @@ acts-same {k = k} {s′ = s′} {r = r} sig bound c n (ok d) same z sr h sc w =
 
 -- the one at p is lowered: e, with s1 and cs1 left behind
 pub record LowAt (k : Site) (p : ℕ) (s1 cs1 : List ℕ) (e : Walk) : Type 0 where
-  pub walk : (sig : Sig) (x : ExprAt sig (k .ws) maxDepth p) (bound : List ℕ) → Counted sig (k .cs) → Scoped sig bound (k .s) (k .scope)
-      → Walked 1 (InAnswer (k .lg) e) (lowered sig bound (x .value) (k .cs)) (x .size) p (k .to) (k .sp) (k .lg) (k .s) (k .cs) s1 cs1 e
+  pub walk : Every k (λ sig. ExprAt sig (k .ws) maxDepth p)
+      (λ sig x bound. WalkedAt k 1 (InAnswer (k .lg) e) (lowered sig bound (x .value) (k .cs)) (x .size) p s1 cs1 e)
   pub size : length s1 ≡ length (k .s)
   pub counters : length cs1 ≡ length (k .cs)
 
@@ -70,7 +70,7 @@ pub record Fine (k : Site) (s1 : List ℕ) (e : Walk) : Type 0 where
   pub scratchFits : length s1 < 2 ^ 64
 
 pub is-fine : {k : Site} {X : Sig → Type 0} {m n p : ℕ} {T : Piece → Type 0} {s1 cs1 : List ℕ} {e : Walk} → Begun k X → (x : Res Piece)
-    → Walked m T x n p (k .to) (k .sp) (k .lg) (k .s) (k .cs) s1 cs1 e → k .at < p → p + n ≤ length (k .ws) → e .refused ≡ 0 → Fine k s1 e
+    → WalkedAt k m T x n p s1 cs1 e → k .at < p → p + n ≤ length (k .ws) → e .refused ≡ 0 → Fine k s1 e
 is-fine g x w behind inside fine =
     let o = went x w fine in
     let r = g .room in
@@ -92,15 +92,16 @@ module _ {k : Site} (g : Begun k (λ sig. ExprAt sig (k .ws) maxDepth (k .at + 1
   abbrev answer : Acted
   answer = record { walk = e; names = 0; count = e .log - k .lg }
 
-  pub expression-done : (sig : Sig) (x : ExprAt sig (k .ws) maxDepth (k .at + 1)) (bound : List ℕ) → Counted sig (k .cs) → Scoped sig bound (k .s) (k .scope)
-      → Acts (lowerAction sig bound (expr′ (x .value)) (k .cs)) sig (k .scope) (1 + x .size) (k .at) (k .to) (k .sp) (k .lg) (k .s) (k .cs) s1 cs1 answer
+  pub expression-done : Every k (λ sig. ExprAt sig (k .ws) maxDepth (k .at + 1))
+      (λ sig x bound. Acts (lowerAction sig bound (expr′ (x .value)) (k .cs)) sig (k .scope) (1 + x .size)
+      (k .at) (k .to) (k .sp) (k .lg) (k .s) (k .cs) s1 cs1 answer)
   expression-done sig x bound n sc =
       let i = x .inside in
       acts-same sig bound (k .scope) (length (k .ws)) (lowerAction sig bound (expr′ (x .value)) (k .cs)) (same-expression sig bound (x .value) (k .cs)) refl
       (g .scopeRoom) (omega arith) sc (rw (done-expression sig bound (x .value) (k .cs)) (wide (lowered sig bound (x .value) (k .cs)) (l .walk sig x bound n sc)))
     where
-      wide : (y : Res Piece) → Walked 1 (InAnswer (k .lg) e) y (x .size) (k .at + 1) (k .to) (k .sp) (k .lg) (k .s) (k .cs) s1 cs1 e
-          → Walked 0 (Gave answer) (_>>=_ y (λ p. ok (silent p))) (1 + x .size) (k .at) (k .to) (k .sp) (k .lg) (k .s) (k .cs) s1 cs1 e
+      wide : (y : Res Piece) → WalkedAt k 1 (InAnswer (k .lg) e) y (x .size) (k .at + 1) s1 cs1 e
+          → WalkedAt k 0 (Gave answer) (_>>=_ y (λ p. ok (silent p))) (1 + x .size) (k .at) s1 cs1 e
       wide (refuse n p) w = stop (1 + x .size) (k .at) (refuse n p) (λ p. ok (silent p)) w (λ z. omega (arith, w .ended .number, w .ended .some)) (omega arith)
       wide (ok p) w =
           let o = w .ended .0 in
@@ -120,8 +121,8 @@ module _ {k : Site} (g : Begun k (λ sig. ExprAt sig (k .ws) maxDepth (k .at + 1
 pub record Panics (k : Site) (l : ℕ) : Type 0 where
   pub is : l ≡ getD (k .ws) (k .at + 1) 0
   pub inside : k .at + 1 < length (k .ws)
-  pub room : Room (length (k .ws)) (k .at) (k .to) (k .sp) (k .lg) (length (k .s))
-  pub scopeRoom : ScopeRoom (length (k .ws)) (k .at) (k .to) (k .sp) (k .scope)
+  pub room : RoomAt k (k .at)
+  pub scopeRoom : ScopeRoomAt k (k .at)
   pub ruleFits : length (k .ws) < 2 ^ 64
 
 module _ {k : Site} {l : ℕ} (h : Panics k l) where

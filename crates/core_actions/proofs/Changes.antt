@@ -12,17 +12,16 @@ use Rattle.rules.specs.Refusals.{Res, ok, _>>=_, usedUp}
 use Rattle.rules.specs.Signature.{Sig, heads}
 use Rattle.rules.specs.ToQuery.{Fresh, fresh}
 use Rattle.walks.specs.Log.{Taken}
-use Rattle.walks.specs.Steps.{Piece, Walked, OnStack, Room, Counted, ExprsAt}
+use Rattle.walks.specs.Steps.{Piece, Walked, OnStack, Room, ExprsAt}
 use Rattle.walks.specs.declared.Walk.{Walk}
 use Rattle.walks.proofs.Steps.{went, stop, Own, full-last, last-done}
 use Rattle.walks.proofs.Read.{exprs-many, recount}
 use Rattle.walks.proofs.Words.{head-word}
-use Rattle.core_actions.specs.Scopes.{Scoped, ScopeRoom}
 use Rattle.core_actions.specs.Lowered.{loweredAll}
 use Rattle.core_actions.specs.Acts.{ChangeAt, changePiece, changed, Gave}
 use Rattle.core_actions.specs.declared.actions.Acted.{Acted}
 use Rattle.core_actions.proofs.Acting.{ended}
-use Rattle.core_actions.proofs.Sites.{Site, Tree, tree, Known, Begun, begun-as, asks}
+use Rattle.core_actions.proofs.Sites.{Site, RoomAt, Asks, Every, WalkedAt, Tree, tree, Begun, begun-as, asks}
 
 -- ---- where it stands
 
@@ -34,8 +33,7 @@ pub record Headed (k : Site) (j d n w : ℕ) (sig : Sig) : Type 0 where
 
 -- what lowering the expressions asks
 pub exprs-ask : {k : Site} {j d n w : ℕ} → Begun k (Headed k j d n w)
-    → Known k (λ sig. ExprsAt sig (k .ws) d n (k .at + j))
-    × (Room (length (k .ws)) (k .at + j) (k .to) (k .sp) (k .lg) (length (k .s)) × ScopeRoom (length (k .ws)) (k .at + j) (k .to) (k .sp) (k .scope))
+    → Asks k (λ sig. ExprsAt sig (k .ws) d n (k .at + j)) (k .at + j)
 exprs-ask {k} {j} {d} {n} g = asks (begun-as {Y = λ sig. ExprsAt sig (k .ws) d n (k .at + j)} g (λ sig x. x .exprs)) (k .at + j) (omega arith)
 
 -- ---- the expressions are lowered: a, with s1 and cs1 left behind
@@ -43,15 +41,14 @@ exprs-ask {k} {j} {d} {n} g = asks (begun-as {Y = λ sig. ExprsAt sig (k .ws) d 
 pub record Argued (k : Site) (j d n w : ℕ) (s1 cs1 : List ℕ) (a : Walk) : Type 0 where
   pub begun : Begun k (Headed k j d n w)
   pub walk : (t : Tree k (Headed k j d n w))
-      → Walked n (OnStack (k .sp) n (k .lg) s1 a) (loweredAll (t .sig) (t .bound) (t .it .exprs .value) (k .cs)) (t .it .exprs .size)
-      (k .at + j) (k .to) (k .sp) (k .lg) (k .s) (k .cs) s1 cs1 a
+      → WalkedAt k n (OnStack (k .sp) n (k .lg) s1 a) (loweredAll (t .sig) (t .bound) (t .it .exprs .value) (k .cs)) (t .it .exprs .size)
+      (k .at + j) s1 cs1 a
   pub size : length s1 ≡ length (k .s)
   pub counters : length cs1 ≡ length (k .cs)
 
 pub argued : {k : Site} {j d n w : ℕ} {s1 cs1 : List ℕ} {a : Walk} → Begun k (Headed k j d n w) → length s1 ≡ length (k .s) → length cs1 ≡ length (k .cs)
-    → ((sig : Sig) (x : ExprsAt sig (k .ws) d n (k .at + j)) (bound : List ℕ) → Counted sig (k .cs) → Scoped sig bound (k .s) (k .scope)
-    → Walked n (OnStack (k .sp) n (k .lg) s1 a) (loweredAll sig bound (x .value) (k .cs)) (x .size)
-    (k .at + j) (k .to) (k .sp) (k .lg) (k .s) (k .cs) s1 cs1 a)
+    → Every k (λ sig. ExprsAt sig (k .ws) d n (k .at + j))
+    (λ sig x bound. WalkedAt k n (OnStack (k .sp) n (k .lg) s1 a) (loweredAll sig bound (x .value) (k .cs)) (x .size) (k .at + j) s1 cs1 a)
     → Argued k j d n w s1 cs1 a
 argued g es ec walk =
     record { begun = g; walk = λ t. walk (t .sig) (t .it .exprs) (t .bound) (t .counted) (t .scoped); size = es; counters = ec }
@@ -105,11 +102,11 @@ pub record Used (w log : ℕ) (s1 cs1 s2 cs2 : List ℕ) (u : ℕ) : Type 0 wher
 pub record Termed (k : Site) (size n : ℕ) (X : Res Piece) (s1 cs1 : List ℕ) (a : Walk) : Type 0 where
   pub behind : ℕ
   pub whole : size ≡ 2 + behind
-  pub walk : Walked n (OnStack (k .sp) n (k .lg) s1 a) X behind (k .at + 2) (k .to) (k .sp) (k .lg) (k .s) (k .cs) s1 cs1 a
+  pub walk : WalkedAt k n (OnStack (k .sp) n (k .lg) s1 a) X behind (k .at + 2) s1 cs1 a
   pub fine : a .refused ≡ 0
   pub many : n ≤ behind
   pub inside : k .at + size ≤ length (k .ws)
-  pub room : Room (length (k .ws)) (k .at) (k .to) (k .sp) (k .lg) (length (k .s))
+  pub room : RoomAt k (k .at)
 
 -- one use of the head's counter, refused at the place p, then the action of the terms
 abbrev pub closing : (code more p h : ℕ) → Piece → Res Piece
@@ -121,7 +118,7 @@ module _ {k : Site} {size n : ℕ} {X : Res Piece} {s1 cs1 : List ℕ} {a : Walk
 
   module _ {w : ℕ} {s2 cs2 : List ℕ} {u : ℕ} (o : Used w (a .log) s1 cs1 s2 cs2 u) where
     pub closed-full : (count : ℕ) → u ≡ 0
-        → Walked 0 (λ q. q .count ≡ count) (_>>=_ X (closing code more p (headOf w))) size (k .at) (k .to) (k .sp) (k .lg) (k .s) (k .cs) s2 cs2
+        → WalkedAt k 0 (λ q. q .count ≡ count) (_>>=_ X (closing code more p (headOf w))) size (k .at) s2 cs2
         (record { next = p; to = a .to; log = a .log; term = 0; refused = usedUp })
     closed-full count z =
         full-last (t .behind) size (k .at + 2) (k .at) (k .to) (k .sp) (k .lg) (headOf w) p u (k .s) (k .cs) s1 cs1 s2 cs2 a (a .to) X (changePiece code more (headOf w))
@@ -130,7 +127,7 @@ module _ {k : Site} {size n : ℕ} {X : Res Piece} {s1 cs1 : List ℕ} {a : Walk
 
     pub closed : {s3 : List ℕ} {e : ℕ} → headBase ≤ w → n ≡ countOf w + more → (u ≡ 0 → ⊥)
         → (e ≡ a .to + 2 + n) × (s3 ≡ splice s2 (a .to) (code ∷ w ∷ part s2 (k .sp) n))
-        → Walked 0 Counts (_>>=_ X (closing code more p (headOf w))) size (k .at) (k .to) (k .sp) (k .lg) (k .s) (k .cs) s3 cs2
+        → WalkedAt k 0 Counts (_>>=_ X (closing code more p (headOf w))) size (k .at) s3 cs2
         (record { next = a .next; to = e; log = a .log + 1; term = 0; refused = 0 })
     closed {s3} {e} high counts some put =
         let i = t .inside in
@@ -159,9 +156,10 @@ module _ {k : Site} {size n : ℕ} {X : Res Piece} {s1 cs1 : List ℕ} {a : Walk
 -- what the contract says of an answer
 abbrev pub Answers : Site → (code more : ℕ) → List ℕ → List ℕ → Acted → Type 0
 Answers k code more s′ cs′ r =
-    (r .names ≡ 0) × ((sig : Sig) (x : ChangeAt sig (k .ws) more (k .at)) (bound : List ℕ) → Counted sig (k .cs) → Scoped sig bound (k .s) (k .scope)
-    → Walked 0 (Gave r) (changed sig bound code more (k .at + 1) (headOf (getD (k .ws) (k .at + 1) 0)) (x .exprs .value) (k .cs)) (2 + x .exprs .size)
-    (k .at) (k .to) (k .sp) (k .lg) (k .s) (k .cs) s′ cs′ (r .walk))
+    (r .names ≡ 0)
+    × Every k (λ sig. ChangeAt sig (k .ws) more (k .at))
+    (λ sig x bound. WalkedAt k 0 (Gave r) (changed sig bound code more (k .at + 1) (headOf (getD (k .ws) (k .at + 1) 0)) (x .exprs .value) (k .cs))
+    (2 + x .exprs .size) (k .at) s′ cs′ (r .walk))
 
 -- the kind 3 word is read as w
 abbrev pub Change : Site → (more w : ℕ) → Sig → Type 0
@@ -185,15 +183,15 @@ pub record Changing (k : Site) (code more w : ℕ) : Type 0 where
 module _ {k : Site} {code more w : ℕ} (h : Changing k code more w) where
   abbrev Ends : List ℕ → List ℕ → Acted → Tree k (Change k more w) → Type 0
   Ends s′ cs′ r t =
-      Walked 0 (Gave r) (changed (t .sig) (t .bound) code more (k .at + 1) (headOf w) (t .it .exprs .value) (k .cs)) (2 + t .it .exprs .size)
-      (k .at) (k .to) (k .sp) (k .lg) (k .s) (k .cs) s′ cs′ (r .walk)
+      WalkedAt k 0 (Gave r) (changed (t .sig) (t .bound) code more (k .at + 1) (headOf w) (t .it .exprs .value) (k .cs)) (2 + t .it .exprs .size)
+      (k .at) s′ cs′ (r .walk)
 
   answers : {s′ cs′ : List ℕ} {r : Acted} → r .names ≡ 0 → ((t : Tree k (Change k more w)) → Ends s′ cs′ r t) → Answers k code more s′ cs′ r
   answers {s′} {cs′} {r} none f = (
     none,
     λ sig x bound n sc. subst
-        (λ (u : ℕ). Walked 0 (Gave r) (changed sig bound code more (k .at + 1) (headOf u) (x .exprs .value) (k .cs)) (2 + x .exprs .size)
-        (k .at) (k .to) (k .sp) (k .lg) (k .s) (k .cs) s′ cs′ (r .walk)) (h .is) (f (tree sig (change-at (h .is) sig x) bound n sc)),
+        (λ (u : ℕ). WalkedAt k 0 (Gave r) (changed sig bound code more (k .at + 1) (headOf u) (x .exprs .value) (k .cs)) (2 + x .exprs .size)
+        (k .at) s′ cs′ (r .walk)) (h .is) (f (tree sig (change-at (h .is) sig x) bound n sc)),
   )
 
   module _ {s1 cs1 : List ℕ} {a : Walk} (m : Argued k 2 maxDepth (countOf w + more) w s1 cs1 a) where

@@ -13,25 +13,25 @@ use Rattle.rules.specs.Refusals.{Res, ok, refuse, _>>=_, alreadyDefined}
 use Rattle.rules.specs.Signature.{Sig, elem}
 use Rattle.rules.specs.Flat.{Let}
 use Rattle.rules.specs.ToCoreActions.{Low, lowerExpr, lowerLet}
-use Rattle.walks.specs.Steps.{Piece, Walked, InAnswer, Room, Counted, ExprAt}
+use Rattle.walks.specs.Steps.{Piece, Walked, InAnswer, Room, ExprAt}
 use Rattle.walks.specs.declared.Walk.{Walk}
 use Rattle.walks.proofs.Frames.{kept-none}
 use Rattle.walks.proofs.Steps.{stop, stored, Own, written}
-use Rattle.core_actions.specs.Scopes.{Scoped, ScopeRoom, ScopeFits}
+use Rattle.core_actions.specs.Scopes.{Scoped, ScopeFits}
 use Rattle.core_actions.specs.Lowered.{lowered}
 use Rattle.core_actions.specs.Acts.{LetAt, Gave, ScopeAfter, Acts}
 use Rattle.core_actions.specs.declared.actions.Acted.{Acted}
 use Rattle.core_actions.proofs.Scopes.{scope-let, scope-fits}
 use Rattle.core_actions.proofs.Pieces.{letPiece, done-let}
-use Rattle.core_actions.proofs.Sites.{Site, Tree, tree, Known, Begun, begun-as, asks}
+use Rattle.core_actions.proofs.Sites.{Site, Asks, Every, WalkedAt, Tree, tree, Begun, begun-as, asks}
 use Rattle.core_actions.proofs.Acting.{ended, acts-stop, LowAt, Fine, is-fine}
 
 -- what the contract says of an answer
 abbrev pub Answers : Site → List ℕ → List ℕ → Acted → Type 0
 Answers k s′ cs′ r =
-    (sig : Sig) (x : LetAt sig (k .ws) (k .at)) (bound : List ℕ) → Counted sig (k .cs) → Scoped sig bound (k .s) (k .scope)
-    → Acts (lowerLet (elem (getD (k .ws) (k .at + 1) 0) bound) sig bound (k .at) (getD (k .ws) (k .at + 1) 0) (x .expr .value) (k .cs))
-    sig (k .scope) (2 + x .expr .size) (k .at) (k .to) (k .sp) (k .lg) (k .s) (k .cs) s′ cs′ r
+    Every k (λ sig. LetAt sig (k .ws) (k .at))
+    (λ sig x bound. Acts (lowerLet (elem (getD (k .ws) (k .at + 1) 0) bound) sig bound (k .at) (getD (k .ws) (k .at + 1) 0) (x .expr .value) (k .cs))
+    sig (k .scope) (2 + x .expr .size) (k .at) (k .to) (k .sp) (k .lg) (k .s) (k .cs) s′ cs′ r)
 
 -- ---- the name is read as v
 
@@ -46,8 +46,7 @@ module _ {k : Site} {v : ℕ} (h : Letting k v) where
   name-asks = let g = h .begun in let i = g .tree .it .expr .inside in scope-fits (g .scopeRoom) (g .room) (omega arith)
 
   -- what lowering the expression asks
-  pub expr-asks : Known k (λ sig. ExprAt sig (k .ws) maxDepth (k .at + 2))
-      × (Room (length (k .ws)) (k .at + 2) (k .to) (k .sp) (k .lg) (length (k .s)) × ScopeRoom (length (k .ws)) (k .at + 2) (k .to) (k .sp) (k .scope))
+  pub expr-asks : Asks k (λ sig. ExprAt sig (k .ws) maxDepth (k .at + 2)) (k .at + 2)
   expr-asks = asks (begun-as {Y = λ sig. ExprAt sig (k .ws) maxDepth (k .at + 2)} (h .begun) (λ sig x. x .expr)) (k .at + 2) (omega arith)
 
   abbrev lets : Type 0
@@ -90,7 +89,7 @@ module _ {k : Site} {v : ℕ} (h : Letting k v) where
       abbrev low : lets → Res Piece
       low t = lowered (t .sig) (t .bound) (t .it .expr .value) (k .cs)
 
-      walk : (t : lets) → Walked 1 (InAnswer (k .lg) e) (low t) (t .it .expr .size) (k .at + 2) (k .to) (k .sp) (k .lg) (k .s) (k .cs) s1 cs1 e
+      walk : (t : lets) → WalkedAt k 1 (InAnswer (k .lg) e) (low t) (t .it .expr .size) (k .at + 2) s1 cs1 e
       walk t = l .walk (t .sig) (t .it .expr) (t .bound) (t .counted) (t .scoped)
 
       pub let-refused : (e .refused ≡ 0 → ⊥) → Answers k s1 cs1 (ended e)
@@ -115,8 +114,8 @@ module _ {k : Site} {v : ℕ} (h : Letting k v) where
 
         abbrev Writes : List ℕ → lets → Type 0
         Writes s′ t =
-            Walked 0 (Gave answer) (_>>=_ (low t) (λ q. ok (letPiece v q))) (2 + t .it .expr .size)
-            (k .at) (k .to) (k .sp) (k .lg) (k .s) (k .cs) s′ cs1 (answer .walk)
+            WalkedAt k 0 (Gave answer) (_>>=_ (low t) (λ q. ok (letPiece v q))) (2 + t .it .expr .size)
+            (k .at) s′ cs1 (answer .walk)
 
         -- room for the whole let
         record LetRoom (size : ℕ) : Type 0 where

@@ -7,7 +7,7 @@ pub mod Expressions
 pub mod Arguments
 pub mod Calls
 pub mod Sites
-pub mod Plain
+pub mod Fronts
 pub mod Acting
 pub mod Lets
 pub mod Pairs

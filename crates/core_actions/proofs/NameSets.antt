@@ -12,7 +12,7 @@ use Rattle.rules.specs.Refusals.{Res, ok, _>>=_, unbound, usedUp}
 use Rattle.rules.specs.Signature.{Sig, heads}
 use Rattle.rules.specs.Written.{leaf}
 use Rattle.rules.specs.ToCoreActions.{readable, Done, lowerSet}
-use Rattle.walks.specs.Steps.{Piece, both, andThen, Walked, InAnswer, OnStack, Counted}
+use Rattle.walks.specs.Steps.{Piece, both, andThen, Walked, InAnswer, OnStack}
 use Rattle.walks.specs.declared.Walk.{Walk}
 use Rattle.walks.proofs.Frames.{kept-none}
 use Rattle.walks.proofs.Steps.{went, stop, walk-then, placed, pushed, stacked}
@@ -23,7 +23,7 @@ use Rattle.core_actions.specs.Acts.{NameCallAt, Gave, Acts}
 use Rattle.core_actions.specs.declared.actions.Acted.{Acted}
 use Rattle.core_actions.proofs.Scopes.{scope-fits}
 use Rattle.core_actions.proofs.Pieces.{lowered-leaf, done-set, same-set}
-use Rattle.core_actions.proofs.Sites.{Site, Tree, tree, tree-as, Begun}
+use Rattle.core_actions.proofs.Sites.{Site, Every, WalkedAt, Tree, tree, tree-as, Begun}
 use Rattle.core_actions.proofs.Acting.{ended, acts-stop, acts-same, scope-after}
 use Rattle.core_actions.proofs.Changes.{Headed, Argued, Fine, Used, Termed, closing, closed-full, closed}
 
@@ -58,9 +58,10 @@ pub record Naming (k : Site) (v w : ℕ) : Type 0 where
 -- what the contract says of an answer
 abbrev pub Answers : Site → List ℕ → List ℕ → Acted → Type 0
 Answers k s′ cs′ r =
-    (sig : Sig) (x : NameCallAt sig (k .ws) (k .at)) (bound : List ℕ) → Counted sig (k .cs) → Scoped sig bound (k .s) (k .scope)
-    → Acts (lowerSet sig bound (k .at + 2) (headOf (getD (k .ws) (k .at + 2) 0)) (x .exprs .value) (leaf (k .at + 1) (getD (k .ws) (k .at + 1) 0)) (k .cs))
-    sig (k .scope) (3 + x .exprs .size) (k .at) (k .to) (k .sp) (k .lg) (k .s) (k .cs) s′ cs′ r
+    Every k (λ sig. NameCallAt sig (k .ws) (k .at))
+    (λ sig x bound. Acts
+    (lowerSet sig bound (k .at + 2) (headOf (getD (k .ws) (k .at + 2) 0)) (x .exprs .value) (leaf (k .at + 1) (getD (k .ws) (k .at + 1) 0)) (k .cs))
+    sig (k .scope) (3 + x .exprs .size) (k .at) (k .to) (k .sp) (k .lg) (k .s) (k .cs) s′ cs′ r)
 
 -- ---- what the definition makes of it
 
@@ -89,8 +90,8 @@ module _ {k : Site} {v w : ℕ} (h : Naming k v w) where
 
   abbrev Walks : List ℕ → List ℕ → Acted → Tree k (NameCall k v w) → Type 0
   Walks s′ cs′ r t =
-      Walked 0 (Gave r) (_>>=_ (andThen (args t) (name t)) (closing (actionWord 2) 1 (k .at + 2) (headOf w))) (3 + t .it .call .exprs .size)
-      (k .at) (k .to) (k .sp) (k .lg) (k .s) (k .cs) s′ cs′ (r .walk)
+      WalkedAt k 0 (Gave r) (_>>=_ (andThen (args t) (name t)) (closing (actionWord 2) 1 (k .at + 2) (headOf w))) (3 + t .it .call .exprs .size)
+      (k .at) s′ cs′ (r .walk)
 
   refused : {s′ cs′ : List ℕ} {r : Acted} (t : Tree k (NameCall k v w)) → Walks s′ cs′ r t → (r .walk .refused ≡ 0 → ⊥) → Ends s′ cs′ r t
   refused t walk bad =
@@ -108,8 +109,8 @@ module _ {k : Site} {v w : ℕ} (h : Naming k v w) where
 
   module _ {s1 cs1 : List ℕ} {a : Walk} (m : Argued k 3 (maxDepth - 1) (countOf w) w s1 cs1 a) where
     abbrev walk : (t : Tree k (NameCall k v w))
-        → Walked (countOf w) (OnStack (k .sp) (countOf w) (k .lg) s1 a) (args t) (t .it .call .exprs .size)
-        (k .at + 3) (k .to) (k .sp) (k .lg) (k .s) (k .cs) s1 cs1 a
+        → WalkedAt k (countOf w) (OnStack (k .sp) (countOf w) (k .lg) s1 a) (args t) (t .it .call .exprs .size)
+        (k .at + 3) s1 cs1 a
     walk t = m .walk (tree-as t (λ sig x. x .call))
 
     pub args-refused : (a .refused ≡ 0 → ⊥) → Answers k s1 cs1 (ended a)
@@ -118,7 +119,7 @@ module _ {k : Site} {v w : ℕ} (h : Naming k v w) where
         stopped : (t : Tree k (NameCall k v w)) → Walks s1 cs1 (ended a) t
         stopped t =
             let n = 3 + t .it .call .exprs .size in
-            let one : Walked 0 (Gave (ended a)) (andThen (args t) (name t)) n (k .at) (k .to) (k .sp) (k .lg) (k .s) (k .cs) s1 cs1 a =
+            let one : WalkedAt k 0 (Gave (ended a)) (andThen (args t) (name t)) n (k .at) s1 cs1 a =
             stop n (k .at) (args t) (λ p. _>>=_ (name t (p .next)) (λ q. ok (both p q))) (walk t) bad (omega arith) in
             stop n (k .at) (andThen (args t) (name t)) (closing (actionWord 2) 1 (k .at + 2) (headOf w)) one bad (omega arith)
 
@@ -138,8 +139,8 @@ module _ {k : Site} {v w : ℕ} (h : Naming k v w) where
       early t = record { next = k .at + 2 + t .it .call .exprs .size; to = a .to; log = a .log; term = a .term; refused = 0 }
 
       first : (t : Tree k (NameCall k v w))
-          → Walked (countOf w) (OnStack (k .sp) (countOf w) (k .lg) s1 (early t)) (args t) (t .it .call .exprs .size)
-          (k .at + 2) (k .to) (k .sp) (k .lg) (k .s) (k .cs) s1 cs1 (early t)
+          → WalkedAt k (countOf w) (OnStack (k .sp) (countOf w) (k .lg) s1 (early t)) (args t) (t .it .call .exprs .size)
+          (k .at + 2) s1 cs1 (early t)
       first t = placed (k .at + 2) (early t) (args t) (walk t) (f .fine) refl refl refl refl (λ p u. record { size = u .size; terms = u .terms; uses = u .uses })
 
       module _ {b : Bool} (test : (sig : Sig) (bound : List ℕ) → Scoped sig bound s1 (k .scope) → v < freshBase → b ≡ readable sig bound v) where
@@ -168,7 +169,7 @@ module _ {k : Site} {v w : ℕ} (h : Naming k v w) where
                 let x = t .it .call .exprs in
                 let i = x .inside in
                 let many = exprs-many (t .sig) (k .ws) (maxDepth - 1) (countOf w) (k .at + 3) x in
-                let halted : Walked (countOf w + 1) (λ p. ⊥) (andThen (args t) (name t)) (x .size + 1) (k .at + 2) (k .to) (k .sp) (k .lg) (k .s) (k .cs) s1 cs1 ans =
+                let halted : WalkedAt k (countOf w + 1) (λ p. ⊥) (andThen (args t) (name t)) (x .size + 1) (k .at + 2) s1 cs1 ans =
                 walk-then (x .size) 1 (k .at + 2) (k .to) (k .sp) (k .sp + countOf w) (k .lg) (k .s) (k .cs) s1 cs1 s1 cs1 (early t) ans
                 (omega (arith, h .begun .room .stack)) (omega arith) (omega arith) (countOf w + 1) (λ p. ⊥) (args t) (name t) (omega arith) (first t) refl (second t) (λ p q t u. u) in
                 stop (3 + x .size) (k .at) (andThen (args t) (name t)) (closing (actionWord 2) 1 (k .at + 2) (headOf w)) halted (λ z. omega arith) (omega arith)
@@ -205,8 +206,8 @@ module _ {k : Site} {v w : ℕ} (h : Naming k v w) where
                 );
               }) in
               let there = pushed (name t cs1) second refl push (omega arith) (omega arith) (omega arith) (omega arith) in
-              let all : Walked (countOf w + 1) (OnStack (k .sp) (countOf w + 1) (k .lg) s2 late) (andThen (args t) (name t)) (x .size + 1)
-              (k .at + 2) (k .to) (k .sp) (k .lg) (k .s) (k .cs) s2 cs1 late =
+              let all : WalkedAt k (countOf w + 1) (OnStack (k .sp) (countOf w + 1) (k .lg) s2 late) (andThen (args t) (name t)) (x .size + 1)
+              (k .at + 2) s2 cs1 late =
               walk-then (x .size) 1 (k .at + 2) (k .to) (k .sp) (k .sp + countOf w) (k .lg) (k .s) (k .cs) s1 cs1 s2 cs1 (early t) late
               (omega arith) (omega arith) (omega arith) (countOf w + 1) (OnStack (k .sp) (countOf w + 1) (k .lg) s2 late) (args t) (name t) (omega arith) (first t) refl there
               (λ p q y u. stacked p q (countOf w + 1) refl (omega arith) refl (there .kept) y u) in

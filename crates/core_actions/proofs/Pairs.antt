@@ -12,7 +12,7 @@ use Rattle.rules.specs.Refusals.{Res, ok, _>>=_}
 use Rattle.rules.specs.Signature.{Sig}
 use Rattle.rules.specs.Written.{readExpr}
 use Rattle.rules.specs.ToCoreActions.{Done, lowerUnion}
-use Rattle.walks.specs.Steps.{Piece, both, andThen, Walked, InAnswer, Room, Counted, ExprAt}
+use Rattle.walks.specs.Steps.{Piece, both, andThen, Walked, InAnswer, Room, ExprAt}
 use Rattle.walks.specs.declared.Walk.{Walk}
 use Rattle.walks.proofs.Steps.{went, stop, walk-then, written}
 use Rattle.walks.proofs.Read.{moved}
@@ -22,7 +22,7 @@ use Rattle.core_actions.specs.Lowered.{lowered}
 use Rattle.core_actions.specs.Acts.{PairAt, Gave, Acts}
 use Rattle.core_actions.specs.declared.actions.Acted.{Acted}
 use Rattle.core_actions.proofs.Pieces.{unionPiece, done-union, same-union}
-use Rattle.core_actions.proofs.Sites.{Site, site-of, Tree, tree, Known, Begun, begun-as, asks}
+use Rattle.core_actions.proofs.Sites.{Site, site-of, ScopeRoomAt, Asks, Every, WalkedAt, Tree, tree, Begun, begun-as, asks}
 use Rattle.core_actions.proofs.Acting.{ended, acts-stop, acts-same, scope-after, LowAt, Fine, is-fine}
 
 abbrev pub Pair : Site → Sig → Type 0
@@ -31,14 +31,13 @@ Pair k sig = PairAt sig (k .ws) (k .at)
 -- what the contract says of an answer
 abbrev pub Answers : Site → List ℕ → List ℕ → Acted → Type 0
 Answers k s′ cs′ r =
-    (sig : Sig) (x : PairAt sig (k .ws) (k .at)) (bound : List ℕ) → Counted sig (k .cs) → Scoped sig bound (k .s) (k .scope)
-    → Acts (lowerUnion sig bound none (x .left .value) (x .right .value) (k .cs)) sig (k .scope) (1 + (x .left .size + x .right .size))
-    (k .at) (k .to) (k .sp) (k .lg) (k .s) (k .cs) s′ cs′ r
+    Every k (Pair k)
+    (λ sig x bound. Acts (lowerUnion sig bound none (x .left .value) (x .right .value) (k .cs)) sig (k .scope) (1 + (x .left .size + x .right .size))
+    (k .at) (k .to) (k .sp) (k .lg) (k .s) (k .cs) s′ cs′ r)
 
 -- what lowering the left side asks
 pub left-asks : {k : Site} → Begun k (Pair k)
-    → Known k (λ sig. ExprAt sig (k .ws) maxDepth (k .at + 1))
-    × (Room (length (k .ws)) (k .at + 1) (k .to) (k .sp) (k .lg) (length (k .s)) × ScopeRoom (length (k .ws)) (k .at + 1) (k .to) (k .sp) (k .scope))
+    → Asks k (λ sig. ExprAt sig (k .ws) maxDepth (k .at + 1)) (k .at + 1)
 left-asks {k} g = asks (begun-as {Y = λ sig. ExprAt sig (k .ws) maxDepth (k .at + 1)} g (λ sig x. x .left)) (k .at + 1) (omega arith)
 
 -- ---- the left side is lowered: l, with s1 and cs1 left behind
@@ -63,12 +62,12 @@ module _ {k : Site} (g : Begun k (Pair k)) {s1 cs1 : List ℕ} {l : Walk} (left 
   abbrev Ends : List ℕ → List ℕ → Acted → Tree k (Pair k) → Type 0
   Ends s′ cs′ r t = Acts (union t) (t .sig) (k .scope) (1 + size t) (k .at) (k .to) (k .sp) (k .lg) (k .s) (k .cs) s′ cs′ r
 
-  walk : (t : Tree k (Pair k)) → Walked 1 (InAnswer (k .lg) l) (X t) (t .it .left .size) (k .at + 1) (k .to) (k .sp) (k .lg) (k .s) (k .cs) s1 cs1 l
+  walk : (t : Tree k (Pair k)) → WalkedAt k 1 (InAnswer (k .lg) l) (X t) (t .it .left .size) (k .at + 1) s1 cs1 l
   walk t = left .walk (t .sig) (t .it .left) (t .bound) (t .counted) (t .scoped)
 
   -- a walk over both sides that stops
   refused : {m at′ : ℕ} {T : Piece → Type 0} {s′ cs′ : List ℕ} {a : Walk} (n : ℕ) (t : Tree k (Pair k))
-      → Walked m T (andThen (X t) (Y t)) n at′ (k .to) (k .sp) (k .lg) (k .s) (k .cs) s′ cs′ a → n ≤ 1 + size t → (a .refused ≡ 0 → ⊥) → Ends s′ cs′ (ended a) t
+      → WalkedAt k m T (andThen (X t) (Y t)) n at′ s′ cs′ a → n ≤ 1 + size t → (a .refused ≡ 0 → ⊥) → Ends s′ cs′ (ended a) t
   refused n t w h bad =
       acts-stop (union t)
       (rw (done-union (t .sig) (t .bound) (t .it .left .value) (t .it .right .value) (k .cs))
@@ -79,7 +78,7 @@ module _ {k : Site} (g : Begun k (Pair k)) {s1 cs1 : List ℕ} {l : Walk} (left 
     where
       stopped : (t : Tree k (Pair k)) → Ends s1 cs1 (ended l) t
       stopped t =
-          let one : Walked 0 (Gave (ended l)) (andThen (X t) (Y t)) (1 + size t) (k .at) (k .to) (k .sp) (k .lg) (k .s) (k .cs) s1 cs1 l =
+          let one : WalkedAt k 0 (Gave (ended l)) (andThen (X t) (Y t)) (1 + size t) (k .at) s1 cs1 l =
           stop (1 + size t) (k .at) (X t) (λ p. _>>=_ (Y t (p .next)) (λ q. ok (both p q))) (walk t) bad (omega arith) in
           refused (1 + size t) t one (omega arith) bad
 
@@ -90,7 +89,7 @@ module _ {k : Site} (g : Begun k (Pair k)) {s1 cs1 : List ℕ} {l : Walk} (left 
     scoped t =
         let i = t .it .right .inside in
         let sr = g .scopeRoom in
-        let here : ScopeRoom (length (k .ws)) (k .at + 1) (k .to) (k .sp) (k .scope) =
+        let here : ScopeRoomAt k (k .at + 1) =
         record { few = sr .few; body = sr .body; names = omega (arith, sr .names); top = sr .top } in
         scope-after (length (k .ws)) (t .it .left .size) here (omega arith) (walk t .kept) (t .scoped)
 
@@ -102,8 +101,7 @@ module _ {k : Site} (g : Begun k (Pair k)) {s1 cs1 : List ℕ} {l : Walk} (left 
         (t .bound) (counted-kept (t .counted) (left .counters)) (scoped t)
 
     -- what lowering it asks
-    pub right-asks : Known (behind k s1 cs1 l) (λ sig. ExprAt sig (k .ws) maxDepth (l .next))
-        × (Room (length (k .ws)) (l .next) (l .to) (k .sp) (l .log) (length s1) × ScopeRoom (length (k .ws)) (l .next) (l .to) (k .sp) (k .scope))
+    pub right-asks : Asks (behind k s1 cs1 l) (λ sig. ExprAt sig (k .ws) maxDepth (l .next)) (l .next)
     right-asks =
         let t = right (g .tree) in
         let o = went (X (g .tree)) (walk (g .tree)) fine in
@@ -125,7 +123,7 @@ module _ {k : Site} (g : Begun k (Pair k)) {s1 cs1 : List ℕ} {l : Walk} (left 
         pub terms : p .terms ≡ l .term ∷ r .term ∷ []
         pub uses : r .log ≡ k .lg + p .count
 
-      sides : (t : Tree k (Pair k)) → Walked 2 Sides (andThen (X t) (Y t)) (size t) (k .at + 1) (k .to) (k .sp) (k .lg) (k .s) (k .cs) s2 cs2 r
+      sides : (t : Tree k (Pair k)) → WalkedAt k 2 Sides (andThen (X t) (Y t)) (size t) (k .at + 1) s2 cs2 r
       sides t =
           let u = right t in
           let i = t .it .right .inside in

@@ -4,7 +4,7 @@ use native.Mathlib.Omega.{arith}
 use Rattle.octets.specs.Words.{words}
 use Rattle.octets.proofs.Words.{length-words, length-words-kept}
 use Rattle.core_actions.proofs.Sites.{Site, site-of, Begun, begun, tree}
-use Rattle.core_actions.proofs.Plain.{Row, front-room, Stacked, stacked, rest-asks, row-walked}
+use Rattle.core_actions.proofs.Fronts.{Row, front-room, Stacked, stacked, rest-asks, row-walked}
 use borrow.Author.Needs.{needs}
 use Rattle.core_actions.proofs.exprs.lower_arguments.Statement.{statement}
 use Rattle.core_actions.proofs.exprs.lower_arguments.Tie as tie

@@ -1,5 +1,5 @@
--- Literals and globals in front of a row of expressions: a walk over the expressions behind them, with these words on the stack, is a walk over
--- the whole row. Assumes nothing.
+-- Literals and globals in front of a row of expressions may be read whatever is bound, and are their own terms: a walk over the expressions behind
+-- them, with these words on the stack, is a walk over the whole row. Assumes nothing.
 use mathlib.Core.Path.{_≡_, refl, sym, ap, _∙_, subst}
 use mathlib.Core.Bool.{true}
 use mathlib.Core.List.{List, [], _∷_, _++_}
@@ -10,24 +10,27 @@ use lib.ListN.{length, getD, set}
 use Rattle.octets.specs.Regions.{splice, part}
 use Rattle.octets.proofs.Splice.{length-part, part-more, splice-nil, splice-snoc, length-splice, getD-splice-before, getD-splice-after}
 use Rattle.rules.specs.Words.{nameBase}
+use Rattle.rules.specs.Refusals.{Res}
 use Rattle.rules.specs.Signature.{Sig}
+use Rattle.rules.specs.Written.{Expr, Exprs}
 use Rattle.walks.specs.Leaves.{leavesUpTo}
-use Rattle.walks.specs.Steps.{Walked, OnStack, Kept, Room, Under, Counted, ExprsAt}
+use Rattle.walks.specs.Steps.{Piece, Walked, OnStack, Kept, Room, ExprsAt}
 use Rattle.walks.specs.declared.Walk.{Walk}
 use Rattle.walks.proofs.LeavesUpTo.{Leaf, leaves-most, leaves-each}
 use Rattle.walks.proofs.Log.{undone-none}
 use Rattle.walks.proofs.Read.{exprs-many}
-use Rattle.walks.proofs.Rows.{Left, left-all, left-next}
-use Rattle.core_actions.specs.Scopes.{Scoped, ScopeRoom, Names}
+use Rattle.walks.proofs.Rows.{Rowed, Left, left-all, left-next}
+use Rattle.core_actions.specs.Scopes.{Scoped}
 use Rattle.core_actions.specs.Lowered.{lowered, loweredAll}
 use Rattle.core_actions.specs.declared.scope.Scope.{Scope}
 use Rattle.core_actions.proofs.Scopes.{scoped-kept, reads-low}
 use Rattle.core_actions.proofs.Pieces.{lowered-row}
 use Rattle.core_actions.proofs.Expressions.{standing, read-way}
-use Rattle.core_actions.proofs.Sites.{Site, Tree, Begun}
+use Rattle.core_actions.proofs.Sites.{Site, site-of, Asks, Every, WalkedAt, Tree, Begun}
 
 -- words go onto the stack, and nothing else is done
-kept-stack : (to te sp se lg le : ℕ) (xs s cs s′ : List ℕ) → to ≤ sp → sp + length xs ≤ se → sp + length xs ≤ length s → lg ≤ le → s′ ≡ splice s sp xs → Kept to te sp se lg le s cs s′ cs lg
+kept-stack : (to te sp se lg le : ℕ) (xs s cs s′ : List ℕ) → to ≤ sp → sp + length xs ≤ se → sp + length xs ≤ length s → lg ≤ le
+    → s′ ≡ splice s sp xs → Kept to te sp se lg le s cs s′ cs lg
 kept-stack to te sp se lg le xs s cs s′ a b r h e =
     let in′ : sp ≤ length s = omega arith in
     let at : (i : ℕ) → getD s′ i 0 ≡ getD (splice s sp xs) i 0 = λ i. ap (λ (l : List ℕ). getD l i 0) e in
@@ -47,7 +50,7 @@ kept-stack to te sp se lg le xs s cs s′ a b r h e =
 pub record Row (k : Site) (d n : ℕ) (sig : Sig) : Type 0 where
   pub exprs : ExprsAt sig (k .ws) d n (k .at)
 
--- the last word that may be read whatever is bound: the last of the scope's globals, or of the literals where there is none
+-- the last of the globals, or of the literals where there are none
 abbrev pub last : Site → ℕ
 last k = nameBase + k .scope .globals - 1
 
@@ -82,11 +85,20 @@ stacked {k} {d} {n} g {i} size e =
     }
 
 module _ {k : Site} {d n : ℕ} {g : Begun k (Row k d n)} {i : ℕ} {s0 : List ℕ} (f : Stacked g i s0) where
+  -- ---- each is a turn of the walk over the row
+
   module _ (t : Tree k (Row k d n)) where
+    abbrev one : Expr → List ℕ → Res Piece
+    one = lowered (t .sig) (t .bound)
+
+    abbrev all : Exprs → List ℕ → Res Piece
+    all = loweredAll (t .sig) (t .bound)
+
+    abbrev rowed : Rowed one all
+    rowed = lowered-row (t .sig) (t .bound)
+
     abbrev Rest : (left top : ℕ) → List ℕ → Walk → Type 0
-    Rest left top s1 w =
-        Left (lowered (t .sig) (t .bound)) (loweredAll (t .sig) (t .bound)) (lowered-row (t .sig) (t .bound)) (t .sig) (k .ws) d n
-        (k .at) (k .to) (k .sp) (k .lg) (k .s) (k .cs) (t .it .exprs) left top s1 (k .cs) w
+    Rest left top s1 w = Left one all rowed (t .sig) (k .ws) d n (k .at) (k .to) (k .sp) (k .lg) (k .s) (k .cs) (t .it .exprs) left top s1 (k .cs) w
 
     rest-is : (left left′ top top′ p p′ u : ℕ) (s1 s1′ : List ℕ) → left ≡ left′ → top ≡ top′ → p ≡ p′ → s1 ≡ s1′
         → Rest left top s1 (record { next = p; to = k .to; log = k .lg; term = u; refused = 0 }) → Rest left′ top′ s1′ (standing p′ (k .to) (k .lg))
@@ -100,8 +112,9 @@ module _ {k : Site} {d n : ℕ} {g : Begun k (Row k d n)} {i : ℕ} {s0 : List �
     turns : (j : ℕ) (s1 : List ℕ) → j ≤ i → s1 ≡ splice (k .s) (k .sp) (part (k .ws) (k .at) j)
         → Rest (n - j) (k .sp + j) s1 (standing (k .at + j) (k .to) (k .lg))
     turns zero s1 h e =
-        rest-is n (n - 0) (k .sp) (k .sp + 0) (k .at) (k .at + 0) 0 (k .s) s1 (omega arith) (omega arith) (omega arith) (sym (splice-nil (k .s) (k .sp)) ∙ sym e)
-        (left-all (lowered (t .sig) (t .bound)) (loweredAll (t .sig) (t .bound)) (lowered-row (t .sig) (t .bound)) (t .sig) (k .ws) d n (k .at) (k .to) (k .sp) (k .lg) (k .s) (k .cs) (t .it .exprs) 0)
+        rest-is n (n - 0) (k .sp) (k .sp + 0) (k .at) (k .at + 0) 0 (k .s) s1 (omega arith) (omega arith) (omega arith)
+        (sym (splice-nil (k .s) (k .sp)) ∙ sym e)
+        (left-all one all rowed (t .sig) (k .ws) d n (k .at) (k .to) (k .sp) (k .lg) (k .s) (k .cs) (t .it .exprs) 0)
     turns (suc j) s1 h e =
         let fits = f .inside in
         let most = f .most in
@@ -119,7 +132,7 @@ module _ {k : Site} {d n : ℕ} {g : Begun k (Row k d n)} {i : ℕ} {s0 : List �
         let there : part (k .ws) (k .at) (suc j) ≡ xs ++ (w ∷ []) = ap (part (k .ws) (k .at)) (sym (add-one j)) ∙ part-more (k .ws) (k .at) j (omega arith) in
         let put : s1 ≡ set sj (k .sp + j) w = e ∙ ap (splice (k .s) (k .sp)) there ∙ sym (splice-snoc (k .s) (k .sp) xs (k .sp + j) w (omega arith) (omega arith)) in
         rest-is (n - j - 1) (n - suc j) (k .sp + j + 1) (k .sp + suc j) (at + 1) (k .at + suc j) w s1 s1 (omega arith) (omega arith) (omega arith) refl
-        (left-next (lowered (t .sig) (t .bound)) (loweredAll (t .sig) (t .bound)) (lowered-row (t .sig) (t .bound)) (t .sig) (k .ws) d n (k .at) (k .to) (k .sp) (k .lg) (k .s) (k .cs) (t .it .exprs)
+        (left-next one all rowed (t .sig) (k .ws) d n (k .at) (k .to) (k .sp) (k .lg) (k .s) (k .cs) (t .it .exprs)
         (n - j) (k .sp + j) sj (k .cs) (standing at (k .to) (k .lg)) (turns j sj (omega arith) refl) (omega arith) now
         sj (k .cs) (record { next = at + 1; to = k .to; log = k .lg; term = w; refused = 0 })
         (λ y. read-way (t .sig) (t .bound) (k .ws) d at (k .to) (k .sp + j) (k .lg) sj (k .cs) y (t .counted) w refl (plain .low) true
@@ -141,9 +154,14 @@ module _ {k : Site} {d n : ℕ} {g : Begun k (Row k d n)} {i : ℕ} {s0 : List �
         (omega (arith, r .words)) (omega arith) (omega (arith, r .stack, r .log)) (omega arith) (f .put))
         (sr .body) (omega (arith, sr .names)) (sr .top) (t .scoped)
 
-  -- what the walk over the others asks
-  pub rest-asks : Under (λ sig. ExprsAt sig (k .ws) d (n - i) (k .at + i) × Counted sig (k .cs) × Names sig s0 (k .scope))
-      × (Room (length (k .ws)) (k .at + i) (k .to) (k .sp + i) (k .lg) (length s0) × ScopeRoom (length (k .ws)) (k .at + i) (k .to) (k .sp + i) (k .scope))
+  -- ---- the walk over the others
+
+  -- its site
+  abbrev behind : Site
+  behind = site-of (k .ws) s0 (k .cs) (k .at + i) (k .to) (k .sp + i) (k .lg) (k .scope)
+
+  -- what it asks
+  pub rest-asks : Asks behind (λ sig. ExprsAt sig (k .ws) d (n - i) (k .at + i)) (k .at + i)
   rest-asks =
       let t = g .tree in
       let r = g .room in
@@ -158,10 +176,8 @@ module _ {k : Site} {d n : ℕ} {g : Begun k (Row k d n)} {i : ℕ} {s0 : List �
 
   -- and what it leaves is what walking the whole row leaves
   pub row-walked : {s1 cs1 : List ℕ} {a : Walk}
-      → ((sig : Sig) (y : ExprsAt sig (k .ws) d (n - i) (k .at + i)) (bound : List ℕ) → Counted sig (k .cs) → Scoped sig bound s0 (k .scope)
-      → Walked (n - i) (OnStack (k .sp + i) (n - i) (k .lg) s1 a) (loweredAll sig bound (y .value) (k .cs)) (y .size)
-      (k .at + i) (k .to) (k .sp + i) (k .lg) s0 (k .cs) s1 cs1 a)
+      → Every behind (λ sig. ExprsAt sig (k .ws) d (n - i) (k .at + i))
+      (λ sig y bound. WalkedAt behind (n - i) (OnStack (k .sp + i) (n - i) (k .lg) s1 a) (loweredAll sig bound (y .value) (k .cs)) (y .size) (k .at + i) s1 cs1 a)
       → (t : Tree k (Row k d n))
-      → Walked n (OnStack (k .sp) n (k .lg) s1 a) (loweredAll (t .sig) (t .bound) (t .it .exprs .value) (k .cs)) (t .it .exprs .size)
-      (k .at) (k .to) (k .sp) (k .lg) (k .s) (k .cs) s1 cs1 a
+      → WalkedAt k n (OnStack (k .sp) n (k .lg) s1 a) (loweredAll (t .sig) (t .bound) (t .it .exprs .value) (k .cs)) (t .it .exprs .size) (k .at) s1 cs1 a
   row-walked {s1} {cs1} {a} walk t = front-left t .whole s1 cs1 a (walk (t .sig) (front-left t .rest) (t .bound) (t .counted) (front-scoped t))
