@@ -15,41 +15,42 @@ use Rattle.core_actions.specs.Scopes.{Scoped}
 use Rattle.core_actions.specs.Lowered.{donePiece}
 use Rattle.core_actions.specs.Acts.{ActionAt, LetAt, ChangeAt, PairAt, Signed, changed, Gave}
 use Rattle.core_actions.specs.declared.actions.Acted.{Acted}
-use Rattle.core_actions.proofs.Given.{Given, RoomFor, ScopeRoomFor, Standing, StandingSigned, Does, Finishes, second, RowWalk, Changes, DoesAction}
+use Rattle.core_actions.proofs.Sites.{Site, Known}
+use Rattle.core_actions.proofs.Does.{RoomFor, ScopeRoomFor, KnownSigned, Does, Finishes, second, RowWalk, Changes, DoesAction}
 use Rattle.core_actions.proofs.Pieces.{done-change, done-set-row, SameBound, same-change, same-set}
 use Rattle.core_actions.proofs.Acting.{acts-same}
 use Rattle.core_actions.proofs.ReadActions.{action-high, no-other, let-cases, set-cases, delete-cases, subsume-cases, union-cases, panic-cases, expression-cases}
 
 -- ---- the action's word is read: w
 
-pub record Coded (k : Given) (w : ℕ) : Type 0 where
-  pub known : StandingSigned k (λ sig. ActionAt sig (k .ws) (k .at))
+pub record Coded (gs : List ℕ) (k : Site) (w : ℕ) : Type 0 where
+  pub known : KnownSigned k gs (λ sig. ActionAt sig (k .ws) (k .at))
   pub room : RoomFor k
   pub scopeRoom : ScopeRoomFor k
   pub top : k .scope .first + k .scope .names ≡ k .sp
   pub is : w ≡ getD (k .ws) (k .at) 0
   pub high : actionBase ≤ w
 
-pub coded : {k : Given} {w : ℕ} → StandingSigned k (λ sig. ActionAt sig (k .ws) (k .at)) → RoomFor k → ScopeRoomFor k → k .scope .first + k .scope .names ≡ k .sp
-    → w ≡ getD (k .ws) (k .at) 0 → Coded k w
-coded {k} q room sr top is =
+pub coded : {gs : List ℕ} {k : Site} {w : ℕ} → KnownSigned k gs (λ sig. ActionAt sig (k .ws) (k .at)) → RoomFor k → ScopeRoomFor k → k .scope .first + k .scope .names ≡ k .sp
+    → w ≡ getD (k .ws) (k .at) 0 → Coded gs k w
+coded {k = k} q room sr top is =
     record { known = q; room = room; scopeRoom = sr; top = top; is = is; high = omega (arith, action-high (q .sig) (k .ws) (k .at) (q .known .0)) }
 
-module _ {k : Given} {w : ℕ} (g : Coded k w) where
+module _ {gs : List ℕ} {k : Site} {w : ℕ} (g : Coded gs k w) where
   word : (code : ℕ) → w - actionBase ≡ code → getD (k .ws) (k .at) 0 ≡ actionWord code
   word code e = omega (arith, g .is, g .high)
 
-  asks : {A : Sig → Type 0} → ((sig : Sig) → ActionAt sig (k .ws) (k .at) → A sig) → Standing k A
+  asks : {A : Sig → Type 0} → ((sig : Sig) → ActionAt sig (k .ws) (k .at) → A sig) → Known k A
   asks at = let q = g .known in record { sig = q .sig; known = (at (q .sig) (q .known .0), q .known .1, q .known .2) }
 
   -- ---- let
 
-  pub let-asks : w - actionBase ≡ 1 → Standing k (λ sig. LetAt sig (k .ws) (k .at))
+  pub let-asks : w - actionBase ≡ 1 → Known k (λ sig. LetAt sig (k .ws) (k .at))
   let-asks e = asks (λ sig x. let-cases sig (k .ws) (k .at) x (λ y n. LetAt sig (k .ws) (k .at)) (word 1 e) (λ y. y))
 
   pub let-done : {s′ cs′ : List ℕ} {r : Acted} → w - actionBase ≡ 1
       → Finishes k (λ sig. LetAt sig (k .ws) (k .at)) (λ sig bound y. lowerLet (elem (second k) bound) sig bound (k .at) (second k) (y .expr .value) (k .cs)) (λ sig y. 2 + y .expr .size) s′ cs′ r
-      → DoesAction k s′ cs′ r
+      → DoesAction k gs s′ cs′ r
   let-done {s′} {cs′} {r} e does sig x bound n sc sg =
       let-cases sig (k .ws) (k .at) x (λ y i. Does k sig (lowerAction sig bound y (k .cs)) i s′ cs′ r) (word 1 e) (λ y. does sig y bound n sc)
 
@@ -65,7 +66,7 @@ module _ {k : Given} {w : ℕ} (g : Coded k w) where
         (subst (λ (p : Res Piece). Walked 0 (Gave r) p (2 + y .exprs .size) (k .at) (k .to) (k .sp) (k .lg) (k .s) (k .cs) s′ cs′ (r .walk)) (sym is)
         (subst (λ (u : ℕ). RowWalk k sig bound u more y s′ cs′ r) e walk))
 
-    pub set-done : w - actionBase ≡ 2 → Changes k w 1 s′ cs′ r → DoesAction k s′ cs′ r
+    pub set-done : w - actionBase ≡ 2 → Changes k w 1 s′ cs′ r → DoesAction k gs s′ cs′ r
     set-done e does sig x bound n sc sg =
         set-cases sig (k .ws) (k .at) x (λ y i. Does k sig (lowerAction sig bound y (k .cs)) i s′ cs′ r) (word 2 e)
         (λ y es v row. row-does sig bound (lowerSet sig bound (k .at + 1) (headOf (second k)) es v (k .cs)) 1 (actionWord 2) y sc (does .0)
@@ -81,28 +82,28 @@ module _ {k : Given} {w : ℕ} (g : Coded k w) where
         (same-change sig bound C (k .at + 1) (headOf (second k)) (y .exprs .value) (k .cs)) (g .is ∙ e)
         (done-change sig bound C code is (k .at + 1) (headOf (second k)) (y .exprs .value) (k .cs)) (does .1 sig y bound n sc)
 
-    pub delete-done : w - actionBase ≡ 3 → Changes k w 0 s′ cs′ r → DoesAction k s′ cs′ r
+    pub delete-done : w - actionBase ≡ 3 → Changes k w 0 s′ cs′ r → DoesAction k gs s′ cs′ r
     delete-done e does sig x bound n sc sg =
         delete-cases sig (k .ws) (k .at) x (λ y i. Does k sig (lowerAction sig bound y (k .cs)) i s′ cs′ r) (word 3 e)
         (λ y. change-does Delete (actionWord 3) (λ h ts. refl) (word 3 e) does sig y bound n sc)
 
-    pub subsume-done : w - actionBase ≡ 4 → Changes k w 0 s′ cs′ r → DoesAction k s′ cs′ r
+    pub subsume-done : w - actionBase ≡ 4 → Changes k w 0 s′ cs′ r → DoesAction k gs s′ cs′ r
     subsume-done e does sig x bound n sc sg =
         subsume-cases sig (k .ws) (k .at) x (λ y i. Does k sig (lowerAction sig bound y (k .cs)) i s′ cs′ r) (word 4 e)
         (λ y. change-does Subsume (actionWord 4) (λ h ts. refl) (word 4 e) does sig y bound n sc)
 
-  pub set-asks : w - actionBase ≡ 2 → Standing k (λ sig. ChangeAt sig (k .ws) 1 (k .at))
+  pub set-asks : w - actionBase ≡ 2 → Known k (λ sig. ChangeAt sig (k .ws) 1 (k .at))
   set-asks e = asks (λ sig x. set-cases sig (k .ws) (k .at) x (λ y n. ChangeAt sig (k .ws) 1 (k .at)) (word 2 e) (λ y es v row. y))
 
-  pub delete-asks : w - actionBase ≡ 3 → Standing k (λ sig. ChangeAt sig (k .ws) 0 (k .at))
+  pub delete-asks : w - actionBase ≡ 3 → Known k (λ sig. ChangeAt sig (k .ws) 0 (k .at))
   delete-asks e = asks (λ sig x. delete-cases sig (k .ws) (k .at) x (λ y n. ChangeAt sig (k .ws) 0 (k .at)) (word 3 e) (λ y. y))
 
-  pub subsume-asks : w - actionBase ≡ 4 → Standing k (λ sig. ChangeAt sig (k .ws) 0 (k .at))
+  pub subsume-asks : w - actionBase ≡ 4 → Known k (λ sig. ChangeAt sig (k .ws) 0 (k .at))
   subsume-asks e = asks (λ sig x. subsume-cases sig (k .ws) (k .at) x (λ y n. ChangeAt sig (k .ws) 0 (k .at)) (word 4 e) (λ y. y))
 
   -- ---- union
 
-  pub union-asks : w - actionBase ≡ 5 → StandingSigned k (λ sig. PairAt sig (k .ws) (k .at))
+  pub union-asks : w - actionBase ≡ 5 → KnownSigned k gs (λ sig. PairAt sig (k .ws) (k .at))
   union-asks e =
       let q = g .known in
       record {
@@ -111,9 +112,9 @@ module _ {k : Given} {w : ℕ} (g : Coded k w) where
       }
 
   pub union-done : {s′ cs′ : List ℕ} {r : Acted} → w - actionBase ≡ 5
-      → ((sig : Sig) (y : PairAt sig (k .ws) (k .at)) (bound : List ℕ) → Counted sig (k .cs) → Scoped sig bound (k .s) (k .scope) → Signed sig (k .gs)
+      → ((sig : Sig) (y : PairAt sig (k .ws) (k .at)) (bound : List ℕ) → Counted sig (k .cs) → Scoped sig bound (k .s) (k .scope) → Signed sig gs
       → Does k sig (lowerUnion sig bound (unionAsSet sig (y .left .value) (y .right .value)) (y .left .value) (y .right .value) (k .cs)) (1 + (y .left .size + y .right .size)) s′ cs′ r)
-      → DoesAction k s′ cs′ r
+      → DoesAction k gs s′ cs′ r
   union-done {s′} {cs′} {r} e does sig x bound n sc sg =
       union-cases sig (k .ws) (k .at) x (λ y i. Does k sig (lowerAction sig bound y (k .cs)) i s′ cs′ r) (word 5 e) (λ y. does sig y bound n sc sg)
 
@@ -123,15 +124,15 @@ module _ {k : Given} {w : ℕ} (g : Coded k w) where
   panic-asks e = let q = g .known in panic-cases (q .sig) (k .ws) (k .at) (q .known .0) (λ y n. k .at + 1 < length (k .ws)) (word 6 e) (λ i. i)
 
   pub panic-done : {s′ cs′ : List ℕ} {r : Acted} → w - actionBase ≡ 6
-      → ((sig : Sig) (bound : List ℕ) → Scoped sig bound (k .s) (k .scope) → Does k sig (lowerAction sig bound (panic′ (second k)) (k .cs)) 2 s′ cs′ r) → DoesAction k s′ cs′ r
+      → ((sig : Sig) (bound : List ℕ) → Scoped sig bound (k .s) (k .scope) → Does k sig (lowerAction sig bound (panic′ (second k)) (k .cs)) 2 s′ cs′ r) → DoesAction k gs s′ cs′ r
   panic-done {s′} {cs′} {r} e does sig x bound n sc sg =
       panic-cases sig (k .ws) (k .at) x (λ y i. Does k sig (lowerAction sig bound y (k .cs)) i s′ cs′ r) (word 6 e) (λ i. does sig bound sc)
 
-  pub expression-asks : w - actionBase ≡ 8 → Standing k (λ sig. ExprAt sig (k .ws) maxDepth (k .at + 1))
+  pub expression-asks : w - actionBase ≡ 8 → Known k (λ sig. ExprAt sig (k .ws) maxDepth (k .at + 1))
   expression-asks e = asks (λ sig x. expression-cases sig (k .ws) (k .at) x (λ y n. ExprAt sig (k .ws) maxDepth (k .at + 1)) (word 8 e) (λ y. y))
 
   pub expression-done : {s′ cs′ : List ℕ} {r : Acted} → w - actionBase ≡ 8
-      → Finishes k (λ sig. ExprAt sig (k .ws) maxDepth (k .at + 1)) (λ sig bound y. lowerAction sig bound (expr′ (y .value)) (k .cs)) (λ sig y. 1 + y .size) s′ cs′ r → DoesAction k s′ cs′ r
+      → Finishes k (λ sig. ExprAt sig (k .ws) maxDepth (k .at + 1)) (λ sig bound y. lowerAction sig bound (expr′ (y .value)) (k .cs)) (λ sig y. 1 + y .size) s′ cs′ r → DoesAction k gs s′ cs′ r
   expression-done {s′} {cs′} {r} e does sig x bound n sc sg =
       expression-cases sig (k .ws) (k .at) x (λ y i. Does k sig (lowerAction sig bound y (k .cs)) i s′ cs′ r) (word 8 e) (λ y. does sig y bound n sc)
 
@@ -143,6 +144,6 @@ module _ {k : Given} {w : ℕ} (g : Coded k w) where
   not-word : (code : ℕ) → Not code → w ≡ actionWord code → ⊥
   not-word code no′ e = no′ (omega arith)
 
-  pub no-code : {s′ cs′ : List ℕ} {r : Acted} → Not 1 → Not 2 → Not 3 → Not 4 → Not 5 → Not 6 → Not 8 → DoesAction k s′ cs′ r
+  pub no-code : {s′ cs′ : List ℕ} {r : Acted} → Not 1 → Not 2 → Not 3 → Not 4 → Not 5 → Not 6 → Not 8 → DoesAction k gs s′ cs′ r
   no-code n1 n2 n3 n4 n5 n6 n8 sig x bound n sc sg =
       absurd (no-other sig (k .ws) (k .at) x w (g .is) (not-word 1 n1) (not-word 2 n2) (not-word 3 n3) (not-word 4 n4) (not-word 5 n5) (not-word 6 n6) (not-word 8 n8))

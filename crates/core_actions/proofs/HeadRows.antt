@@ -16,7 +16,8 @@ use Rattle.core_actions.specs.Lowered.{donePiece}
 use Rattle.core_actions.specs.Acts.{ActionAt, ActionsAt, Acts, Gave, Signed}
 use Rattle.core_actions.specs.declared.scope.Scope.{Scope}
 use Rattle.core_actions.specs.declared.actions.Acted.{Acted}
-use Rattle.core_actions.proofs.Given.{Given, gives, RoomFor, ScopeRoomFor, StandingSigned, DoesAction}
+use Rattle.core_actions.proofs.Sites.{Site, site-of}
+use Rattle.core_actions.proofs.Does.{RoomFor, ScopeRoomFor, KnownSigned, DoesAction}
 use Rattle.core_actions.proofs.Expressions.{standing}
 use Rattle.core_actions.proofs.ReadActions.{action-inside}
 use Rattle.core_actions.proofs.ActionRows.{having, acts-few, Left, left-all, left-none, first-action, left-stop, left-next, left-going}
@@ -51,8 +52,8 @@ module _ (h : Head) where
       → Walked 0 (Gave r) (donePiece (toCoreActions sig bound (x .value) (h .cs))) (x .size) (h .at) (h .to) sp (h .lg) (h .s) (h .cs) s′ cs′ (r .walk)
 
   -- what the next action is given, with these names let
-  abbrev pub turn : ℕ → List ℕ → List ℕ → Walk → Given
-  turn names s1 cs1 w = gives (h .gs) (h .ws) s1 cs1 (w .next) (w .to) (h .scope .first + names) (w .log) (having (h .scope) names)
+  abbrev pub turn : ℕ → List ℕ → List ℕ → Walk → Site
+  turn names s1 cs1 w = site-of (h .ws) s1 cs1 (w .next) (w .to) (h .scope .first + names) (w .log) (having (h .scope) names)
 
 -- between two turns: `left` actions are left, of which the walk makes the whole
 pub record Row (h : Head) (left names count : ℕ) (s1 cs1 : List ℕ) (w : Walk) : Type 0 where
@@ -111,7 +112,7 @@ module _ {h : Head} {left names count : ℕ} {s1 cs1 : List ℕ} {w : Walk} (row
         let q = row .known in
         first-action (q .sig) (q .known .2 .bound) (h .ws) (h .n) (h .at) (h .to) (h .lg) (h .scope) (h .s) (h .cs) left (w .next) (here .rest) some
 
-    pub turn-asks : StandingSigned (turn h names s1 cs1 w) (λ sig. ActionAt sig (h .ws) (w .next))
+    pub turn-asks : KnownSigned (turn h names s1 cs1 w) (h .gs) (λ sig. ActionAt sig (h .ws) (w .next))
     turn-asks =
         let q = row .known in
         record { sig = q .sig; known = (first, counted-kept (q .known .1) (row .counters), record { bound = here .now; scoped = here .scoped }, q .known .3) }
@@ -121,7 +122,7 @@ module _ {h : Head} {left names count : ℕ} {s1 cs1 : List ℕ} {w : Walk} (row
     names-below = omega (arith, turn-room .stack, turn-room .log, action-inside (row .known .sig) (h .ws) (w .next) first, row .scratch, row .fits)
 
     -- it is lowered: a, with s2 and cs2 left behind
-    module _ {s2 cs2 : List ℕ} {a : Acted} (does : DoesAction (turn h names s1 cs1 w) s2 cs2 a) where
+    module _ {s2 cs2 : List ℕ} {a : Acted} (does : DoesAction (turn h names s1 cs1 w) (h .gs) s2 cs2 a) where
       -- one that is refused refuses the row
       pub row-stop : (a .walk .refused ≡ 0 → ⊥) → Answers h s2 cs2 (record { walk = a .walk; names = names; count = count })
       row-stop bad sig x bound n sc sg =

@@ -1,6 +1,5 @@
 -- Laws that the proofs of this crate share with those above it, in reading order.
 pub mod Scopes
-pub mod Given
 pub mod Body
 pub mod Pieces
 pub mod Expressions
@@ -8,6 +7,7 @@ pub mod Arguments
 pub mod Calls
 pub mod Sites
 pub mod Fronts
+pub mod Does
 pub mod Acting
 pub mod Lets
 pub mod Pairs

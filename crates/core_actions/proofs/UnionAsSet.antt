@@ -19,7 +19,8 @@ use Rattle.walks.proofs.Read.{moved, leaf-cases, call-cases}
 use Rattle.core_actions.specs.Acts.{ChangeAt, PairAt, NameCallAt, Signed, setMode, changed, Gave}
 use Rattle.core_actions.specs.Scopes.{Scoped}
 use Rattle.core_actions.specs.declared.actions.Acted.{Acted}
-use Rattle.core_actions.proofs.Given.{Given, RoomFor, ScopeRoomFor, Standing, StandingSigned, Does, Finishes, Changes}
+use Rattle.core_actions.proofs.Sites.{Site, Known}
+use Rattle.core_actions.proofs.Does.{RoomFor, ScopeRoomFor, KnownSigned, Does, Finishes, Changes}
 use Rattle.core_actions.proofs.Acting.{acts-same}
 use Rattle.core_actions.specs.Lowered.{donePiece}
 use Rattle.core_actions.proofs.Pieces.{snoc, done-set-row, SameBound, same-set}
@@ -238,30 +239,30 @@ module _ (sig : Sig) (ws : List ℕ) (few : heads sig ≤ limit12) (at : ℕ) (x
 -- ---- lowering a union, of which it is known whether it becomes a set
 
 -- what the contract says of an answer
-abbrev pub Answers : Given → List ℕ → List ℕ → Acted → Type 0
-Answers k s′ cs′ r =
-    (sig : Sig) (x : PairAt sig (k .ws) (k .at)) (bound : List ℕ) → Counted sig (k .cs) → Scoped sig bound (k .s) (k .scope) → Signed sig (k .gs)
+abbrev pub Answers : List ℕ → Site → List ℕ → List ℕ → Acted → Type 0
+Answers gs k s′ cs′ r =
+    (sig : Sig) (x : PairAt sig (k .ws) (k .at)) (bound : List ℕ) → Counted sig (k .cs) → Scoped sig bound (k .s) (k .scope) → Signed sig gs
     → Does k sig (lowerUnion sig bound (unionAsSet sig (x .left .value) (x .right .value)) (x .left .value) (x .right .value) (k .cs)) (1 + (x .left .size + x .right .size)) s′ cs′ r
 
-pub record Moded (k : Given) (mode : ℕ) : Type 0 where
-  pub known : StandingSigned k (λ sig. PairAt sig (k .ws) (k .at))
+pub record Moded (gs : List ℕ) (k : Site) (mode : ℕ) : Type 0 where
+  pub known : KnownSigned k gs (λ sig. PairAt sig (k .ws) (k .at))
   pub room : RoomFor k
   pub scopeRoom : ScopeRoomFor k
-  pub is : Modes (k .gs) (k .ws) (k .at) mode
+  pub is : Modes gs (k .ws) (k .at) mode
 
-module _ {k : Given} {mode : ℕ} (g : Moded k mode) where
-  asks : {A : Sig → Type 0} → ((sig : Sig) (x : PairAt sig (k .ws) (k .at)) → heads sig ≤ limit12 → Signed sig (k .gs) → A sig) → Standing k A
+module _ {gs : List ℕ} {k : Site} {mode : ℕ} (g : Moded gs k mode) where
+  asks : {A : Sig → Type 0} → ((sig : Sig) (x : PairAt sig (k .ws) (k .at)) → heads sig ≤ limit12 → Signed sig gs → A sig) → Known k A
   asks at = let q = g .known in record { sig = q .sig; known = (at (q .sig) (q .known .0) (q .known .1 .few) (q .known .3), q .known .1, q .known .2) }
 
   -- its left side is the call
   module _ (e : mode ≡ 1) where
-    left : (sig : Sig) (x : PairAt sig (k .ws) (k .at)) (few : heads sig ≤ limit12) → Signed sig (k .gs) → LeftSet sig (k .ws) few (k .at) x
+    left : (sig : Sig) (x : PairAt sig (k .ws) (k .at)) (few : heads sig ≤ limit12) → Signed sig gs → LeftSet sig (k .ws) few (k .at) x
     left sig x few sg = left-is sig (k .ws) few (k .at) x (sym e ∙ g .is sig x few sg)
 
-    pub left-asks : Standing k (λ sig. ChangeAt sig (k .ws) 1 (k .at))
+    pub left-asks : Known k (λ sig. ChangeAt sig (k .ws) 1 (k .at))
     left-asks = asks (λ sig x few sg. left sig x few sg .change)
 
-    pub left-done : {s′ cs′ : List ℕ} {r : Acted} → Changes k (actionWord 2) 1 s′ cs′ r → Answers k s′ cs′ r
+    pub left-done : {s′ cs′ : List ℕ} {r : Acted} → Changes k (actionWord 2) 1 s′ cs′ r → Answers gs k s′ cs′ r
     left-done {s′} {cs′} {r} does sig x bound n sc sg =
         let l = left sig x (n .few) sg in
         let u = lowerUnion sig bound (unionAsSet sig (x .left .value) (x .right .value)) (x .left .value) (x .right .value) (k .cs) in
@@ -273,16 +274,16 @@ module _ {k : Given} {mode : ℕ} (g : Moded k mode) where
 
   -- its right side is
   module _ (e : mode ≡ 2) where
-    right : (sig : Sig) (x : PairAt sig (k .ws) (k .at)) (few : heads sig ≤ limit12) → Signed sig (k .gs) → RightSet sig (k .ws) few (k .at) x
+    right : (sig : Sig) (x : PairAt sig (k .ws) (k .at)) (few : heads sig ≤ limit12) → Signed sig gs → RightSet sig (k .ws) few (k .at) x
     right sig x few sg = right-is sig (k .ws) few (k .at) x (sym e ∙ g .is sig x few sg)
 
-    pub right-asks : Standing k (λ sig. NameCallAt sig (k .ws) (k .at))
+    pub right-asks : Known k (λ sig. NameCallAt sig (k .ws) (k .at))
     right-asks = asks (λ sig x few sg. right sig x few sg .named)
 
     pub right-done : {s′ cs′ : List ℕ} {r : Acted}
         → Finishes k (λ sig. NameCallAt sig (k .ws) (k .at))
         (λ sig bound y. lowerSet sig bound (k .at + 2) (headOf (getD (k .ws) (k .at + 2) 0)) (y .exprs .value) (leaf (k .at + 1) (getD (k .ws) (k .at + 1) 0)) (k .cs))
-        (λ sig y. 3 + y .exprs .size) s′ cs′ r → Answers k s′ cs′ r
+        (λ sig y. 3 + y .exprs .size) s′ cs′ r → Answers gs k s′ cs′ r
     right-done {s′} {cs′} {r} does sig x bound n sc sg =
         let l = right sig x (n .few) sg in
         let u = lowerUnion sig bound (unionAsSet sig (x .left .value) (x .right .value)) (x .left .value) (x .right .value) (k .cs) in
@@ -290,12 +291,12 @@ module _ {k : Given} {mode : ℕ} (g : Moded k mode) where
         (subst (λ (d : Res Done). Does k sig d (3 + l .named .exprs .size) s′ cs′ r) (sym (l .is bound (k .cs))) (does sig (l .named) bound n sc))
 
   -- it stays a union
-  pub stays-asks : Standing k (λ sig. PairAt sig (k .ws) (k .at))
+  pub stays-asks : Known k (λ sig. PairAt sig (k .ws) (k .at))
   stays-asks = asks (λ sig x few sg. x)
 
   pub stays-done : {s′ cs′ : List ℕ} {r : Acted} → (mode ≡ 1 → ⊥) → (mode ≡ 2 → ⊥)
       → Finishes k (λ sig. PairAt sig (k .ws) (k .at)) (λ sig bound y. lowerUnion sig bound none (y .left .value) (y .right .value) (k .cs))
-      (λ sig y. 1 + (y .left .size + y .right .size)) s′ cs′ r → Answers k s′ cs′ r
+      (λ sig y. 1 + (y .left .size + y .right .size)) s′ cs′ r → Answers gs k s′ cs′ r
   stays-done {s′} {cs′} {r} one two does sig x bound n sc sg =
       subst (λ (o : Option AsSet). Does k sig (lowerUnion sig bound o (x .left .value) (x .right .value) (k .cs)) (1 + (x .left .size + x .right .size)) s′ cs′ r)
       (sym (stays sig (x .left .value) (x .right .value) mode (g .is sig x (n .few) sg) one two)) (does sig x bound n sc)

@@ -2,7 +2,7 @@
 -- Assumes nothing.
 use native.Mathlib.Omega.{arith}
 use Rattle.octets.specs.Words.{words}
-use Rattle.core_actions.proofs.Given.{Given, gives}
+use Rattle.core_actions.proofs.Sites.{Site, site-of}
 use Rattle.core_actions.proofs.ReadActions.{action-inside}
 use Rattle.core_actions.proofs.ByCode.{Coded, coded, let-asks, let-done, set-asks, set-done, delete-asks, delete-done, subsume-asks, subsume-done}
 use Rattle.core_actions.proofs.ByCode.{union-asks, union-done, panic-asks, panic-done, expression-asks, expression-done, no-code}
@@ -12,22 +12,22 @@ use Rattle.core_actions.proofs.lower_action.Tie as tie
 
 -- ---- its word
 
-abbrev given : tie.Start → Given
-given c =
+abbrev site : tie.Start → Site
+site c =
     let a = c .args in
-    gives (words (a .signature .now)) (words (a .rule .now)) (words (a .scratch .now)) (words (a .counters .now)) (a .at) (a .to) (a .sp) (a .log) (a .scope)
+    site-of (words (a .rule .now)) (words (a .scratch .now)) (words (a .counters .now)) (a .at) (a .to) (a .sp) (a .log) (a .scope)
 
 abbrev start : tie.After-get → tie.Start
 start c = c .before .before .before .before .before
 
 -- the word is read
-at-get : (c : tie.After-get) → Coded (given (start c)) (c .get .result)
+at-get : (c : tie.After-get) → Coded (words (start c .args .signature .now)) (site (start c)) (c .get .result)
 at-get c = let p = start c .pre in coded (p .0) (p .1 .0) (p .1 .1 .0) (p .1 .1 .1) (c .get .ensures .is)
 
 get-requires : tie.Need-get-requires
 get-requires c κs =
     let s = c .before .before .before .before in
-    action-inside (s .pre .0 .sig) (given s .ws) (given s .at) (s .pre .0 .known .0)
+    action-inside (s .pre .0 .sig) (site s .ws) (site s .at) (s .pre .0 .known .0)
 
 sub-code : tie.Need-sub-code
 sub-code c = omega (arith, at-get c)

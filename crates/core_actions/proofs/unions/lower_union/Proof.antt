@@ -2,22 +2,22 @@
 -- Assumes nothing.
 use native.Mathlib.Omega.{arith}
 use Rattle.octets.specs.Words.{words}
-use Rattle.core_actions.proofs.Given.{Given, gives}
+use Rattle.core_actions.proofs.Sites.{Site, site-of}
 use Rattle.core_actions.proofs.UnionAsSet.{Moded, left-asks, left-done, right-asks, right-done, stays-asks, stays-done}
 use borrow.Author.Needs.{needs}
 use Rattle.core_actions.proofs.unions.lower_union.Statement.{statement}
 use Rattle.core_actions.proofs.unions.lower_union.Tie as tie
 
-abbrev given : tie.Start → Given
-given c =
+abbrev site : tie.Start → Site
+site c =
     let a = c .args in
-    gives (words (a .signature .now)) (words (a .rule .now)) (words (a .scratch .now)) (words (a .counters .now)) (a .at) (a .to) (a .sp) (a .log) (a .scope)
+    site-of (words (a .rule .now)) (words (a .scratch .now)) (words (a .counters .now)) (a .at) (a .to) (a .sp) (a .log) (a .scope)
 
 abbrev start : tie.After-as-set → tie.Start
 start c = c .before .before .before .before .before
 
 -- it is known whether it becomes a set
-at-mode : (c : tie.After-as-set) → Moded (given (start c)) (c .as-set .result)
+at-mode : (c : tie.After-as-set) → Moded (words (start c .args .signature .now)) (site (start c)) (c .as-set .result)
 at-mode c = let p = start c .pre in record { known = p .0; room = p .1 .0; scopeRoom = p .1 .1; is = c .as-set .ensures }
 
 as-set-requires : tie.Need-as-set-requires

@@ -1,5 +1,5 @@
--- What a walk over the head is given: words, a place to read from, and places to write to. The parts of its contract that every walk's contract
--- has are named here once. Assumes nothing.
+-- What the contracts of the walks over actions say, in names: what stands at a site, what is done there, and what a row of expressions leaves.
+-- Assumes nothing.
 use mathlib.Core.Path.{_≡_}
 use mathlib.Core.List.{List}
 use Prim.Native.Nat.{ℕ, _+_}
@@ -11,38 +11,19 @@ use Rattle.rules.specs.ToCoreActions.{Done, lowerAction}
 use Rattle.walks.specs.Steps.{Walked, Room, Under, Counted}
 use Rattle.core_actions.specs.Scopes.{Scoped, ScopeRoom, Names}
 use Rattle.core_actions.specs.Acts.{ActionAt, ChangeAt, changed, Gave, Acts, Signed}
-use Rattle.core_actions.specs.declared.scope.Scope.{Scope}
 use Rattle.core_actions.specs.declared.actions.Acted.{Acted}
+use Rattle.core_actions.proofs.Sites.{Site}
 
--- the words of the signature, the rule, the scratch and the counters, and where it reads and writes
-pub record Given : Type 0 where
-  pub gs : List ℕ
-  pub ws : List ℕ
-  pub s : List ℕ
-  pub cs : List ℕ
-  pub at : ℕ
-  pub to : ℕ
-  pub sp : ℕ
-  pub lg : ℕ
-  pub scope : Scope
-
-abbrev pub gives : (gs ws s cs : List ℕ) (at to sp lg : ℕ) → Scope → Given
-gives gs ws s cs at to sp lg scope = record { gs = gs; ws = ws; s = s; cs = cs; at = at; to = to; sp = sp; lg = lg; scope = scope }
-
-module _ (k : Given) where
+module _ (k : Site) where
   abbrev pub RoomFor : Type 0
   RoomFor = Room (length (k .ws)) (k .at) (k .to) (k .sp) (k .lg) (length (k .s))
 
   abbrev pub ScopeRoomFor : Type 0
   ScopeRoomFor = ScopeRoom (length (k .ws)) (k .at) (k .to) (k .sp) (k .scope)
 
-  -- a signature under which A stands there
-  abbrev pub Standing : (Sig → Type 0) → Type 0
-  Standing A = Under (λ sig. A sig × Counted sig (k .cs) × Names sig (k .s) (k .scope))
-
-  -- and which the signature's words say
-  abbrev pub StandingSigned : (Sig → Type 0) → Type 0
-  StandingSigned A = Under (λ sig. A sig × Counted sig (k .cs) × Names sig (k .s) (k .scope) × Signed sig (k .gs))
+  -- a signature under which A stands there, and which the words gs say
+  abbrev pub KnownSigned : List ℕ → (Sig → Type 0) → Type 0
+  KnownSigned gs A = Under (λ sig. A sig × Counted sig (k .cs) × Names sig (k .s) (k .scope) × Signed sig gs)
 
   -- n words were read, and x is done
   abbrev pub Does : Sig → Res Done → ℕ → List ℕ → List ℕ → Acted → Type 0
@@ -72,7 +53,7 @@ module _ (k : Given) where
       × ((sig : Sig) (y : ChangeAt sig (k .ws) more (k .at)) (bound : List ℕ) → Counted sig (k .cs) → Scoped sig bound (k .s) (k .scope) → RowWalk sig bound code more y s′ cs′ r)
 
   -- what the contract of `lower_action` says of an answer
-  abbrev pub DoesAction : List ℕ → List ℕ → Acted → Type 0
-  DoesAction s′ cs′ r =
-      (sig : Sig) (x : ActionAt sig (k .ws) (k .at)) (bound : List ℕ) → Counted sig (k .cs) → Scoped sig bound (k .s) (k .scope) → Signed sig (k .gs)
+  abbrev pub DoesAction : (gs s′ cs′ : List ℕ) → Acted → Type 0
+  DoesAction gs s′ cs′ r =
+      (sig : Sig) (x : ActionAt sig (k .ws) (k .at)) (bound : List ℕ) → Counted sig (k .cs) → Scoped sig bound (k .s) (k .scope) → Signed sig gs
       → Does sig (lowerAction sig bound (x .value) (k .cs)) (x .size) s′ cs′ r
