@@ -1,3 +1,4 @@
+-- Whether a name is bound: a word below the first variable only among the names let, any other where the scope has it. Assumes nothing.
 use mathlib.Core.Path.{sym, _∙_}
 use Rattle.octets.specs.Regions.{part}
 use Rattle.octets.specs.Words.{words}
@@ -5,10 +6,6 @@ use Rattle.meaning.proofs.Lists.{in-elem}
 use borrow.Author.Needs.{needs}
 use Rattle.core_actions.proofs.scope.taken.Statement.{statement}
 use Rattle.core_actions.proofs.scope.taken.Tie as tie
-use Rattle.core_actions.proofs.scope.taken.Reads as reads
-use Rattle.core_actions.proofs.scope.taken.Lts as lts
-use Rattle.octets.proofs.regions.among.Reads as among-reads
-use Rattle.core_actions.proofs.scope.has.Reads as has-reads
 
 add-if1 : tie.Need-add-if1
 add-if1 c = search needs
@@ -25,9 +22,7 @@ has-requires : tie.Need-has-requires
 has-requires c κs = search needs
 
 returns-2 : tie.Need-returns-2
-returns-2 c =
-    let a = c .before .before .before .before .args in
-    λ sig bound x old. c .has .ensures ∙ sym (x .variables (a .w) (c .before .if1 .left) old)
+returns-2 c = λ sig bound x old. c .has .ensures ∙ sym (x .variables _ (c .before .if1 .left) old)
 
 pub taken-spec : {M : Type 1} → statement M
 taken-spec = tie.close (tie.spec add-if1 among-requires returns has-requires returns-2)

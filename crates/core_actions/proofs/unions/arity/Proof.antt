@@ -1,3 +1,4 @@
+-- How many expressions stand under a word: a call's word counts them, and a leaf has none. Assumes nothing.
 use mathlib.Core.Path.{sym, ap}
 use mathlib.Core.Bool.{Bool, cond}
 use native.Mathlib.Omega.{arith}
@@ -6,8 +7,6 @@ use Rattle.rules.specs.Words.{literalBase, countOf}
 use borrow.Author.Needs.{needs}
 use Rattle.core_actions.proofs.unions.arity.Statement.{statement}
 use Rattle.core_actions.proofs.unions.arity.Tie as tie
-use Rattle.core_actions.proofs.unions.arity.Reads as reads
-use Rattle.core_actions.proofs.unions.arity.Lts as lts
 
 sub-result : tie.Need-sub-result
 sub-result c = omega (arith, c .before .pre)
