@@ -8,10 +8,12 @@ use native.Mathlib.Omega.{arith}
 use lib.Dec.{ltb, eqb}
 use lib.ListN.{length, getD}
 use borrow.Author.Tests.{ltb-true, ltb-false, lt-ltb, ne-eqb}
-use Rattle.rules.specs.Words.{limit12, limit16, maxDepth, nameBase, headBase, actionBase, actionWord, headOf, countOf, isNameWord, isLiteralWord, isHeadWord, Code, aLet, aSet, aDelete, aSubsume, aUnion, aPanic, aCall, anExpression, noCode, codeOf}
-use Rattle.rules.specs.Refusals.{ok, unfit}
+use Rattle.rules.specs.Words.{limit12, limit16, maxDepth, nameBase, headBase, actionBase, actionWord, headOf, countOf, isNameWord, isLiteralWord, isHeadWord}
+use Rattle.rules.specs.Words.{Code, aLet, aSet, aDelete, aSubsume, aUnion, aPanic, aCall, anExpression, noCode, codeOf}
+use Rattle.rules.specs.Refusals.{ok, _>>=_, unfit}
 use Rattle.rules.specs.Signature.{Sig, heads}
-use Rattle.rules.specs.Written.{Expr, Exprs, Action, let′, set′, delete′, subsume′, union′, panic′, expr′, Read, Target, readWord, readMany, readExpr, readTarget, readCode, codeAt, readAction}
+use Rattle.rules.specs.Written.{Expr, Exprs, Action, let′, set′, delete′, subsume′, union′, panic′, expr′}
+use Rattle.rules.specs.Written.{Read, Reader, Target, readWord, readMany, readExpr, readTarget, readCode, codeAt, readAction}
 use Rattle.meaning.proofs.Results.{bind-ok, ok-inj, refuse-ok, demand-ok}
 use Rattle.meaning.proofs.Lists.{and-left, and-right}
 use Rattle.meaning.proofs.Reading.{within-low, within-high, head-below, expr-reads}
@@ -40,101 +42,61 @@ word-read ws fits p r e =
     }
 
 module _ (sig : Sig) (ws : List ℕ) where
-  -- ---- forward
+  -- ---- a reader goes on, and not past the end
 
-  target-on : (p : ℕ) (r : Read Target) → readTarget sig ws p ≡ ok r → p ≤ r .at
-  target-on p r e =
+  abbrev Moves : {A : Type 0} → Reader A → Type 0
+  Moves {A} one = (p : ℕ) (r : Read A) → one p ≡ ok r → (p ≤ r .at) × (r .at ≤ length ws)
+
+  word-moves : (fits : ℕ → Bool) → Moves (readWord ws fits)
+  word-moves fits p r e = let i = word-read ws fits p r e in (omega (arith, i .next), omega (arith, i .next, i .inside))
+
+  expr-moves : Moves (readExpr sig ws maxDepth)
+  expr-moves p r e = let i = expr-reads sig ws maxDepth p r e in (omega (arith, i .on), i .inside)
+
+  target-moves : Moves (readTarget sig ws)
+  target-moves p r e =
       let w = bind-ok (readWord ws (isHeadWord (heads sig)) p) _ r e in
       let es = bind-ok (readMany (readExpr sig ws maxDepth) (countOf (w .0 .value)) (w .0 .at)) _ r (w .2) in
-      let i = word-read ws (isHeadWord (heads sig)) p (w .0) (w .1) .next in
-      let j = exprs-on sig ws maxDepth (countOf (w .0 .value)) (w .0 .at) (es .0) (es .1) in
-      subst (λ (x : Read Target). p ≤ x .at) (ok-inj _ _ (es .2)) (omega arith)
+      let i = word-moves (isHeadWord (heads sig)) p (w .0) (w .1) in
+      let on = exprs-on sig ws maxDepth (countOf (w .0 .value)) (w .0 .at) (es .0) (es .1) in
+      let ends = many-inside (readExpr sig ws maxDepth) (length ws) (λ q x h. expr-moves q x h .1) (countOf (w .0 .value)) (w .0 .at) (es .0) (i .1) (es .1) in
+      subst (λ (x : Read Target). (p ≤ x .at) × (x .at ≤ length ws)) (ok-inj _ _ (es .2)) (omega (arith, i .0), ends)
 
-  code-on : (p : ℕ) (c : Code) (q : ℕ) (r : Read Action) → readCode sig ws p c q ≡ ok r → q ≤ r .at
-  code-on p aLet q r e =
-      let x = bind-ok (readWord ws isNameWord q) _ r e in
-      let a = bind-ok (readExpr sig ws maxDepth (x .0 .at)) _ r (x .2) in
-      let i = word-read ws isNameWord q (x .0) (x .1) .next in
-      let j = expr-reads sig ws maxDepth (x .0 .at) (a .0) (a .1) .on in
-      subst (λ (y : Read Action). q ≤ y .at) (ok-inj _ _ (a .2)) (omega arith)
-  code-on p aSet q r e =
-      let x = bind-ok (readTarget sig ws q) _ r e in
-      let a = bind-ok (readExpr sig ws maxDepth (x .0 .at)) _ r (x .2) in
-      let i = target-on q (x .0) (x .1) in
-      let j = expr-reads sig ws maxDepth (x .0 .at) (a .0) (a .1) .on in
-      subst (λ (y : Read Action). q ≤ y .at) (ok-inj _ _ (a .2)) (omega arith)
-  code-on p aDelete q r e =
-      let x = bind-ok (readTarget sig ws q) _ r e in
-      subst (λ (y : Read Action). q ≤ y .at) (ok-inj _ _ (x .2)) (target-on q (x .0) (x .1))
-  code-on p aSubsume q r e =
-      let x = bind-ok (readTarget sig ws q) _ r e in
-      subst (λ (y : Read Action). q ≤ y .at) (ok-inj _ _ (x .2)) (target-on q (x .0) (x .1))
-  code-on p aUnion q r e =
-      let a = bind-ok (readExpr sig ws maxDepth q) _ r e in
-      let b = bind-ok (readExpr sig ws maxDepth (a .0 .at)) _ r (a .2) in
-      let i = expr-reads sig ws maxDepth q (a .0) (a .1) .on in
-      let j = expr-reads sig ws maxDepth (a .0 .at) (b .0) (b .1) .on in
-      subst (λ (y : Read Action). q ≤ y .at) (ok-inj _ _ (b .2)) (omega arith)
-  code-on p aPanic q r e =
-      let x = bind-ok (readWord ws isLiteralWord q) _ r e in
-      let i = word-read ws isLiteralWord q (x .0) (x .1) .next in
-      subst (λ (y : Read Action). q ≤ y .at) (ok-inj _ _ (x .2)) (omega arith)
-  code-on p anExpression q r e =
-      let a = bind-ok (readExpr sig ws maxDepth q) _ r e in
-      let i = expr-reads sig ws maxDepth q (a .0) (a .1) .on in
-      subst (λ (y : Read Action). q ≤ y .at) (ok-inj _ _ (a .2)) (omega arith)
-  code-on p aCall q r e = absurd (refuse-ok unfit p r e)
-  code-on p noCode q r e = absurd (refuse-ok unfit p r e)
+  -- what is made of one reading, and of one behind another
+  made-moves : {A : Type 0} (one : Reader A) (f : Read A → Action) → Moves one → Moves (λ q. _>>=_ (one q) (λ x. ok (record { value = f x; at = x .at })))
+  made-moves one f m p r e =
+      let x = bind-ok (one p) _ r e in
+      subst (λ (y : Read Action). (p ≤ y .at) × (y .at ≤ length ws)) (ok-inj _ _ (x .2)) (m p (x .0) (x .1))
+
+  both-moves : {A B : Type 0} (one : Reader A) (two : Reader B) (f : Read A → Read B → Action) → Moves one → Moves two
+      → Moves (λ q. _>>=_ (one q) (λ x. _>>=_ (two (x .at)) (λ y. ok (record { value = f x y; at = y .at }))))
+  both-moves one two f m n p r e =
+      let x = bind-ok (one p) _ r e in
+      let y = bind-ok (two (x .0 .at)) _ r (x .2) in
+      let i = m p (x .0) (x .1) in
+      let j = n (x .0 .at) (y .0) (y .1) in
+      subst (λ (z : Read Action). (p ≤ z .at) × (z .at ≤ length ws)) (ok-inj _ _ (y .2)) (omega (arith, i .0, j .0), j .1)
+
+  code-moves : (p : ℕ) (c : Code) → Moves (readCode sig ws p c)
+  code-moves p aLet = both-moves (readWord ws isNameWord) (readExpr sig ws maxDepth) (λ x y. let′ p (x .value) (y .value)) (word-moves isNameWord) expr-moves
+  code-moves p aSet =
+      both-moves (readTarget sig ws) (readExpr sig ws maxDepth) (λ t y. set′ (t .value .place) (t .value .head) (t .value .args) (y .value)) target-moves expr-moves
+  code-moves p aDelete = made-moves (readTarget sig ws) (λ t. delete′ (t .value .place) (t .value .head) (t .value .args)) target-moves
+  code-moves p aSubsume = made-moves (readTarget sig ws) (λ t. subsume′ (t .value .place) (t .value .head) (t .value .args)) target-moves
+  code-moves p aUnion = both-moves (readExpr sig ws maxDepth) (readExpr sig ws maxDepth) (λ x y. union′ (x .value) (y .value)) expr-moves expr-moves
+  code-moves p aPanic = made-moves (readWord ws isLiteralWord) (λ x. panic′ (x .value)) (word-moves isLiteralWord)
+  code-moves p anExpression = made-moves (readExpr sig ws maxDepth) (λ x. expr′ (x .value)) expr-moves
+  code-moves p aCall = λ q r e. absurd (refuse-ok unfit p r e)
+  code-moves p noCode = λ q r e. absurd (refuse-ok unfit p r e)
 
   forward : (p : ℕ) (r : Read Action) → readAction sig ws p ≡ ok r → p < r .at
-  forward p r e = omega (arith, code-on p (codeAt ws p) (suc p) r e)
+  forward p r e = omega (arith, code-moves p (codeAt ws p) (suc p) r e .0)
 
   pub action-on : (p : ℕ) (r : Read Action) → readAction sig ws p ≡ ok r → p ≤ r .at
   action-on p r e = omega (arith, forward p r e)
 
-  -- ---- inside
-
-  target-ends : (p : ℕ) (r : Read Target) → readTarget sig ws p ≡ ok r → r .at ≤ length ws
-  target-ends p r e =
-      let w = bind-ok (readWord ws (isHeadWord (heads sig)) p) _ r e in
-      let es = bind-ok (readMany (readExpr sig ws maxDepth) (countOf (w .0 .value)) (w .0 .at)) _ r (w .2) in
-      let i = word-read ws (isHeadWord (heads sig)) p (w .0) (w .1) in
-      let j = i .next in
-      let k = i .inside in
-      subst (λ (x : Read Target). x .at ≤ length ws) (ok-inj _ _ (es .2))
-      (many-inside (readExpr sig ws maxDepth) (length ws) (λ q x h. expr-reads sig ws maxDepth q x h .inside) (countOf (w .0 .value)) (w .0 .at) (es .0) (omega arith) (es .1))
-
-  code-ends : (p : ℕ) (c : Code) (q : ℕ) (r : Read Action) → readCode sig ws p c q ≡ ok r → r .at ≤ length ws
-  code-ends p aLet q r e =
-      let x = bind-ok (readWord ws isNameWord q) _ r e in
-      let a = bind-ok (readExpr sig ws maxDepth (x .0 .at)) _ r (x .2) in
-      subst (λ (y : Read Action). y .at ≤ length ws) (ok-inj _ _ (a .2)) (expr-reads sig ws maxDepth (x .0 .at) (a .0) (a .1) .inside)
-  code-ends p aSet q r e =
-      let x = bind-ok (readTarget sig ws q) _ r e in
-      let a = bind-ok (readExpr sig ws maxDepth (x .0 .at)) _ r (x .2) in
-      subst (λ (y : Read Action). y .at ≤ length ws) (ok-inj _ _ (a .2)) (expr-reads sig ws maxDepth (x .0 .at) (a .0) (a .1) .inside)
-  code-ends p aDelete q r e =
-      let x = bind-ok (readTarget sig ws q) _ r e in
-      subst (λ (y : Read Action). y .at ≤ length ws) (ok-inj _ _ (x .2)) (target-ends q (x .0) (x .1))
-  code-ends p aSubsume q r e =
-      let x = bind-ok (readTarget sig ws q) _ r e in
-      subst (λ (y : Read Action). y .at ≤ length ws) (ok-inj _ _ (x .2)) (target-ends q (x .0) (x .1))
-  code-ends p aUnion q r e =
-      let a = bind-ok (readExpr sig ws maxDepth q) _ r e in
-      let b = bind-ok (readExpr sig ws maxDepth (a .0 .at)) _ r (a .2) in
-      subst (λ (y : Read Action). y .at ≤ length ws) (ok-inj _ _ (b .2)) (expr-reads sig ws maxDepth (a .0 .at) (b .0) (b .1) .inside)
-  code-ends p aPanic q r e =
-      let x = bind-ok (readWord ws isLiteralWord q) _ r e in
-      let i = word-read ws isLiteralWord q (x .0) (x .1) in
-      subst (λ (y : Read Action). y .at ≤ length ws) (ok-inj _ _ (x .2)) (omega (arith, i .next, i .inside))
-  code-ends p anExpression q r e =
-      let a = bind-ok (readExpr sig ws maxDepth q) _ r e in
-      subst (λ (y : Read Action). y .at ≤ length ws) (ok-inj _ _ (a .2)) (expr-reads sig ws maxDepth q (a .0) (a .1) .inside)
-  code-ends p aCall q r e = absurd (refuse-ok unfit p r e)
-  code-ends p noCode q r e = absurd (refuse-ok unfit p r e)
-
   pub action-ends : (p : ℕ) (r : Read Action) → readAction sig ws p ≡ ok r → r .at ≤ length ws
-  action-ends p r e = code-ends p (codeAt ws p) (suc p) r e
+  action-ends p r e = code-moves p (codeAt ws p) (suc p) r e .1
 
   -- ---- by its code
 
@@ -151,12 +113,24 @@ module _ (sig : Sig) (ws : List ℕ) where
         subst (λ (d : Code). readCode sig ws at d (suc at) ≡ ok (record { value = x .value; at = at + x .size })) here (x .reads)
 
     -- a word that is none of the codes that are written
-    pub no-other : (w : ℕ) → w ≡ getD ws at 0 → (w ≡ actionWord 1 → ⊥) → (w ≡ actionWord 2 → ⊥) → (w ≡ actionWord 3 → ⊥) → (w ≡ actionWord 4 → ⊥) → (w ≡ actionWord 5 → ⊥) → (w ≡ actionWord 6 → ⊥)
-        → (w ≡ actionWord 8 → ⊥) → ⊥
+    abbrev Not : ℕ → ℕ → Type 0
+    Not w code = w ≡ actionWord code → ⊥
+
+    pub no-other : (w : ℕ) → w ≡ getD ws at 0 → Not w 1 → Not w 2 → Not w 3 → Not w 4 → Not w 5 → Not w 6 → Not w 8 → ⊥
     no-other w is n1 n2 n3 n4 n5 n6 n8 = go (eqb w (actionWord 7)) refl
       where
         code : (b : Bool) → eqb w (actionWord 7) ≡ b → codeOf w ≡ cond b aCall noCode
-        code b e = rw (ne-eqb w (actionWord 1) n1, ne-eqb w (actionWord 2) n2, ne-eqb w (actionWord 3) n3, ne-eqb w (actionWord 4) n4, ne-eqb w (actionWord 5) n5, ne-eqb w (actionWord 6) n6, ne-eqb w (actionWord 8) n8, e)
+        code b e =
+            rw (
+              ne-eqb w (actionWord 1) n1,
+              ne-eqb w (actionWord 2) n2,
+              ne-eqb w (actionWord 3) n3,
+              ne-eqb w (actionWord 4) n4,
+              ne-eqb w (actionWord 5) n5,
+              ne-eqb w (actionWord 6) n6,
+              ne-eqb w (actionWord 8) n8,
+              e,
+            )
 
         go : (b : Bool) → eqb w (actionWord 7) ≡ b → ⊥
         go true e = refuse-ok unfit at _ (coded aCall (ap codeOf (sym is) ∙ code true e))
@@ -208,7 +182,8 @@ module _ (sig : Sig) (ws : List ℕ) where
           let is = ok-inj _ _ (es .2) in
           let fin : es .0 .at ≡ t .at = ap (λ (x : Read Target). x .at) is in
           let count : countOf (w .0 .value) ≡ countOf (getD ws (at + 1) 0) + 0 = ap countOf name ∙ plus (countOf (getD ws (at + 1) 0)) in
-          let reads : readMany (readExpr sig ws maxDepth) (countOf (getD ws (at + 1) 0) + 0) (at + 2) ≡ ok (es .0) = (λ i. readMany (readExpr sig ws maxDepth) (sym count i) (sym two i)) ∙ es .1 in
+          let reads : readMany (readExpr sig ws maxDepth) (countOf (getD ws (at + 1) 0) + 0) (at + 2) ≡ ok (es .0) =
+          (λ i. readMany (readExpr sig ws maxDepth) (sym count i) (sym two i)) ∙ es .1 in
           let y = exprs-at sig ws maxDepth (countOf (getD ws (at + 1) 0) + 0) (at + 2) (es .0) reads (omega arith) in
           let on = exprs-on sig ws maxDepth (countOf (getD ws (at + 1) 0) + 0) (at + 2) (es .0) reads in
           let low = within-low headBase (heads sig * limit16) (getD ws (suc at) 0) (r .passed) in
@@ -225,7 +200,8 @@ module _ (sig : Sig) (ws : List ℕ) where
           plus n = omega arith
 
       pub set-cases : getD ws at 0 ≡ actionWord 2
-          → ((y : ChangeAt sig ws 1 at) (es : Exprs) (e : Expr) → y .exprs .value ≡ snoc es e → P (set′ (at + 1) (headOf (getD ws (at + 1) 0)) es e) (2 + y .exprs .size)) → P (x .value) (x .size)
+          → ((y : ChangeAt sig ws 1 at) (es : Exprs) (e : Expr) → y .exprs .value ≡ snoc es e
+          → P (set′ (at + 1) (headOf (getD ws (at + 1) 0)) es e) (2 + y .exprs .size)) → P (x .value) (x .size)
       set-cases e k =
           let c = coded aSet (ap codeOf e) in
           let t = bind-ok (readTarget sig ws (suc at)) _ _ c in
@@ -235,7 +211,8 @@ module _ (sig : Sig) (ws : List ℕ) where
         where
           fin : (t : Read Target) (a : Read Expr) → readExpr sig ws maxDepth (t .at) ≡ ok a
               → _≡_ {A = Read Action} (record { value = set′ (t .value .place) (t .value .head) (t .value .args) (a .value); at = a .at }) (record { value = x .value; at = at + x .size })
-              → (y : ChangeAt sig ws 0 at) → record { place = at + 1; head = headOf (getD ws (at + 1) 0); args = y .exprs .value } ≡ t .value → at + 2 + y .exprs .size ≡ t .at → P (x .value) (x .size)
+              → (y : ChangeAt sig ws 0 at) → record { place = at + 1; head = headOf (getD ws (at + 1) 0); args = y .exprs .value } ≡ t .value
+              → at + 2 + y .exprs .size ≡ t .at → P (x .value) (x .size)
           fin t a e is y et en =
               let n : ℕ = countOf (getD ws (at + 1) 0) in
               let zero′ : n + 0 ≡ n = omega arith in
@@ -261,31 +238,32 @@ module _ (sig : Sig) (ws : List ℕ) where
               ends is (2 + size) (omega arith)
               (subst (λ (u : Target). P (set′ (u .place) (u .head) (u .args) (a .value)) (2 + size)) et (k z (y .exprs .value) (a .value) refl))
 
-      pub delete-cases : getD ws at 0 ≡ actionWord 3 → ((y : ChangeAt sig ws 0 at) → P (delete′ (at + 1) (headOf (getD ws (at + 1) 0)) (y .exprs .value)) (2 + y .exprs .size)) → P (x .value) (x .size)
-      delete-cases e k =
-          let c = coded aDelete (ap codeOf e) in
-          let t = bind-ok (readTarget sig ws (suc at)) _ _ c in
+      -- a delete or a subsume, C, is what is made of its kind 3 word and its arguments
+      change-cases : (C : ℕ → ℕ → Exprs → Action)
+          → _>>=_ {B = Read Action} (readTarget sig ws (suc at)) (λ t. ok (record { value = C (t .value .place) (t .value .head) (t .value .args); at = t .at }))
+          ≡ ok (record { value = x .value; at = at + x .size })
+          → ((y : ChangeAt sig ws 0 at) → P (C (at + 1) (headOf (getD ws (at + 1) 0)) (y .exprs .value)) (2 + y .exprs .size)) → P (x .value) (x .size)
+      change-cases C e k =
+          let t = bind-ok (readTarget sig ws (suc at)) _ _ e in
           let is = ok-inj _ _ (t .2) in
           let n : t .0 .at ≡ at + x .size = ap (λ (r : Read Action). r .at) is in
           target-at (t .0) (t .1) (omega (arith, x .inside)) (P (x .value) (x .size))
-          (λ y et en. ends is (2 + y .exprs .size) (sum (y .exprs .size) (t .0 .at) en) (subst (λ (u : Target). P (delete′ (u .place) (u .head) (u .args)) (2 + y .exprs .size)) et (k y)))
+          (λ y et en. ends is (2 + y .exprs .size) (sum (y .exprs .size) (t .0 .at) en)
+          (subst (λ (u : Target). P (C (u .place) (u .head) (u .args)) (2 + y .exprs .size)) et (k y)))
         where
           sum : (n e : ℕ) → at + 2 + n ≡ e → at + (2 + n) ≡ e
           sum n e h = omega arith
 
-      pub subsume-cases : getD ws at 0 ≡ actionWord 4 → ((y : ChangeAt sig ws 0 at) → P (subsume′ (at + 1) (headOf (getD ws (at + 1) 0)) (y .exprs .value)) (2 + y .exprs .size)) → P (x .value) (x .size)
-      subsume-cases e k =
-          let c = coded aSubsume (ap codeOf e) in
-          let t = bind-ok (readTarget sig ws (suc at)) _ _ c in
-          let is = ok-inj _ _ (t .2) in
-          let n : t .0 .at ≡ at + x .size = ap (λ (r : Read Action). r .at) is in
-          target-at (t .0) (t .1) (omega (arith, x .inside)) (P (x .value) (x .size))
-          (λ y et en. ends is (2 + y .exprs .size) (sum (y .exprs .size) (t .0 .at) en) (subst (λ (u : Target). P (subsume′ (u .place) (u .head) (u .args)) (2 + y .exprs .size)) et (k y)))
-        where
-          sum : (n e : ℕ) → at + 2 + n ≡ e → at + (2 + n) ≡ e
-          sum n e h = omega arith
+      pub delete-cases : getD ws at 0 ≡ actionWord 3
+          → ((y : ChangeAt sig ws 0 at) → P (delete′ (at + 1) (headOf (getD ws (at + 1) 0)) (y .exprs .value)) (2 + y .exprs .size)) → P (x .value) (x .size)
+      delete-cases e = change-cases delete′ (coded aDelete (ap codeOf e))
 
-      pub union-cases : getD ws at 0 ≡ actionWord 5 → ((y : PairAt sig ws at) → P (union′ (y .left .value) (y .right .value)) (1 + (y .left .size + y .right .size))) → P (x .value) (x .size)
+      pub subsume-cases : getD ws at 0 ≡ actionWord 4
+          → ((y : ChangeAt sig ws 0 at) → P (subsume′ (at + 1) (headOf (getD ws (at + 1) 0)) (y .exprs .value)) (2 + y .exprs .size)) → P (x .value) (x .size)
+      subsume-cases e = change-cases subsume′ (coded aSubsume (ap codeOf e))
+
+      pub union-cases : getD ws at 0 ≡ actionWord 5
+          → ((y : PairAt sig ws at) → P (union′ (y .left .value) (y .right .value)) (1 + (y .left .size + y .right .size))) → P (x .value) (x .size)
       union-cases e k =
           let c = coded aUnion (ap codeOf e) in
           let a = bind-ok (readExpr sig ws maxDepth (suc at)) _ _ c in
