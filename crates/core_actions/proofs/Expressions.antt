@@ -28,7 +28,8 @@ use Rattle.core_actions.proofs.Pieces.{callPiece, lowered-leaf, lowered
 
 -- ---- the scope on the way through a row
 
-pub scope-room : {at to sp lg top : ℕ} {s cs s1 cs1 : List ℕ} {w : Walk} {c : Scope} (n : ℕ) → ScopeRoom n at to sp c → Going at to sp lg s cs top s1 cs1 w → ScopeRoom n (w .next) (w .to) top c
+pub scope-room : {at to sp lg top : ℕ} {s cs s1 cs1 : List ℕ} {w : Walk} {c : Scope} (n : ℕ) → ScopeRoom n at to sp c
+    → Going at to sp lg s cs top s1 cs1 w → ScopeRoom n (w .next) (w .to) top c
 scope-room n r g =
     let a = g .next in
     record {
@@ -38,8 +39,8 @@ scope-room n r g =
       top = omega (arith, r .top, g .stack);
     }
 
-pub scope-going : {at to sp lg top : ℕ} {s cs s1 cs1 : List ℕ} {w : Walk} {c : Scope} {sig : Sig} {bound : List ℕ} (n : ℕ) → ScopeRoom n at to sp c → Going at to sp lg s cs top s1 cs1 w → w .next ≤ n
-    → Scoped sig bound s c → Scoped sig bound s1 c
+pub scope-going : {at to sp lg top : ℕ} {s cs s1 cs1 : List ℕ} {w : Walk} {c : Scope} {sig : Sig} {bound : List ℕ} (n : ℕ) → ScopeRoom n at to sp c
+    → Going at to sp lg s cs top s1 cs1 w → w .next ≤ n → Scoped sig bound s c → Scoped sig bound s1 c
 scope-going n r g h x =
     let a = g .next in
     scoped-kept (g .kept) (r .body) (omega (arith, r .names)) (r .top) x
@@ -151,7 +152,8 @@ module _ (sig : Sig) (bound ws : List ℕ) (d at to sp lg : ℕ) (s cs : List �
                 }
 
             done : (es : ExprsAt sig ws (d - 1) n (at + 1)) → headBase ≤ w
-                → Walked 1 (InAnswer lg r) (_>>=_ (loweredAll sig bound (es .value) cs) (λ q. _>>=_ (fresh at (headOf w) (q .next)) (λ f. ok (callPiece sig bound (headOf w) q f)))) (1 + es .size) at to sp lg s cs s3 cs2 r
+                → Walked 1 (InAnswer lg r) (_>>=_ (loweredAll sig bound (es .value) cs) (λ q. _>>=_ (fresh at (headOf w) (q .next)) (λ f. ok (callPiece sig bound (headOf w) q f))))
+                (1 + es .size) at to sp lg s cs s3 cs2 r
             done es high =
                 let m = exprs-many sig ws (d - 1) n (at + 1) es in
                 let i = es .inside in

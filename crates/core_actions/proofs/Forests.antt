@@ -43,7 +43,8 @@ module _ (sig : Sig) (ws : List ℕ) where
       subst (λ (k : ℕ). Forest k at e) same
       (first-cases sig ws (λ es k. Forest m (at + k) e → Forest (suc (n + m)) at e) d (suc n) at x (omega arith) (λ y ys g. next (λ a z h. front d n m a e z h) y ys g) f)
     where
-      next : ((a : ℕ) (z : ExprsAt sig ws d n a) → Forest m (a + z .size) e → Forest (n + m) a e) → (y : ExprAt sig ws d at) (ys : ExprsAt sig ws d (suc n - 1) (at + y .size)) → Forest m (at + (y .size + ys .size)) e → Forest (suc (n + m)) at e
+      next : ((a : ℕ) (z : ExprsAt sig ws d n a) → Forest m (a + z .size) e → Forest (n + m) a e)
+          → (y : ExprAt sig ws d at) (ys : ExprsAt sig ws d (suc n - 1) (at + y .size)) → Forest m (at + (y .size + ys .size)) e → Forest (suc (n + m)) at e
       next again y ys g =
           let less : suc n - 1 ≡ n = omega arith in
           let there : at + (y .size + ys .size) ≡ at + y .size + ys .size = omega arith in

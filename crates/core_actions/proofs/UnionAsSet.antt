@@ -26,31 +26,44 @@ use Rattle.core_actions.specs.Lowered.{donePiece}
 use Rattle.core_actions.proofs.Pieces.{snoc, done-set-row, SameBound, same-set}
 use Rattle.core_actions.proofs.SetModes.{Modes}
 
+-- a test that chooses n, and one that does not
+chosen : (t : Bool) (n : ℕ) (o : Option AsSet) (u : AsSet) → 0 < n → n ≡ cond t n 0 → o ≡ optional t u → o ≡ some u
+chosen true n o u h e is = is
+chosen false n o u h e is = absurd (omega arith)
+
+not-chosen : (t : Bool) (n r : ℕ) (u : AsSet) → (r ≡ n → ⊥) → r ≡ cond t n 0 → optional t u ≡ none
+not-chosen true n r u other e = absurd (other e)
+not-chosen false n r u other e = refl
+
+another : (t : Bool) (n m : ℕ) → 0 < n → (n ≡ m → ⊥) → n ≡ cond t m 0 → ⊥
+another true n m h other e = other e
+another false n m h other e = omega arith
+
 -- a union that stays one
 stays : (sig : Sig) (a b : Expr) (r : ℕ) → r ≡ setMode sig a b → (r ≡ 1 → ⊥) → (r ≡ 2 → ⊥) → unionAsSet sig a b ≡ none
 stays sig (leaf p w) (leaf q v) r e one two = refl
-stays sig (leaf p w) (call q h es) r e one two = go (isName w && sig .flag && isConstructor sig h) e
-  where
-    go : (t : Bool) → r ≡ cond t 2 0 → optional {A = AsSet} t (record { place = q; head = h; args = es; value = leaf p w }) ≡ none
-    go true k = absurd (two k)
-    go false k = refl
-stays sig (call q h es) (leaf p w) r e one two = go (isName w && sig .flag && isConstructor sig h) e
-  where
-    go : (t : Bool) → r ≡ cond t 1 0 → optional {A = AsSet} t (record { place = q; head = h; args = es; value = leaf p w }) ≡ none
-    go true k = absurd (one k)
-    go false k = refl
+stays sig (leaf p w) (call q h es) r e one two =
+    not-chosen (isName w && sig .flag && isConstructor sig h) 2 r (record { place = q; head = h; args = es; value = leaf p w }) two e
+stays sig (call q h es) (leaf p w) r e one two =
+    not-chosen (isName w && sig .flag && isConstructor sig h) 1 r (record { place = q; head = h; args = es; value = leaf p w }) one e
 stays sig (call p h es) (call q g fs) r e one two = refl
 
--- an expression that may be d deep may be deeper
+-- ---- an expression that may be d deep may be deeper
+
+-- what one reads, two reads
+abbrev Extends : {A : Type 0} → Reader A → Reader A → Type 0
+Extends {A} one two = (p : ℕ) (r : Read A) → one p ≡ ok r → two p ≡ ok r
+
 module _ (sig : Sig) (ws : List ℕ) where
-  many-deeper : (one two : Reader Expr) → ((p : ℕ) (r : Read Expr) → one p ≡ ok r → two p ≡ ok r) → (n p : ℕ) (r : Read Exprs) → readMany one n p ≡ ok r → readMany two n p ≡ ok r
+  many-deeper : (one two : Reader Expr) → Extends one two → (n : ℕ) → Extends (readMany one n) (readMany two n)
   many-deeper one two k zero p r e = e
   many-deeper one two k (suc n) p r e =
       let a = bind-ok (one p) _ r e in
       let b = bind-ok (readMany one n (a .0 .at)) _ r (a .2) in
       rw (k p (a .0) (a .1), many-deeper one two k n (a .0 .at) (b .0) (b .1)) (b .2)
 
-  shape-deeper : (sh : Shape) (w p : ℕ) (f g : ℕ → Reader Exprs) → ((n q : ℕ) (r : Read Exprs) → f n q ≡ ok r → g n q ≡ ok r) → (r : Read Expr) → readShape sh false f w p ≡ ok r → readShape sh false g w p ≡ ok r
+  shape-deeper : (sh : Shape) (w p : ℕ) (f g : ℕ → Reader Exprs) → ((n : ℕ) → Extends (f n) (g n)) → (r : Read Expr)
+      → readShape sh false f w p ≡ ok r → readShape sh false g w p ≡ ok r
   shape-deeper isBad w p f g k r e = e
   shape-deeper isLeaf w p f g k r e = e
   shape-deeper isCall w p f g k r e =
@@ -62,7 +75,7 @@ module _ (sig : Sig) (ws : List ℕ) where
   none-deep isLeaf w p f r e = refuse-ok tooDeep p r e
   none-deep isCall w p f r e = refuse-ok tooDeep p r e
 
-  pub deeper : (d p : ℕ) (r : Read Expr) → readExpr sig ws d p ≡ ok r → readExpr sig ws (suc d) p ≡ ok r
+  deeper : (d : ℕ) → Extends (readExpr sig ws d) (readExpr sig ws (suc d))
   deeper zero p r e = absurd (none-deep (shapeAt sig ws p) (getD ws p 0) p (λ n q. refuse tooDeep q) r e)
   deeper (suc d) p r e =
       shape-deeper (shapeAt sig ws p) (getD ws p 0) p (λ n q. readMany (λ t. readExpr sig ws d t) n q) (λ n q. readMany (λ t. readExpr sig ws (suc d) t) n q)
@@ -72,7 +85,8 @@ bind-to : {A B : Type 0} (m : Res A) (k : A → Res B) (a : A) (b : Res B) → m
 bind-to m k a b e f = ap (λ x. _>>=_ x k) e ∙ f
 
 -- one expression more behind a row
-pub many-snoc : (one : Reader Expr) (n p : ℕ) (r : Read Exprs) (q : Read Expr) → readMany one n p ≡ ok r → one (r .at) ≡ ok q → readMany one (n + 1) p ≡ ok (record { value = snoc (r .value) (q .value); at = q .at })
+pub many-snoc : (one : Reader Expr) (n p : ℕ) (r : Read Exprs) (q : Read Expr) → readMany one n p ≡ ok r → one (r .at) ≡ ok q
+    → readMany one (n + 1) p ≡ ok (record { value = snoc (r .value) (q .value); at = q .at })
 many-snoc one zero p r q e f =
     let is : record { value = end; at = p } ≡ r = ok-inj _ _ e in
     subst (λ (x : Read Exprs). one (x .at) ≡ ok q → readMany one 1 p ≡ ok (record { value = snoc (x .value) (q .value); at = q .at })) is (λ g. rw g) f
@@ -87,9 +101,7 @@ many-snoc one (suc n) p r q e f =
     (subst (λ (x : Read Exprs). readMany one (suc (n + 1)) p ≡ ok (record { value = snoc (x .value) (q .value); at = q .at })) is
     (bind-to (one p) _ (a .0) _ (a .1) (bind-to (readMany one (n + 1) (a .0 .at)) _ _ _ rest refl)))
 
-cond-true : (t : Bool) (n r : ℕ) → 0 < n → n ≡ cond t n 0 → t ≡ true
-cond-true true n r h e = refl
-cond-true false n r h e = absurd (omega arith)
+-- ---- what a union is that becomes a set
 
 module _ (sig : Sig) (ws : List ℕ) (few : heads sig ≤ limit12) (at : ℕ) (x : PairAt sig ws at) where
   -- with the call on the left: the name stands behind its arguments
@@ -110,7 +122,8 @@ module _ (sig : Sig) (ws : List ℕ) (few : heads sig ≤ limit12) (at : ℕ) (x
       v : ℕ
       v = getD ws (at + 1 + x .left .size) 0
 
-      made : (es : ExprsAt sig ws (maxDepth - 1) (countOf w) (at + 1 + 1)) → headBase ≤ w → headOf w < heads sig → call (at + 1) (headOf w) (es .value) ≡ x .left .value → 1 + es .size ≡ x .left .size
+      made : (es : ExprsAt sig ws (maxDepth - 1) (countOf w) (at + 1 + 1)) → headBase ≤ w → headOf w < heads sig
+          → call (at + 1) (headOf w) (es .value) ≡ x .left .value → 1 + es .size ≡ x .left .size
           → leaf (at + 1 + x .left .size) v ≡ x .right .value → 1 ≡ x .right .size → LeftSet
       made es high hd le ls re rs =
           let n : Expr = leaf (at + 1 + x .left .size) v in
@@ -124,9 +137,9 @@ module _ (sig : Sig) (ws : List ℕ) (few : heads sig ≤ limit12) (at : ℕ) (x
           let r3 = many-snoc (readExpr sig ws maxDepth) (countOf w) (at + 2) _ _ r1 r2 in
           let ends : at + 2 + es .size + x .right .size ≡ at + 2 + (es .size + x .right .size) = omega arith in
           let u : AsSet = record { place = at + 1; head = headOf w; args = es .value; value = n } in
-          let test : (isName v && sig .flag && isConstructor sig (headOf w)) ≡ true =
-          cond-true (isName v && sig .flag && isConstructor sig (headOf w)) 1 0 (omega arith) (e ∙ (λ i. setMode sig (sym le i) (sym re i))) in
-          let some′ : unionAsSet sig (x .left .value) (x .right .value) ≡ some u = (λ i. unionAsSet sig (sym le i) (sym re i)) ∙ ap (λ (t : Bool). optional t u) test in
+          let some′ : unionAsSet sig (x .left .value) (x .right .value) ≡ some u =
+          chosen (isName v && sig .flag && isConstructor sig (headOf w)) 1 _ u (omega arith) (e ∙ (λ i. setMode sig (sym le i) (sym re i)))
+          (λ i. unionAsSet sig (sym le i) (sym re i)) in
           record {
             change =
                 record {
@@ -144,10 +157,13 @@ module _ (sig : Sig) (ws : List ℕ) (few : heads sig ≤ limit12) (at : ℕ) (x
             piece =
                 λ bound cs. (λ i. donePiece (lowerUnion sig bound (some′ i) (x .left .value) (x .right .value) cs)) ∙ done-set-row sig bound (at + 1) (headOf w) (es .value) n cs
                 ∙ (λ i. changed sig bound (actionWord 2) 1 (at + 1) (headOf w) (snoc (es .value) (re i)) cs);
-            same = λ bound cs. subst (λ (o : Option AsSet). SameBound sig bound (lowerUnion sig bound o (x .left .value) (x .right .value) cs)) (sym some′) (same-set sig bound (at + 1) (headOf w) (es .value) n cs);
+            same =
+                λ bound cs. subst (λ (o : Option AsSet). SameBound sig bound (lowerUnion sig bound o (x .left .value) (x .right .value) cs)) (sym some′)
+                (same-set sig bound (at + 1) (headOf w) (es .value) n cs);
           }
 
-      right : (es : ExprsAt sig ws (maxDepth - 1) (countOf w) (at + 1 + 1)) → headBase ≤ w → headOf w < heads sig → call (at + 1) (headOf w) (es .value) ≡ x .left .value → 1 + es .size ≡ x .left .size
+      right : (es : ExprsAt sig ws (maxDepth - 1) (countOf w) (at + 1 + 1)) → headBase ≤ w → headOf w < heads sig
+          → call (at + 1) (headOf w) (es .value) ≡ x .left .value → 1 + es .size ≡ x .left .size
           → (b : Bool) → ltb v literalBase ≡ b → LeftSet
       right es high hd le ls true t =
           call-cases sig ws few (λ f k. f ≡ x .right .value → LeftSet) maxDepth (at + 1 + x .left .size) v (x .right) refl (ltb-true v literalBase t)
@@ -166,11 +182,7 @@ module _ (sig : Sig) (ws : List ℕ) (few : heads sig ≤ limit12) (at : ℕ) (x
         where
           not-one : (f : Expr) → 1 ≡ setMode sig (leaf (at + 1) w) f → ⊥
           not-one (leaf p u) k = omega arith
-          not-one (call p h es) k = tested (isName w && sig .flag && isConstructor sig h) k
-            where
-              tested : (b : Bool) → _≡_ {A = ℕ} 1 (cond b 2 0) → ⊥
-              tested true k = let z : _≡_ {A = ℕ} 1 2 = k in omega arith
-              tested false k = let z : _≡_ {A = ℕ} 1 0 = k in omega arith
+          not-one (call p h es) k = another (isName w && sig .flag && isConstructor sig h) 1 2 (omega arith) (λ z. omega arith) k
 
   -- with the call on the right: it stands behind the name
   record RightSet : Type 0 where
@@ -194,9 +206,9 @@ module _ (sig : Sig) (ws : List ℕ) (few : heads sig ≤ limit12) (at : ℕ) (x
       made old le ls es high hd re rs =
           let three : at + 2 + 1 ≡ at + 3 = omega arith in
           let u : AsSet = record { place = at + 2; head = headOf v; args = es .value; value = leaf (at + 1) w } in
-          let test : (isName w && sig .flag && isConstructor sig (headOf v)) ≡ true =
-          cond-true (isName w && sig .flag && isConstructor sig (headOf v)) 2 0 (omega arith) (e ∙ (λ i. setMode sig (sym le i) (sym re i))) in
-          let some′ : unionAsSet sig (x .left .value) (x .right .value) ≡ some u = (λ i. unionAsSet sig (sym le i) (sym re i)) ∙ ap (λ (t : Bool). optional t u) test in
+          let some′ : unionAsSet sig (x .left .value) (x .right .value) ≡ some u =
+          chosen (isName w && sig .flag && isConstructor sig (headOf v)) 2 _ u (omega arith) (e ∙ (λ i. setMode sig (sym le i) (sym re i)))
+          (λ i. unionAsSet sig (sym le i) (sym re i)) in
           record {
             named = record { old = old; high = high; head = hd; exprs = moved (readMany (readExpr sig ws (maxDepth - 1)) (countOf v)) ws (at + 2 + 1) (at + 3) three es };
             size = omega arith;
@@ -230,11 +242,7 @@ module _ (sig : Sig) (ws : List ℕ) (few : heads sig ≤ limit12) (at : ℕ) (x
         where
           not-two : (es : Exprs) (f : Expr) → 2 ≡ setMode sig (call (at + 1) (headOf w) es) f → ⊥
           not-two es (call p h fs) k = omega arith
-          not-two es (leaf p u) k = tested (isName u && sig .flag && isConstructor sig (headOf w)) k
-            where
-              tested : (b : Bool) → _≡_ {A = ℕ} 2 (cond b 1 0) → ⊥
-              tested true k = let z : _≡_ {A = ℕ} 2 1 = k in omega arith
-              tested false k = let z : _≡_ {A = ℕ} 2 0 = k in omega arith
+          not-two es (leaf p u) k = another (isName u && sig .flag && isConstructor sig (headOf w)) 2 1 (omega arith) (λ z. omega arith) k
 
 -- ---- lowering a union, of which it is known whether it becomes a set
 
