@@ -2,12 +2,12 @@
 pub mod Scopes
 pub mod Body
 pub mod Pieces
+pub mod Sites
+pub mod Does
 pub mod Expressions
 pub mod Arguments
 pub mod Calls
-pub mod Sites
 pub mod Fronts
-pub mod Does
 pub mod Acting
 pub mod Lets
 pub mod Pairs

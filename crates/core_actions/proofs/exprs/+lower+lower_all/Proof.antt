@@ -8,11 +8,11 @@ use lib.ListN.{length, getD}
 use Rattle.octets.specs.Words.{words}
 use Rattle.octets.proofs.Words.{length-words, length-words-kept}
 use Rattle.rules.specs.Signature.{Sig}
-use Rattle.walks.proofs.Turns.{Turn}
 use Rattle.core_actions.specs.Scopes.{Scoped}
 use Rattle.core_actions.proofs.Scopes.{scope-fits}
+use Rattle.core_actions.proofs.Sites.{site-of, begun}
 use Rattle.core_actions.proofs.Expressions.{scope-in}
-use Rattle.core_actions.proofs.Arguments.{Row, row-start, row-done, row-turn, top-inside, top-fits, row-scope, row-known, row-stop, row-next}
+use Rattle.core_actions.proofs.Arguments.{Row, row-start, row-done, on, top-inside, top-fits, next-asks, row-stop, row-next}
 use Rattle.core_actions.proofs.Calls.{Place, place, Begun, word-inside, args-room, leaf-read, leaf-unbound, Called, called, Argued, args-refused}
 use Rattle.core_actions.proofs.Calls.{Fine, is-fine, Used, used-up, call-done}
 use borrow.Author.Needs.{needs}
@@ -281,7 +281,7 @@ module _ (t : ℕ) where
 abbrev Inv : lower-all-lts.InvT-loop
 Inv rule at n depth scope counters₀ scratch₀ to sp log left₀ top₀ walk₀ counters scratch left top walk =
     (length counters ≡ length counters₀) × (length scratch ≡ length scratch₀)
-    × (Row (words rule) depth n at to sp log scope (words scratch₀) (words counters₀) left top (words scratch) (words counters) walk)
+    × (Row (site-of (words rule) (words scratch₀) (words counters₀) at to sp log scope) depth n left top (words scratch) (words counters) walk)
 
 abbrev μ : lower-all-lts.MeasureT-loop
 μ rule at n depth scope counters₀ scratch₀ to sp log left₀ top₀ walk₀ counters scratch left top walk = left
@@ -294,28 +294,20 @@ module _ (t : ℕ) where
   lower-all-loop-holds : In-all lower-all-lts.Need-loop-holds
   lower-all-loop-holds c =
       let s = c .before .before .before in
-      (refl, refl, row-start (s .pre .1 .1 .0) (s .pre .1 .1 .1) (omega (arith, length-words (s .args .scratch .now), s .good)) (s .pre .1 .0))
+      let p = s .pre .1 in
+      let a = s .args in
+      (refl, refl, row-start (begun (p .0) (p .1 .0) (p .1 .1) (omega (arith, length-words (a .rule .now), s .good)) (omega (arith, length-words (a .scratch .now), s .good))))
 
-  -- a turn
+  -- the next argument
 
   abbrev row-at : In-all lower-all-lts.In-loop → In-all lower-all-lts.Start
   row-at c = c .before .before .before .before .before
-
-  -- what its calls ask
-  lower-all-turn : (c : In-all lower-all-lts.In-loop)
-      → let a = row-at c .args in
-      let l = c .before .loop in
-      Turn (words (a .rule .now)) (a .depth) (a .at) (l .left) (l .top) (words (a .scratch .now)) (words (a .counters .now)) (words (l .scratch)) (words (l .counters)) (l .walk)
-  lower-all-turn c =
-      let l = c .before .loop in
-      row-turn (l .inv .2) (c .loop-test .taken) (length-words-kept _ _ (l .inv .0)) (length-words-kept _ _ (l .inv .1))
 
   lower-all-lower-requires : In-all lower-all-lts.Need-lower-requires
   lower-all-lower-requires c κs =
       let i = c .before .before in
       let row = i .before .loop .inv .2 in
-      let m = lower-all-turn i in
-      (omega (arith, row-at i .pre .0, m .on), (row-known row m, (m .room, row-scope row)))
+      (omega (arith, row-at i .pre .0, on row (i .loop-test .taken)), next-asks row (i .loop-test .taken))
 
   -- the argument is lowered
   abbrev turn-of : In-all lower-all-lts.After-lower → In-all lower-all-lts.In-loop
@@ -343,8 +335,7 @@ module _ (t : ℕ) where
   lower-all-returns : In-all lower-all-lts.Need-returns
   lower-all-returns c =
       let l = then-lower c in
-      let k = l .lower in
-      row-stop (turn-of l .before .loop .inv .2) (lower-all-turn (turn-of l)) (words (k .last .1 .1 .1 .1 .1 .0)) (words (k .last .1 .1 .1 .1 .0)) (k .result) (k .ensures) (c .if1 .taken)
+      row-stop (turn-of l .before .loop .inv .2) (turn-of l .loop-test .taken) (l .lower .ensures) (c .if1 .taken)
 
   -- it is fine, and its term is pushed
 
@@ -356,14 +347,14 @@ module _ (t : ℕ) where
       let l = else-lower (c .before) in
       let i = turn-of l in
       let kept = length-words-kept (l .lower .last .1 .1 .1 .1 .1 .0) (i .before .loop .scratch) (l .lower .kept .1 .1 .1 .1 .1 .0) in
-      omega (arith, top-inside (i .before .loop .inv .2) (lower-all-turn i), kept)
+      omega (arith, top-inside (i .before .loop .inv .2) (i .loop-test .taken), kept)
 
   -- back from where it is pushed to where it is fine
   abbrev push-fine : In-all lower-all-lts.After-slice-known5 → In-all lower-all-lts.Else1
   push-fine c = c .before .before .before .before
 
   lower-all-add-top : In-all lower-all-lts.Need-add-top
-  lower-all-add-top c = let i = turn-of (else-lower (push-fine c)) in omega (arith, top-fits (i .before .loop .inv .2) (lower-all-turn i))
+  lower-all-add-top c = let i = turn-of (else-lower (push-fine c)) in omega (arith, top-fits (i .before .loop .inv .2) (i .loop-test .taken))
 
   lower-all-sub-left : In-all lower-all-lts.Need-sub-left
   lower-all-sub-left c = omega (arith, turn-of (else-lower (push-fine c)) .loop-test .taken)
@@ -378,8 +369,8 @@ module _ (t : ℕ) where
       let p = c .before .before .put in (
         row-counters l,
         p .kept .0 ∙ row-scratch l,
-        row-next (turn-of l .before .loop .inv .2) (lower-all-turn (turn-of l)) (words (k .last .1 .1 .1 .1 .1 .0)) (words (k .last .1 .1 .1 .1 .0)) (k .result) (k .ensures) _
-            (push-fine c .if1 .left) (p .ensures),
+        row-next (turn-of l .before .loop .inv .2) (turn-of l .loop-test .taken) (k .ensures) (length-words-kept _ _ (k .kept .1 .1 .1 .1 .0))
+            (length-words-kept _ _ (p .kept .0 ∙ k .kept .1 .1 .1 .1 .1 .0)) (push-fine c .if1 .left) (p .ensures),
       )
 
   -- none are left
