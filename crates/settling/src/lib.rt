@@ -21,6 +21,7 @@ ghost use Rattle.settling.specs.Settle.{SettleAsks, SettledAt};
 pub mod joining;
 
 use bodies::terms::Sign;
+use joining::Area;
 
 // A settled body: where its atoms stand, in how many words, and how many they are; where its bindings stand, three words each, and how
 // many they are, one for each replacement; and the passes.
@@ -37,7 +38,8 @@ pub struct Settled {
 pub fn settle(s: &mut [u8], at: usize, n: usize, q: Sign) -> Settled
     requires { ⌜ GoodSign q ⌝ }
     requires { ⌜ SettleAsks (words (now s)) at n ⌝ }
-    ensures { λ r. ⌜ ((g : Sig) (xs : List Atom) → Agrees q g → BodyAt xs (words (now (s .entry))) at n → SettledAt g xs (words (now (s .entry))) (words (now (s .exit))) at n r) ⌝ }
+    ensures { λ r. ⌜ ((g : Sig) (xs : List Atom) → Agrees q g → BodyAt xs (words (now (s .entry))) at n
+        → SettledAt g xs (words (now (s .entry))) (words (now (s .exit))) at n r) ⌝ }
 {
     if n == 0 {
         return Settled {
@@ -68,6 +70,12 @@ pub fn settle(s: &mut [u8], at: usize, n: usize, q: Sign) -> Settled
                 passes,
             };
         }
-        c = joining::canonicalize_again(s, at, t.eqs, body, t.kept, links, c.binds, q);
+        let area = Area {
+            body,
+            k: t.kept,
+            to: links,
+            d: c.binds,
+        };
+        c = joining::canonicalize_again(s, at, t.eqs, area, q);
     }
 }

@@ -1,165 +1,141 @@
--- `settle` meets its contract: the invariant of its loop is `Settling`. Assumes nothing.
+-- After the first canonicalizing and after each pass that gave equalities `Settling` holds: the passes made so far, and those that are left from the atoms that
+-- stand, are those of the definition. The pass that gives none ends it, and there are no more passes than atoms. Assumes nothing.
 use mathlib.Core.List.{List}
 use mathlib.Core.Path.{_∙_, _≡_, refl}
-use Prim.Native.Nat.{_+_, _-_, _≤_, ℕ}
+use Prim.Native.Nat.{_+_, _-_, ℕ}
 use native.Mathlib.Omega.{arith}
 use lib.ListN.{length}
 use borrow.Author.Needs.{needs}
 use Rattle.octets.proofs.Words.{length-words}
 use Rattle.octets.specs.Words.{words}
-use Rattle.settling.specs.Settle.{SettleAsks}
 use Rattle.bodies.specs.Terms.{sig}
-use Rattle.settling.proofs.Settling.{Settling, atoms-two, few, first-asks, merge-asks, next-asks, settled, settled-none, settling-next, settling-start}
+use Rattle.settling.proofs.Settling.{Begun, Settling, begun, few, first-asks, merge-asks, next-asks, settled, settled-none, settling-next, settling-start}
 use Rattle.settling.proofs.settle.Statement.{statement}
 use Rattle.settling.proofs.settle.Tie as tie
-use Rattle.settling.proofs.settle.Reads as reads
-use Rattle.settling.proofs.settle.Lts as lts
-use Rattle.canonicalize.proofs.canonicalize.Reads as canonicalize-reads
-use Rattle.settling.proofs.joining.canonicalize_again.Reads as canonicalize-again-reads
-use Rattle.merging.proofs.merge_pass.Reads as merge-pass-reads
-
--- the test in front has told that there are words
-some-words : (n : ℕ) → (n ≡ 0 → ⊥) → 1 ≤ n
-some-words n h = omega (arith, h)
 
 abbrev Inv-loop : tie.InvT-loop
-Inv-loop s₀ at n q links body table end c₀ passes₀ s c passes = (length s ≡ length s₀) × ((l : List ℕ) → SettleAsks l at n → 1 ≤ n → Settling (sig q) l (words s₀) at n c₀ passes₀ → Settling (sig q) l (words s) at n c passes)
+Inv-loop s₀ at n q links body table end c₀ passes₀ s c passes =
+    (length s ≡ length s₀) × ((l : List ℕ) → Settling (sig q) l (words s₀) at n c₀ passes₀ → Settling (sig q) l (words s) at n c passes)
 
 abbrev μ-loop : tie.MeasureT-loop
 μ-loop s₀ at n q links body table end c₀ passes₀ s c passes = n + 1 - passes
 
+-- ---- there are no words
+
 returns : tie.Need-returns Inv-loop μ-loop
-returns c = λ g ys b y. settled-none g ys (words (c .before .before .args .s .now)) (c .before .before .args .at) (c .before .before .args .n) (c .if1 .taken) y
+returns c = let a = c .before .before .args in λ g ys b y. settled-none g ys (words (a .s .now)) (a .at) (a .n) (c .if1 .taken) y
+
+-- ---- there are some
+
+abbrev Else : Type 0
+Else = tie.Else1 Inv-loop μ-loop
+
+at-else : (c : Else) → let a = c .before .before .args in Begun (words (a .s .now)) (a .at) (a .n)
+at-else c = let e = c .before .before in begun (e .pre .1) (c .if1 .left) (omega (arith, length-words (e .args .s .now), e .good))
 
 mul-links : tie.Need-mul-links Inv-loop μ-loop
-mul-links c = omega (arith, length-words (c .before .before .args .s .now), c .before .before .pre .1 .room)
+mul-links c = omega (arith, at-else c .fits)
 
 add-links : tie.Need-add-links Inv-loop μ-loop
-add-links c = omega (arith, length-words (c .before .before .args .s .now), c .before .before .pre .1 .room)
+add-links c = omega (arith, at-else c .fits)
 
 mul-body : tie.Need-mul-body Inv-loop μ-loop
-mul-body c = omega (arith, length-words (c .before .before .args .s .now), c .before .before .pre .1 .room)
+mul-body c = omega (arith, at-else c .fits)
 
 add-body : tie.Need-add-body Inv-loop μ-loop
-add-body c = omega (arith, length-words (c .before .before .args .s .now), c .before .before .pre .1 .room)
+add-body c = omega (arith, at-else c .fits)
 
 add-body-2 : tie.Need-add-body-2 Inv-loop μ-loop
-add-body-2 c = omega (arith, length-words (c .before .before .args .s .now), c .before .before .pre .1 .room)
+add-body-2 c = omega (arith, at-else c .fits)
 
 mul-table : tie.Need-mul-table Inv-loop μ-loop
-mul-table c = omega (arith, length-words (c .before .before .args .s .now), c .before .before .pre .1 .room)
+mul-table c = omega (arith, at-else c .fits)
 
 add-table : tie.Need-add-table Inv-loop μ-loop
-add-table c = omega (arith, length-words (c .before .before .args .s .now), c .before .before .pre .1 .room)
+add-table c = omega (arith, at-else c .fits)
 
 add-table-2 : tie.Need-add-table-2 Inv-loop μ-loop
-add-table-2 c = omega (arith, length-words (c .before .before .args .s .now), c .before .before .pre .1 .room)
+add-table-2 c = omega (arith, at-else c .fits)
 
 mul-end : tie.Need-mul-end Inv-loop μ-loop
-mul-end c = omega (arith, length-words (c .before .before .args .s .now), c .before .before .pre .1 .room)
+mul-end c = omega (arith, at-else c .fits)
 
 add-end : tie.Need-add-end Inv-loop μ-loop
-add-end c = omega (arith, length-words (c .before .before .args .s .now), c .before .before .pre .1 .room)
+add-end c = omega (arith, at-else c .fits)
 
 add-end-2 : tie.Need-add-end-2 Inv-loop μ-loop
-add-end-2 c = omega (arith, length-words (c .before .before .args .s .now), c .before .before .pre .1 .room)
+add-end-2 c = omega (arith, at-else c .fits)
 
 canonicalize-requires : tie.Need-canonicalize-requires Inv-loop μ-loop
-canonicalize-requires c κs =
-    let a = c .before .before .before .args in
-    let h = some-words (a .n) (c .before .if1 .left) in
-    (c .before .before .before .pre .0, first-asks (sig (a .q)) (words (a .s .now)) (a .at) (a .n) (c .before .before .before .pre .1) h)
+canonicalize-requires c κs = (c .before .before .before .pre .0, first-asks (at-else (c .before)))
 
 loop-holds : tie.Need-loop-holds Inv-loop μ-loop
-loop-holds c = (refl, λ l s h p. p)
+loop-holds c = (refl, λ l w. w)
+
+-- ---- some passes are made
+
+abbrev At : Type 0
+At = tie.At-loop Inv-loop μ-loop
+
+abbrev else : At → Else
+else c = c .before .before .before .before .before
+
+at-loop : (c : At) → let a = else c .before .before .args in Settling (sig (a .q)) (words (a .s .now)) (words (c .loop .s)) (a .at) (a .n) (c .loop .c) (c .loop .passes)
+at-loop c = c .loop .inv .1 _ (settling-start (at-else (else c)) (c .before .before .before .canonicalize .ensures))
 
 merge-pass-requires : tie.Need-merge-pass-requires Inv-loop μ-loop
-merge-pass-requires c κs =
-    let a = c .before .before .before .before .before .before .before .before .args in
-    let h = some-words (a .n) (c .before .before .before .before .before .before .if1 .left) in
-    let l = words (a .s .now) in
-    let w₀ = settling-start (sig (a .q)) l (a .at) (a .n) (c .before .before .before .before .before .before .before .before .pre .1) h _ (c .before .before .before .before .canonicalize .result) (c .before .before .before .before .canonicalize .ensures) in
-    let w = c .before .loop .inv .1 l (c .before .before .before .before .before .before .before .before .pre .1) h w₀ in
-    let m = words (c .before .loop .s) in
-    let r = c .before .loop .c in
-    let k = c .before .loop .passes in
-    merge-asks (sig (a .q)) l (a .at) (a .n) (c .before .before .before .before .before .before .before .before .pre .1) h m r k w
+merge-pass-requires c κs = merge-asks (at-loop (c .before))
+
+-- ---- another one
+
+abbrev Pass : Type 0
+Pass = tie.After-merge-pass Inv-loop μ-loop
+
+abbrev pass : Pass → At
+pass c = c .before .before
 
 add-passes : tie.Need-add-passes Inv-loop μ-loop
-add-passes c =
-    let a = c .before .before .before .before .before .before .before .before .before .before .before .args in
-    let h = some-words (a .n) (c .before .before .before .before .before .before .before .before .before .if1 .left) in
-    let l = words (a .s .now) in
-    let w₀ = settling-start (sig (a .q)) l (a .at) (a .n) (c .before .before .before .before .before .before .before .before .before .before .before .pre .1) h _ (c .before .before .before .before .before .before .before .canonicalize .result) (c .before .before .before .before .before .before .before .canonicalize .ensures) in
-    let w = c .before .before .before .before .loop .inv .1 l (c .before .before .before .before .before .before .before .before .before .before .before .pre .1) h w₀ in
-    let m = words (c .before .before .before .before .loop .s) in
-    let r = c .before .before .before .before .loop .c in
-    let k = c .before .before .before .before .loop .passes in
-    omega (arith, few (sig (a .q)) l (a .at) (a .n) (c .before .before .before .before .before .before .before .before .before .before .before .pre .1) h m r k w, atoms-two l (a .at) (a .n) (c .before .before .before .before .before .before .before .before .before .before .before .pre .1), c .before .before .before .before .before .before .before .before .before .before .before .pre .1 .room, length-words (a .s .now))
+add-passes c = let p = pass (c .before .before) in omega (arith, few (at-loop p), at-else (else p) .fits)
 
-sub-t20 : tie.Need-sub-t20 Inv-loop μ-loop
-sub-t20 c =
-    let a = c .before .before .before .before .before .before .before .before .before .before .before .before .before .before .args in
-    let h = some-words (a .n) (c .before .before .before .before .before .before .before .before .before .before .before .before .if1 .left) in
-    let l = words (a .s .now) in
-    let w₀ = settling-start (sig (a .q)) l (a .at) (a .n) (c .before .before .before .before .before .before .before .before .before .before .before .before .before .before .pre .1) h _ (c .before .before .before .before .before .before .before .before .before .before .canonicalize .result) (c .before .before .before .before .before .before .before .before .before .before .canonicalize .ensures) in
-    let w = c .before .before .before .before .before .before .before .loop .inv .1 l (c .before .before .before .before .before .before .before .before .before .before .before .before .before .before .pre .1) h w₀ in
-    let m = words (c .before .before .before .before .before .before .before .loop .s) in
-    let r = c .before .before .before .before .before .before .before .loop .c in
-    let k = c .before .before .before .before .before .before .before .loop .passes in
-    omega (arith, w .count)
+-- ---- it gives no equality
+
+abbrev then-pass : tie.Then2 Inv-loop μ-loop → Pass
+then-pass c = c .before .before .before .before
+
+sub-t21 : tie.Need-sub-t21 Inv-loop μ-loop
+sub-t21 c = omega (arith, at-loop (pass (then-pass (c .before))) .count)
 
 same-length : tie.Need-same-length Inv-loop μ-loop
 same-length c = search needs
 
 returns-2 : tie.Need-returns-2 Inv-loop μ-loop
 returns-2 c =
-    let a = c .before .before .before .before .before .before .before .before .before .before .before .before .before .before .args in
-    let h = some-words (a .n) (c .before .before .before .before .before .before .before .before .before .before .before .before .if1 .left) in
-    let l = words (a .s .now) in
-    let w₀ = settling-start (sig (a .q)) l (a .at) (a .n) (c .before .before .before .before .before .before .before .before .before .before .before .before .before .before .pre .1) h _ (c .before .before .before .before .before .before .before .before .before .before .canonicalize .result) (c .before .before .before .before .before .before .before .before .before .before .canonicalize .ensures) in
-    let w = c .before .before .before .before .before .before .before .loop .inv .1 l (c .before .before .before .before .before .before .before .before .before .before .before .before .before .before .pre .1) h w₀ in
-    let m = words (c .before .before .before .before .before .before .before .loop .s) in
-    let r = c .before .before .before .before .before .before .before .loop .c in
-    let k = c .before .before .before .before .before .before .before .loop .passes in
-    λ g ys b y. settled (sig (a .q)) l (a .at) (a .n) (c .before .before .before .before .before .before .before .before .before .before .before .before .before .before .pre .1) h m r k w _ (c .before .before .before .before .before .merge-pass .result) (c .before .before .before .before .before .merge-pass .ensures) g ys (b .globals) (b .equals) y (c .before .if2 .taken)
+    let p = then-pass (c .before) in
+    λ g ys b y. settled (at-loop (pass p)) (p .merge-pass .ensures) g ys (b .globals) (b .equals) y (c .before .if2 .taken)
+
+-- ---- it gives some, which are canonicalized in front of the atoms
+
+abbrev else-pass : tie.Else2 Inv-loop μ-loop → Pass
+else-pass c = c .before .before .before .before
 
 canonicalize-again-requires : tie.Need-canonicalize-again-requires Inv-loop μ-loop
 canonicalize-again-requires c κs =
-    let a = c .before .before .before .before .before .before .before .before .before .before .before .before .before .before .args in
-    let h = some-words (a .n) (c .before .before .before .before .before .before .before .before .before .before .before .before .if1 .left) in
-    let l = words (a .s .now) in
-    let w₀ = settling-start (sig (a .q)) l (a .at) (a .n) (c .before .before .before .before .before .before .before .before .before .before .before .before .before .before .pre .1) h _ (c .before .before .before .before .before .before .before .before .before .before .canonicalize .result) (c .before .before .before .before .before .before .before .before .before .before .canonicalize .ensures) in
-    let w = c .before .before .before .before .before .before .before .loop .inv .1 l (c .before .before .before .before .before .before .before .before .before .before .before .before .before .before .pre .1) h w₀ in
-    let m = words (c .before .before .before .before .before .before .before .loop .s) in
-    let r = c .before .before .before .before .before .before .before .loop .c in
-    let k = c .before .before .before .before .before .before .before .loop .passes in
-    (c .before .before .before .before .before .before .before .before .before .before .before .before .before .before .pre .0, next-asks (sig (a .q)) l (a .at) (a .n) (c .before .before .before .before .before .before .before .before .before .before .before .before .before .before .pre .1) h m r k w _ (c .before .before .before .before .before .merge-pass .result) (c .before .before .before .before .before .merge-pass .ensures))
+    let p = else-pass (c .before) in
+    (else (pass p) .before .before .pre .0, next-asks (at-loop (pass p)) (p .merge-pass .ensures))
+
+abbrev again-pass : tie.After-canonicalize-again Inv-loop μ-loop → Pass
+again-pass c = else-pass (c .before .before)
 
 loop-less : tie.Need-loop-less Inv-loop μ-loop
-loop-less c =
-    let a = c .before .before .before .before .before .before .before .before .before .before .before .before .before .before .before .before .before .args in
-    let h = some-words (a .n) (c .before .before .before .before .before .before .before .before .before .before .before .before .before .before .before .if1 .left) in
-    let l = words (a .s .now) in
-    let w₀ = settling-start (sig (a .q)) l (a .at) (a .n) (c .before .before .before .before .before .before .before .before .before .before .before .before .before .before .before .before .before .pre .1) h _ (c .before .before .before .before .before .before .before .before .before .before .before .before .before .canonicalize .result) (c .before .before .before .before .before .before .before .before .before .before .before .before .before .canonicalize .ensures) in
-    let w = c .before .before .before .before .before .before .before .before .before .before .loop .inv .1 l (c .before .before .before .before .before .before .before .before .before .before .before .before .before .before .before .before .before .pre .1) h w₀ in
-    let m = words (c .before .before .before .before .before .before .before .before .before .before .loop .s) in
-    let r = c .before .before .before .before .before .before .before .before .before .before .loop .c in
-    let k = c .before .before .before .before .before .before .before .before .before .before .loop .passes in
-    omega (arith, few (sig (a .q)) l (a .at) (a .n) (c .before .before .before .before .before .before .before .before .before .before .before .before .before .before .before .before .before .pre .1) h m r k w, atoms-two l (a .at) (a .n) (c .before .before .before .before .before .before .before .before .before .before .before .before .before .before .before .before .before .pre .1))
+loop-less c = let p = pass (again-pass (c .before .before)) in omega (arith, few (at-loop p))
 
 loop-again : tie.Need-loop-again Inv-loop μ-loop
 loop-again c =
-    let a = c .before .before .before .before .before .before .before .before .before .before .before .before .before .before .before .before .before .args in
-    let h = some-words (a .n) (c .before .before .before .before .before .before .before .before .before .before .before .before .before .before .before .if1 .left) in
-    let l = words (a .s .now) in
-    let w₀ = settling-start (sig (a .q)) l (a .at) (a .n) (c .before .before .before .before .before .before .before .before .before .before .before .before .before .before .before .before .before .pre .1) h _ (c .before .before .before .before .before .before .before .before .before .before .before .before .before .canonicalize .result) (c .before .before .before .before .before .before .before .before .before .before .before .before .before .canonicalize .ensures) in
-    let w = c .before .before .before .before .before .before .before .before .before .before .loop .inv .1 l (c .before .before .before .before .before .before .before .before .before .before .before .before .before .before .before .before .before .pre .1) h w₀ in
-    let m = words (c .before .before .before .before .before .before .before .before .before .before .loop .s) in
-    let r = c .before .before .before .before .before .before .before .before .before .before .loop .c in
-    let k = c .before .before .before .before .before .before .before .before .before .before .loop .passes in (
-      c .before .before .canonicalize-again .kept .0 ∙ c .before .before .before .before .before .before .before .before .merge-pass .kept .0 ∙ c .before .before .before .before .before .before .before .before .before .before .loop .inv .0,
-      λ l s h p. settling-next (sig (a .q)) l (a .at) (a .n) s h m r k (c .before .before .before .before .before .before .before .before .before .before .loop .inv .1 l s h p) _ (c .before .before .before .before .before .before .before .before .merge-pass .result) (c .before .before .before .before .before .before .before .before .merge-pass .ensures) _ (c .before .before .canonicalize-again .result) (c .before .before .before .before .if2 .left) (c .before .before .canonicalize-again .ensures),
+    let a = c .before .before in
+    let p = again-pass a in
+    let i = pass p .loop .inv in (
+      a .canonicalize-again .kept .0 ∙ p .merge-pass .kept .0 ∙ i .0,
+      λ l w. settling-next (i .1 l w) (p .merge-pass .ensures) (a .before .before .if2 .left) (a .canonicalize-again .ensures),
     )
 
 pub settle-spec : {M : Type 1} → statement M
@@ -184,7 +160,7 @@ settle-spec =
     loop-holds
     merge-pass-requires
     add-passes
-    sub-t20
+    sub-t21
     same-length
     returns-2
     canonicalize-again-requires
