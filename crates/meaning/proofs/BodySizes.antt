@@ -1,22 +1,17 @@
--- How large a flat body is: at most three words for each word of the facts, and at most five of weight.
--- Assumes nothing.
+-- How large a flat body is: at most three words for each word of the facts. Assumes nothing.
 use Prim.Native.Nat.{ℕ, suc, _+_, _*_, _≤_}
 use native.Mathlib.Omega.{arith}
 use mathlib.Core.Path.{_≡_, refl, subst}
 use mathlib.Core.List.{List, [], _∷_, _++_}
 use lib.ListN.{length, length-append}
-use lib.Dec.{eqb}
 use Rattle.rules.specs.Refusals.{ok}
 use Rattle.rules.specs.Written.{Expr, Exprs, leaf, call, end, _then_, Fact, holds, equal}
 use Rattle.rules.specs.Flat.{Tab, Atom, eqn, tab, tabWords, atomWords, wordsOf}
 use Rattle.rules.specs.ToQuery.{fresh, Flat, Flats, flatten, flattenAll, Query, flattenFact, toQuery}
-use Rattle.meaning.specs.Weight.{weight}
 use Rattle.meaning.proofs.Sizes.{exprSize, exprsSize, factSize, total}
 use Rattle.meaning.proofs.Lists.{length-words-append}
 use Rattle.meaning.proofs.Results.{ok-inj, bind-ok}
 use Rattle.meaning.proofs.WordLaws.{length-tab}
-use Rattle.meaning.proofs.CanonicalizeEnds.{unlike-small}
-use Rattle.meaning.proofs.Room.{weight-append}
 
 -- a measure of bodies: what an atom takes is c and its inputs
 pub record Measure (size : List Atom → ℕ) (c : ℕ) : Type 0 where
@@ -79,7 +74,7 @@ module _ (size : List Atom → ℕ) (c : ℕ) (m : Measure size c) where
       subst (λ (y : Query). size (y .atoms) ≤ suc c * total factSize (f ∷ fs)) (ok-inj _ _ (b .2))
       (omega (arith, m .both (a .0 .atoms) (b .0 .atoms)))
 
--- ---- words, and weight
+-- ---- words
 
 words-measure : Measure (λ xs. length (wordsOf atomWords xs)) 2
 words-measure =
@@ -93,19 +88,6 @@ words-measure =
     table-words : (t : Tab) → length (wordsOf atomWords (tab t ∷ [])) ≤ 2 + length (t .ins)
     table-words t = omega (arith, length-tab t, length-append (tabWords t) [])
 
-weight-measure : Measure weight 4
-weight-measure =
-    record {
-      none = refl;
-      both = weight-append;
-      table = λ t. omega arith;
-      equality = λ p a b. omega (arith, unlike-small (eqb a b));
-    }
-
 -- a flat body has at most three words for each word of the facts
 pub query-words : (fs : List Fact) (cs : List ℕ) (q : Query) → toQuery fs cs ≡ ok q → length (wordsOf atomWords (q .atoms)) ≤ 3 * total factSize fs
 query-words fs cs q e = query-measure (λ xs. length (wordsOf atomWords xs)) 2 words-measure fs cs q e
-
--- and at most five of weight
-pub query-weight : (fs : List Fact) (cs : List ℕ) (q : Query) → toQuery fs cs ≡ ok q → weight (q .atoms) ≤ 5 * total factSize fs
-query-weight fs cs q e = query-measure weight 4 weight-measure fs cs q e

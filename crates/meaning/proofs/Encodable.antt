@@ -1,12 +1,10 @@
--- Heads and counts that fit their words still do so after every step of settling, where the value-eq head fits. What lowering gives has such heads and
--- counts, and so has what is read.
--- Assumes nothing.
+-- Heads and counts that fit their words still do so after a replacement, and after equalities are resolved, where the value-eq head fits. What lowering
+-- gives has such heads and counts, and so has what is read. Assumes nothing.
 use Prim.Native.Nat.{ℕ, zero, suc, _-_, _≤_, _<_}
 use native.Mathlib.Omega.{arith}
 use mathlib.Core.Path.{_≡_, refl, sym, ap, subst}
 use mathlib.Core.Bool.{Bool, true, false, cond}
-use mathlib.Core.List.{List, [], _∷_, _++_, map}
-use mathlib.Core.Option.{Option, none, some}
+use mathlib.Core.List.{List, [], _∷_, map}
 use lib.ListN.{length, length-map, getD}
 use lib.Dec.{eqb, ltb, leb}
 use borrow.Author.Tests.{eqb-false}
@@ -14,19 +12,15 @@ use Rattle.rules.specs.Words.{limit12, limit16, maxWritten, equalityWord, isHea
 use Rattle.rules.specs.Refusals.{ok, unfit, noTerms, notTwo}
 use Rattle.rules.specs.Signature.{Sig, heads, readSignature}
 use Rattle.rules.specs.Written.{Rule, Read, Reader, readWord, readRow, readWritten}
-use Rattle.rules.specs.Flat.{Tab, Atom, eqn, tab, FlatRule, readTerm, isPair, isOdd, isTable, isEmpty, isNone, readAtomShape, readAtom, readCoreAction, readFlat}
+use Rattle.rules.specs.Flat.{Atom, eqn, tab, FlatRule, readTerm, isPair, isOdd, isTable, isEmpty, isNone, readAtomShape, readAtom, readCoreAction, readFlat}
 use Rattle.rules.specs.ToQuery.{Query, toQuery}
-use Rattle.rules.specs.Canonicalize.{Replacement, replaceTerm, replaceAtom, firstReplacement, replaceStep, replaceUpTo, replaceAll, resolveEq, resolve, canonicalize}
-use Rattle.rules.specs.RemoveDupVars.{keep, merged, afterPass, removeDupVars, settle}
+use Rattle.rules.specs.Canonicalize.{Replacement, replaceTerm, replaceAtom, resolveEq, resolve}
 use Rattle.meaning.specs.Meaning.{All}
 use Rattle.meaning.specs.ReadBack.{EncodableTab, Encodable}
-use Rattle.meaning.proofs.Lists.{all-append}
 use Rattle.meaning.proofs.Results.{refuse-ok, ok-inj, bind-ok, demand-ok}
 use Rattle.meaning.proofs.SignatureLaws.{signature-sound}
 use Rattle.meaning.proofs.Reading.{head-below, Reads, reads-row, written-formed}
 use Rattle.meaning.proofs.Fits.{FitAtom, query-fits}
-use Rattle.meaning.proofs.MergePass.{keep-all, IsEqn, merged-eqns}
-use Rattle.meaning.proofs.ReadBack.{tabs-encodable}
 
 -- well-formed atoms of a signature with at most 4,096 heads
 pub fit-encodable : (s : Sig) → heads s ≤ limit12 → (xs : List Atom) → All (FitAtom s) xs → All Encodable xs
@@ -40,28 +34,6 @@ replaced-encodable r (eqn p a b ∷ xs) h = (tt, replaced-encodable r xs (h .1))
 replaced-encodable r (tab t ∷ xs) h =
     ((h .0 .0, subst (λ (n : ℕ). suc n < limit16) (sym (length-map (t .ins) (replaceTerm r))) (h .0 .1)), replaced-encodable r xs (h .1))
 
-pub up-to-encodable : (s : Sig) (n : ℕ) (xs : List Atom) (rs : List Replacement) → All Encodable xs → All Encodable (replaceUpTo s n xs rs .atoms)
-up-to-encodable s zero xs rs h = h
-up-to-encodable s (suc n) xs rs h = go (firstReplacement s xs) (λ ys qs. up-to-encodable s n ys qs)
-  where
-    go : (o : Option Replacement) → ((ys : List Atom) (qs : List Replacement) → All Encodable ys → All Encodable (replaceUpTo s n ys qs .atoms))
-        → All Encodable (replaceStep o xs rs (λ ys qs. replaceUpTo s n ys qs) .atoms)
-    go none ih = h
-    go (some r) ih = ih (map (replaceAtom r) xs) (r ∷ rs) (replaced-encodable r xs h)
-
-pub keep-encodable : (fs ts : List Tab) → All EncodableTab ts → All EncodableTab (keep fs ts)
-keep-encodable fs ts h = keep-all EncodableTab fs ts h
-
-pub eqns-encodable : (es : List Atom) → All IsEqn es → All Encodable es
-eqns-encodable [] h = tt
-eqns-encodable (eqn p a b ∷ es) h = (tt, eqns-encodable es (h .1))
-eqns-encodable (tab t ∷ es) h = absurd (h .0)
-
--- the equalities of a pass, in front of what it keeps
-pub pass-encodable : (ts : List Tab) → All EncodableTab ts → All Encodable (merged [] ts ++ map tab (keep [] ts))
-pass-encodable ts h =
-    all-append Encodable (merged [] ts) (map tab (keep [] ts)) (eqns-encodable (merged [] ts) (merged-eqns [] ts)) (tabs-encodable (keep [] ts) (keep-encodable [] ts h))
-
 module _ (s : Sig) (v : s .valueEq < limit12) where
   pub resolve-encodable : (xs : List Atom) → All Encodable xs → All EncodableTab (resolve s xs)
   resolve-encodable [] h = tt
@@ -71,27 +43,6 @@ module _ (s : Sig) (v : s .valueEq < limit12) where
       go : (c : Bool) → All EncodableTab (resolve s xs) → All EncodableTab (resolveEq s c p a b (resolve s xs))
       go true k = k
       go false k = ((v, omega arith), k)
-
-  pub canonicalize-encodable : (xs : List Atom) (rs : List Replacement) → All Encodable xs → All EncodableTab (canonicalize s xs rs .tabs)
-  canonicalize-encodable xs rs h = resolve-encodable (replaceAll s xs rs .atoms) (up-to-encodable s (length xs) xs rs h)
-
-  passes-encodable : (n : ℕ) (ts : List Tab) (rs : List Replacement) (k : ℕ) → All EncodableTab ts → All EncodableTab (removeDupVars s n ts rs k .tabs)
-  passes-encodable zero ts rs k h = h
-  passes-encodable (suc n) ts rs k h = go (merged [] ts) (pass-encodable ts h) (λ us qs j. passes-encodable n us qs j)
-    where
-      go : (es : List Atom) → All Encodable (es ++ map tab (keep [] ts))
-          → ((us : List Tab) (qs : List Replacement) (j : ℕ) → All EncodableTab us → All EncodableTab (removeDupVars s n us qs j .tabs))
-          → All EncodableTab (afterPass s es (keep [] ts) rs k (λ us qs j. removeDupVars s n us qs j) .tabs)
-      go [] m ih = keep-encodable [] ts h
-      go (e ∷ es) m ih =
-          let ys = e ∷ es ++ map tab (keep [] ts) in
-          let c = canonicalize s ys rs in
-          ih (c .tabs) (c .repls) (suc k) (canonicalize-encodable ys rs m)
-
-  pub settle-encodable : (xs : List Atom) → All Encodable xs → All EncodableTab (settle s xs .tabs)
-  settle-encodable xs h =
-      let c = canonicalize s xs [] in
-      passes-encodable (suc (length xs)) (c .tabs) (c .repls) 0 (canonicalize-encodable xs [] h)
 
 -- ---- what is lowered, and what is read
 

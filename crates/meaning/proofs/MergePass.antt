@@ -90,11 +90,6 @@ clashes-same a b xs e = ap (λ (d : Bool). cond (alike a b && not d) (eqn 0 (a .
     go true = refl
     go false = refl
 
-pub clashes-one : (a b : Tab) (xs : List Tab) → alike a b ≡ true → eqb (a .out) (b .out) ≡ false
-    → clashes a (b ∷ xs) ≡ eqn 0 (a .out) (b .out) ∷ clashes a xs
-clashes-one a b xs e d =
-    ap₂ (λ (c d : Bool). cond (c && not d) (eqn 0 (a .out) (b .out) ∷ clashes a xs) (clashes a xs)) e d
-
 -- ---- atoms that differ are left alone by another pass
 
 clashes-none : (a : Tab) (xs : List Tab) → All (λ (b : Tab). alike a b ≡ false) xs → clashes a xs ≡ []

@@ -1,69 +1,15 @@
--- A merge pass and the run of passes, step by step as code goes.
--- Assumes nothing.
-use Prim.Native.Nat.{ℕ, zero, suc, _-_, _≤_, _<_}
+-- The run of merge passes, step by step as code goes. Assumes nothing.
+use Prim.Native.Nat.{ℕ, zero, suc, _-_, _<_}
 use native.Mathlib.Omega.{arith}
 use mathlib.Core.Path.{_≡_, refl, sym, ap, _∙_}
-use mathlib.Core.Bool.{Bool, true, false, cond, _||_}
-use mathlib.Core.List.{List, [], _∷_, _++_, map, append-assoc, append-nil}
+use mathlib.Core.List.{List, [], _∷_, _++_, map, append-assoc}
 use mathlib.Core.Option.{Option, none, some}
-use lib.ListN.{length, length-append}
+use lib.ListN.{length}
 use Rattle.rules.specs.Signature.{Sig}
 use Rattle.rules.specs.Flat.{Tab, Atom, tab}
 use Rattle.rules.specs.Canonicalize.{Replacement, replaceAtom, firstReplacement, Body, replaceStep, replaceUpTo, resolve, canonicalize}
-use Rattle.rules.specs.RemoveDupVars.{alike, seen, keep, clashes, merged, afterPass, removeDupVars, settle}
-use Rattle.meaning.proofs.Lists.{or-assoc, or-comm, or-no}
+use Rattle.rules.specs.RemoveDupVars.{keep, merged, afterPass, removeDupVars, settle}
 use Rattle.meaning.proofs.RemoveDupVarsEnds.{behind, behind-start, behind-falls}
-
--- ---- a pass on its way: `ks` are kept and `es` are its equalities so far
-
--- the groups met are known by what is kept, whatever their order
-pub record Merging (ts : List Tab) (es : List Atom) (ks todo : List Tab) : Type 0 where
-  pub firsts : List Tab
-  pub eqs : merged [] ts ≡ es ++ merged firsts todo
-  pub kept : keep [] ts ≡ ks ++ keep firsts todo
-  pub known : (b : Tab) → seen b firsts ≡ seen b ks
-
-pub merge-start : (ts : List Tab) → Merging ts [] [] ts
-merge-start ts = record { firsts = []; eqs = refl; kept = refl; known = λ b. refl }
-
-seen-append : (b : Tab) (xs : List Tab) (a : Tab) → seen b (xs ++ a ∷ []) ≡ (seen b xs || alike a b)
-seen-append b [] a = or-no (alike a b)
-seen-append b (x ∷ xs) a = ap (λ (c : Bool). alike x b || c) (seen-append b xs a) ∙ or-assoc (alike x b) (seen b xs) (alike a b)
-
-module _ (ts : List Tab) (es : List Atom) (ks : List Tab) where
-  -- an atom of a group met before goes
-  pub merge-drop : (a : Tab) (xs : List Tab) → Merging ts es ks (a ∷ xs) → seen a ks ≡ true → Merging ts es ks xs
-  merge-drop a xs m e =
-      let k : seen a (m .firsts) ≡ true = m .known a ∙ e in
-      record {
-        firsts = m .firsts;
-        eqs = m .eqs ∙ ap (λ (c : Bool). es ++ cond c (merged (m .firsts) xs) (clashes a xs ++ merged (a ∷ m .firsts) xs)) k;
-        kept = m .kept ∙ ap (λ (c : Bool). ks ++ cond c (keep (m .firsts) xs) (a ∷ keep (a ∷ m .firsts) xs)) k;
-        known = m .known;
-      }
-
-  -- the first of a group stays, and gives the equalities of its group
-  pub merge-keep : (a : Tab) (xs : List Tab) → Merging ts es ks (a ∷ xs) → seen a ks ≡ false → Merging ts (es ++ clashes a xs) (ks ++ a ∷ []) xs
-  merge-keep a xs m e =
-      let k : seen a (m .firsts) ≡ false = m .known a ∙ e in
-      record {
-        firsts = a ∷ m .firsts;
-        eqs = m .eqs ∙ ap (λ (c : Bool). es ++ cond c (merged (m .firsts) xs) (clashes a xs ++ merged (a ∷ m .firsts) xs)) k
-            ∙ sym (append-assoc es (clashes a xs) (merged (a ∷ m .firsts) xs));
-        kept = m .kept ∙ ap (λ (c : Bool). ks ++ cond c (keep (m .firsts) xs) (a ∷ keep (a ∷ m .firsts) xs)) k
-            ∙ sym (append-assoc ks (a ∷ []) (keep (a ∷ m .firsts) xs));
-        known = λ b. or-comm (alike a b) (seen b (m .firsts)) ∙ ap (λ (c : Bool). c || alike a b) (m .known b) ∙ sym (seen-append b ks a);
-      }
-
-  pub merge-end : Merging ts es ks [] → (merged [] ts ≡ es) × (keep [] ts ≡ ks)
-  merge-end m = (m .eqs ∙ append-nil es, m .kept ∙ append-nil ks)
-
-  -- what is written so far is no more than what is to be written
-  pub merge-sizes : (todo : List Tab) → Merging ts es ks todo → (length es ≤ length (merged [] ts)) × (length ks ≤ length (keep [] ts))
-  merge-sizes todo m = (
-    omega (arith, ap length (m .eqs), length-append es (merged (m .firsts) todo)),
-    omega (arith, ap length (m .kept), length-append ks (keep (m .firsts) todo)),
-  )
 
 -- ---- replacements made before stay behind those of a canonicalize
 

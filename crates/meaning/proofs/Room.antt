@@ -15,8 +15,8 @@ use Rattle.rules.specs.Canonicalize.{Replacement, replaceTerm, replaceAtom, fir
 use Rattle.rules.specs.RemoveDupVars.{alike, seen, keep, clashes, merged, Settled, afterPass, removeDupVars, settle}
 use Rattle.meaning.specs.Meaning.{All}
 use Rattle.meaning.specs.Weight.{unlike, live, tabWeight, tabsWeight, headsWeight, weight}
-use Rattle.meaning.proofs.Lists.{or-false, length-words-append}
-use Rattle.meaning.proofs.WordLaws.{length-tab, tabs-words}
+use Rattle.meaning.proofs.Lists.{or-false}
+use Rattle.meaning.proofs.WordLaws.{length-tab}
 use Rattle.meaning.proofs.CanonicalizeEnds.{unlike-small, live-falls}
 use Rattle.meaning.proofs.MergePass.{alike-same, IsEqn, merged-eqns, clashes-unlike}
 
@@ -25,10 +25,6 @@ use Rattle.meaning.proofs.MergePass.{alike-same, IsEqn, merged-eqns, cl
 pub tabs-words-weight : (ts : List Tab) → length (wordsOf tabWords ts) ≤ tabsWeight ts
 tabs-words-weight [] = omega arith
 tabs-words-weight (t ∷ ts) = omega (arith, tabs-words-weight ts, length-tab t, length-append (tabWords t) (wordsOf tabWords ts))
-
-pub tabs-weight-least : (ts : List Tab) → 4 * length ts ≤ tabsWeight ts
-tabs-weight-least [] = omega arith
-tabs-weight-least (t ∷ ts) = omega (arith, tabs-weight-least ts)
 
 -- a body weighs at most twice its words
 pub weight-words : (xs : List Atom) → weight xs ≤ 2 * length (wordsOf atomWords xs)
@@ -166,18 +162,6 @@ weight-pass s ts rs =
       weight-merged ts,
     )
 
--- in words: what canonicalize is given after a pass has room where the atoms before the pass had
-pub pass-words : (ts : List Tab) → length (wordsOf atomWords (merged [] ts ++ map tab (keep [] ts))) ≤ tabsWeight ts
-pass-words ts =
-    omega (
-      arith,
-      length-words-append atomWords (merged [] ts) (map tab (keep [] ts)),
-      eqns-words (merged [] ts) (merged-eqns [] ts),
-      ap length (tabs-words (keep [] ts)),
-      tabs-words-weight (keep [] ts),
-      weight-merged ts,
-    )
-
 -- ---- settling
 
 weight-passes : (s : Sig) (n : ℕ) (ts : List Tab) (rs : List Replacement) (k : ℕ)
@@ -210,7 +194,3 @@ weight-settle s xs =
 pub settle-size : (s : Sig) (xs : List Atom)
     → length (wordsOf tabWords (settle s xs .tabs)) + 3 * length (settle s xs .repls) ≤ weight xs
 settle-size s xs = omega (arith, weight-settle s xs, tabs-words-weight (settle s xs .tabs))
-
--- settled atoms and replacements together are no more than a quarter of the weight
-pub settle-count : (s : Sig) (xs : List Atom) → 4 * (length (settle s xs .tabs) + length (settle s xs .repls)) ≤ weight xs
-settle-count s xs = omega (arith, weight-settle s xs, tabs-weight-least (settle s xs .tabs))
