@@ -19,7 +19,8 @@ next-here : (count b : ℕ) (t : Tab) (ts : List Tab) (i : ℕ) → eqb (bucketI
 unfolding nextIn
 next-here count b t ts i e = ap (λ (h : Bool). cond h (i + 1) (nextIn count b ts (i + length (tabWords t)))) e
 
-next-there : (count b : ℕ) (t : Tab) (ts : List Tab) (i : ℕ) → eqb (bucketIn count t) b ≡ false → nextIn count b (t ∷ ts) i ≡ nextIn count b ts (i + length (tabWords t))
+next-there : (count b : ℕ) (t : Tab) (ts : List Tab) (i : ℕ) → eqb (bucketIn count t) b ≡ false
+    → nextIn count b (t ∷ ts) i ≡ nextIn count b ts (i + length (tabWords t))
 unfolding nextIn
 next-there count b t ts i e = ap (λ (h : Bool). cond h (i + 1) (nextIn count b ts (i + length (tabWords t)))) e
 
@@ -65,7 +66,11 @@ pub last-most : (count b : ℕ) (ts : List Tab) (i none : ℕ) → none ≤ i �
 unfolding lastIn
 last-most count b [] i none h = omega arith
 last-most count b (t ∷ ts) i none h =
-    omega (arith, length-append (tabWords t) (wordsOf tabWords ts), last-most count b ts (i + length (tabWords t)) (cond (eqb (bucketIn count t) b) (i + 1) none) (go (eqb (bucketIn count t) b)))
+    omega (
+      arith,
+      length-append (tabWords t) (wordsOf tabWords ts),
+      last-most count b ts (i + length (tabWords t)) (cond (eqb (bucketIn count t) b) (i + 1) none) (go (eqb (bucketIn count t) b)),
+    )
   where
     go : (c : Bool) → cond c (i + 1) none ≤ i + length (tabWords t)
     go true = omega (arith, two-tab t)
@@ -86,12 +91,14 @@ next-snoc-some count b [] x i n = absurd (n refl)
 next-snoc-some count b (t ∷ ts) x i n = go (eqb (bucketIn count t) b) refl (next-snoc-some count b ts x (i + length (tabWords t)))
   where
     go : (c : Bool) → eqb (bucketIn count t) b ≡ c
-        → ((nextIn count b ts (i + length (tabWords t)) ≡ 0 → ⊥) → nextIn count b (ts ++ x ∷ []) (i + length (tabWords t)) ≡ nextIn count b ts (i + length (tabWords t)))
+        → ((nextIn count b ts (i + length (tabWords t)) ≡ 0 → ⊥)
+        → nextIn count b (ts ++ x ∷ []) (i + length (tabWords t)) ≡ nextIn count b ts (i + length (tabWords t)))
         → cond c (i + 1) (nextIn count b (ts ++ x ∷ []) (i + length (tabWords t))) ≡ cond c (i + 1) (nextIn count b ts (i + length (tabWords t)))
     go true p more = refl
     go false p more = more (λ e. n (ap (λ (h : Bool). cond h (i + 1) (nextIn count b ts (i + length (tabWords t)))) p ∙ e))
 
-next-snoc-none : (count b : ℕ) (ts : List Tab) (x : Tab) (i j : ℕ) → j ≡ i + size ts → nextIn count b ts i ≡ 0 → nextIn count b (ts ++ x ∷ []) i ≡ cond (eqb (bucketIn count x) b) (j + 1) 0
+next-snoc-none : (count b : ℕ) (ts : List Tab) (x : Tab) (i j : ℕ) → j ≡ i + size ts → nextIn count b ts i ≡ 0
+    → nextIn count b (ts ++ x ∷ []) i ≡ cond (eqb (bucketIn count x) b) (j + 1) 0
 unfolding nextIn
 next-snoc-none count b [] x i j h e = ap (λ (k : ℕ). cond (eqb (bucketIn count x) b) (k + 1) 0) (omega arith)
 next-snoc-none count b (t ∷ ts) x i j h e =
@@ -137,7 +144,8 @@ module _ (count : ℕ) (x : Tab) (l m : List ℕ) (links j : ℕ) where
           let least = last-least count its ts i (o + 1) h some in
           let apart : o + 1 ≡ last → ⊥ = λ z. absurd (omega (arith, z, f, least, h)) in
           let at : links + o + 1 ≡ links + (o + 1) = omega arith in
-          ap (λ (k : ℕ). getD m k 0) at ∙ s .others (o + 1) (omega (arith, e)) apart ∙ sym (ap (λ (k : ℕ). getD l k 0) at) ∙ g ∙ sym (next-snoc-some count its ts x i some)
+          ap (λ (k : ℕ). getD m k 0) at ∙ s .others (o + 1) (omega (arith, e)) apart ∙ sym (ap (λ (k : ℕ). getD l k 0) at) ∙ g
+          ∙ sym (next-snoc-some count its ts x i some)
 
   -- a slot that is not the last one's is as it was
   still : (k last : ℕ) → k ≤ j → (k ≡ last → ⊥) → Step l m links j last → (q : ℕ) → q ≡ links + k → getD m q 0 ≡ getD l q 0
@@ -156,13 +164,15 @@ module _ (count : ℕ) (x : Tab) (l m : List ℕ) (links j : ℕ) where
   other a ts i e p = go (eqb (nextIn count a ts i) 0) refl
     where
       go : (d : Bool) → eqb (nextIn count a ts i) 0 ≡ d → nextIn count a (ts ++ x ∷ []) i ≡ nextIn count a ts i
-      go true q = next-snoc-none count a ts x i j e (eqb-true (nextIn count a ts i) 0 q) ∙ ap (λ (h : Bool). cond h (j + 1) 0) p ∙ sym (eqb-true (nextIn count a ts i) 0 q)
+      go true q =
+          next-snoc-none count a ts x i j e (eqb-true (nextIn count a ts i) 0 q) ∙ ap (λ (h : Bool). cond h (j + 1) 0) p ∙ sym (eqb-true (nextIn count a ts i) 0 q)
       go false q = next-snoc-some count a ts x i (eqb-false (nextIn count a ts i) 0 q)
 
   pub links-snoc : (ts : List Tab) (i none last : ℕ) → none ≤ i → j ≡ i + size ts → last ≡ lastIn count its ts i none → Step l m links j last
       → LinksAt count ts i l links → LinksAt count (ts ++ x ∷ []) i m links
   unfolding LinksAt lastIn
-  links-snoc [] i none last h e f s u = (ap (λ (k : ℕ). getD m (links + k + 1) 0) (omega arith) ∙ s .link ∙ sym (next-nothing count (bucketIn count x) (i + length (tabWords x))), tt)
+  links-snoc [] i none last h e f s u =
+      (ap (λ (k : ℕ). getD m (links + k + 1) 0) (omega arith) ∙ s .link ∙ sym (next-nothing count (bucketIn count x) (i + length (tabWords x))), tt)
   links-snoc (t ∷ ts) i none last h e f s u =
       go (eqb (bucketIn count t) its) refl f (λ o k g. links-snoc ts (i + length (tabWords t)) o last k (omega (arith, e, size-more t ts)) g s (u .1))
     where

@@ -20,18 +20,18 @@ carry-requires c κs =
     let p = c .before .before .before in
     carry-asks (start p .args .buf .now) _ _ _ _ (p .put-two .kept .0) (omega arith) (omega arith)
 
-abbrev first : tie.After-carry → tie.After-put-two
-first c = c .before .before .before .before
+abbrev row-of : tie.After-carry → tie.After-put-two
+row-of c = c .before .before .before .before
 
 add-result : tie.Need-add-result
-add-result c = omega (arith, length-words (start (first (c .before .before)) .args .buf .now))
+add-result c = omega (arith, length-words (start (row-of (c .before .before)) .args .buf .now))
 
 same-length : tie.Need-same-length
 same-length c = search needs
 
 returns : tie.Need-returns
 returns c =
-    let p = first (c .before .before) in
+    let p = row-of (c .before .before) in
     let a = start p .args in
     let row = p .put-two .ensures in
     let carried = c .before .before .carry .ensures in
