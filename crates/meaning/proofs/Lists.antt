@@ -42,6 +42,10 @@ pub or-assoc : (a b c : Bool) → (a || (b || c)) ≡ ((a || b) || c)
 or-assoc true b c = refl
 or-assoc false b c = refl
 
+pub or-no : (a : Bool) → (a || false) ≡ a
+or-no true = refl
+or-no false = refl
+
 -- what both branches have
 pub cond-both : {A : Type 0} (P : A → Type 0) (b : Bool) (x y : A) → P x → P y → P (cond b x y)
 cond-both P true x y h k = h
