@@ -2,7 +2,7 @@
 use mathlib.Core.Bool.{true}
 use mathlib.Core.List.{List, [], _++_, _∷_}
 use mathlib.Core.Path.{_∙_, _≡_, ap, ap₂, refl, sym}
-use Prim.Native.Nat.{ℕ, suc, zero, _+_, _<_, _≤_}
+use Prim.Native.Nat.{ℕ, suc, zero, _+_, _-_, _<_, _≤_}
 use native.Mathlib.Omega.{arith}
 use native.Mathlib.Nat.{mul-lt-mul-of-pos-right}
 use native.Mathlib.Numerals.{add-one}
@@ -44,22 +44,41 @@ key-word : (w : ℕ) → keyOf (w ∷ []) ≡ w
 unfolding keyOf mixAll
 key-word w = refl
 
-module _ (l : List ℕ) (p : ℕ) where
-  pub key-one : (w : ℕ) → p < length l → w ≡ getD l p 0 → w ≡ keyOf (part l p 1)
-  key-one w h e = sym (ap keyOf (part-one l p w h (sym e)) ∙ key-word w)
+-- k is the key of the i words at p
+pub record Keyed (l : List ℕ) (p i k : ℕ) : Type 0 where
+  pub is : k ≡ keyOf (part l p i)
+  pub some : 0 < i
+  pub within : p + i ≤ length l
 
-  -- the key k of the first i words, with m more
-  pub key-on : (i m k : ℕ) → 0 < i → p + i ≤ length l → k ≡ keyOf (part l p i) → mixAll k (part l (p + i) m) ≡ keyOf (part l p (i + m))
-  key-on i m k some within e =
-      let size = length-part l p i within in
-      ap (λ (x : ℕ). mixAll x (part l (p + i) m)) e ∙ sym (ap keyOf (part-join l p i m) ∙ key-append (part l p i) (part l (p + i) m) (omega (arith, size)))
+pub key-one : {l : List ℕ} {p w : ℕ} → p < length l → w ≡ getD l p 0 → Keyed l p 1 w
+key-one {l} {p} {w} h e = record { is = sym (ap keyOf (part-one l p w h (sym e)) ∙ key-word w); some = omega arith; within = omega arith }
 
-  pub key-more : (i k w : ℕ) → 0 < i → p + i < length l → k ≡ keyOf (part l p i) → w ≡ getD l (p + i) 0 → mix k w ≡ keyOf (part l p (i + 1))
-  key-more i k w some within e f =
-      sym (mix-one k w) ∙ ap (mixAll k) (sym (part-one l (p + i) w within (sym f))) ∙ key-on i 1 k some (omega arith) e
+module _ {l : List ℕ} {p i k : ℕ} (g : Keyed l p i k) where
+  -- with all of the n words mixed into it
+  pub key-all : (n : ℕ) {r : ℕ} → i ≤ n → r ≡ mixAll k (part l (p + i) (n - i)) → r ≡ keyOf (part l p n)
+  key-all n h e =
+      let m : ℕ = n - i in
+      let all : i + m ≡ n = omega arith in
+      let size = length-part l p i (g .within) in
+      e ∙ ap (λ (x : ℕ). mixAll x (part l (p + i) m)) (g .is)
+      ∙ sym (ap keyOf (part-join l p i m) ∙ key-append (part l p i) (part l (p + i) m) (omega (arith, size, g .some)))
+      ∙ ap (λ (j : ℕ). keyOf (part l p j)) all
 
-  pub key-two : (v w : ℕ) → p + 1 < length l → v ≡ getD l p 0 → w ≡ getD l (p + 1) 0 → mix v w ≡ keyOf (part l p 2)
-  key-two v w h e f = key-more 1 v w (omega arith) h (key-one v (omega arith) e) f
+  -- they are all there are
+  pub key-done : (n : ℕ) → i ≡ n → k ≡ keyOf (part l p n)
+  key-done n e = g .is ∙ ap (λ (j : ℕ). keyOf (part l p j)) e
+
+  -- with one word more
+  pub key-more : {w r : ℕ} → p + i < length l → w ≡ getD l (p + i) 0 → r ≡ mix k w → Keyed l p (i + 1) r
+  key-more {w} h f e =
+      let size = length-part l p i (g .within) in
+      let one : w ∷ [] ≡ part l (p + i) 1 = sym (part-one l (p + i) w h (sym f)) in
+      record {
+        is = e ∙ sym (mix-one k w) ∙ (λ j. mixAll (g .is j) (one j))
+            ∙ sym (ap keyOf (part-join l p i 1) ∙ key-append (part l p i) (part l (p + i) 1) (omega (arith, size, g .some)));
+        some = omega arith;
+        within = omega arith;
+      }
 
 -- ---- filling
 

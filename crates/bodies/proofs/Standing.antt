@@ -1,25 +1,20 @@
 -- Atoms that stand in a region: they are the atoms read there, steps elsewhere leave them, and they are walked from the first on.
 -- Assumes nothing.
-use mathlib.Core.Bool.{Bool, _&&_, cond, false, not, true}
+use mathlib.Core.Bool.{Bool, false, true}
 use mathlib.Core.List.{List, [], _++_, _∷_, append-assoc, map}
 use mathlib.Core.Path.{_∙_, _≡_, ap, ap₂, refl, subst, sym}
 use Prim.Native.Nat.{_%_, _+_, _-_, _<_, _≤_, suc, ℕ}
 use native.Mathlib.Numerals.{add-one}
 use native.Mathlib.Omega.{arith}
-use lib.Dec.{eqb}
 use lib.ListN.{drop, getD, length, length-append, length-drop, take, take-append-drop}
-use lib.Seq.{drop-cons, getD-at, getD-drop, take-at}
-use borrow.Author.Tests.{eq-eqb}
+use lib.Seq.{drop-cons, getD-at, take-at}
 use Rattle.octets.proofs.Places.{at-after, at-before, at-first, at-join, at-left, at-nil, at-right}
-use Rattle.octets.proofs.Splice.{getD-part, length-part}
 use Rattle.octets.specs.Regions.{At, Only, part}
 use Rattle.rules.specs.Canonicalize.{Replacement, replaceAtom, resolve, resolveEq}
 use Rattle.rules.specs.Flat.{Atom, Tab, atomWords, eqn, tab, tabWords, wordsOf}
-use Rattle.rules.specs.RemoveDupVars.{alike, clashes, merged, seen}
-use Rattle.rules.specs.Signature.{Sig, sameTerm, sameTerms}
-use Rattle.rules.specs.Words.{countOf, equalityWord, headBase, headOf, headWord, limit16, literalBase}
-use Rattle.meaning.proofs.Lists.{all-append, length-words-append, same-terms, terms-same, words-append}
-use Rattle.meaning.proofs.MergePass.{alike-same}
+use Rattle.rules.specs.Signature.{Sig, sameTerm}
+use Rattle.rules.specs.Words.{countOf, headWord, limit16}
+use Rattle.meaning.proofs.Lists.{all-append, length-words-append, words-append}
 use Rattle.meaning.proofs.ReadBack.{atoms-back, count-of, head-of, tabs-back, tabs-encodable, unplaced-encodable, unplaced-words}
 use Rattle.meaning.proofs.WordLaws.{length-tab, tabs-words, two-atom, two-tab}
 use Rattle.meaning.specs.Meaning.{All}
@@ -57,22 +52,6 @@ bare-resolve s (eqn p a b ∷ xs) h = go (sameTerm a b) (bare-resolve s xs (h .1
     go : (c : Bool) → All BareTab (resolve s xs) → All BareTab (resolveEq s c p a b (resolve s xs))
     go true k = k
     go false k = (h .0, k)
-
-bare-clashes : (a : Tab) (xs : List Tab) → All Bare (clashes a xs)
-bare-clashes a [] = tt
-bare-clashes a (b ∷ xs) = go (alike a b && not (sameTerm (a .out) (b .out))) (bare-clashes a xs)
-  where
-    go : (c : Bool) → All Bare (clashes a xs) → All Bare (cond c (eqn 0 (a .out) (b .out) ∷ clashes a xs) (clashes a xs))
-    go true h = (refl, h)
-    go false h = h
-
-pub bare-merged : (fs ts : List Tab) → All Bare (merged fs ts)
-bare-merged fs [] = tt
-bare-merged fs (a ∷ xs) = go (seen a fs) (bare-merged fs xs) (bare-merged (a ∷ fs) xs)
-  where
-    go : (b : Bool) → All Bare (merged fs xs) → All Bare (merged (a ∷ fs) xs) → All Bare (cond b (merged fs xs) (clashes a xs ++ merged (a ∷ fs) xs))
-    go true old new = old
-    go false old new = all-append Bare (clashes a xs) (merged (a ∷ fs) xs) (bare-clashes a xs) new
 
 tabs-bare : (ts : List Tab) → All BareTab ts → All Bare (map tab ts)
 tabs-bare [] h = tt
@@ -197,10 +176,6 @@ unfolding sizeAt
 size-atom (eqn q a b) f l p s = ap (λ (w : ℕ). w % limit16 + 1) (at-first s)
 size-atom (tab t) f l p s = size-tab t f l p s
 
-pub equality-size : (l : List ℕ) (p : ℕ) → getD l p 0 ≡ equalityWord → sizeAt l p ≡ 3
-unfolding sizeAt
-equality-size l p h = ap (λ (w : ℕ). w % limit16 + 1) h
-
 -- ---- the first of the atoms in a region, and what is left
 
 pub record First (xs : List Atom) (l : List ℕ) (p n : ℕ) : Type 0 where
@@ -215,34 +190,47 @@ pub record First (xs : List Atom) (l : List ℕ) (p n : ℕ) : Type 0 where
   pub size : sizeAt l p ≡ length (atomWords atom)
   pub after : (q m : ℕ) → q ≡ p + length (atomWords atom) → m ≡ n - length (atomWords atom) → AtomsAt rest l q m
 
-rest-within : (a b n m p q k : ℕ) → n ≡ a + b → m ≡ n - a → q ≡ p + a → p + n ≤ k → q + m ≤ k
-rest-within a b n m p q k e f g h = omega arith
+-- the words of a first thing, and of those behind it, in n words at p
+record Cut {A : Type 0} (ws : A → List ℕ) (x : A) (xs : List A) (l : List ℕ) (p n : ℕ) : Type 0 where
+  pub stands : At (ws x) l p
+  pub inside : length (ws x) ≤ n
+  pub left : (m : ℕ) → m ≡ n - length (ws x) → m ≡ length (wordsOf ws xs)
+  pub behind : (q : ℕ) → q ≡ p + length (ws x) → At (wordsOf ws xs) l q
+  pub within : (q m : ℕ) → q ≡ p + length (ws x) → m ≡ n - length (ws x) → q + m ≤ length l
 
-rest-size : (a b n m : ℕ) → n ≡ a + b → m ≡ n - a → m ≡ b
-rest-size a b n m e f = omega arith
+cut : {A : Type 0} (ws : A → List ℕ) (x : A) (xs : List A) (l : List ℕ) (p n : ℕ) → n ≡ length (wordsOf ws (x ∷ xs)) → At (wordsOf ws (x ∷ xs)) l p → p + n ≤ length l
+    → Cut ws x xs l p n
+cut ws x xs l p n e s h =
+    let size : n ≡ length (ws x) + length (wordsOf ws xs) = e ∙ length-append (ws x) (wordsOf ws xs) in
+    record {
+      stands = at-left (wordsOf ws xs) s;
+      inside = omega arith;
+      left = λ m em. rest-size (length (ws x)) (length (wordsOf ws xs)) n m size em;
+      behind = λ q eq. at-right (ws x) q s eq;
+      within = λ q m eq em. rest-within (length (ws x)) (length (wordsOf ws xs)) n m p q (length l) size em eq h;
+    }
+  where
+    rest-within : (a b n m p q k : ℕ) → n ≡ a + b → m ≡ n - a → q ≡ p + a → p + n ≤ k → q + m ≤ k
+    rest-within a b n m p q k e f g h = omega arith
+
+    rest-size : (a b n m : ℕ) → n ≡ a + b → m ≡ n - a → m ≡ b
+    rest-size a b n m e f = omega arith
 
 pub first-atom : (xs : List Atom) (l : List ℕ) (p n : ℕ) → AtomsAt xs l p n → 0 < n → First xs l p n
 first-atom [] l p n s h = absurd (omega (arith, s .size))
 first-atom (x ∷ xs) l p n s h =
-    let size : n ≡ length (atomWords x) + length (wordsOf atomWords xs) = s .size ∙ length-append (atomWords x) (wordsOf atomWords xs) in
-    let k : At (atomWords x) l p = at-left (wordsOf atomWords xs) (s .at) in
+    let k = cut atomWords x xs l p n (s .size) (s .at) (s .within) in
     record {
       atom = x;
       rest = xs;
       is = refl;
       fits = s .fits .0;
       bare = s .bare .0;
-      stands = k;
-      inside = omega arith;
+      stands = k .stands;
+      inside = k .inside;
       some = two-atom x;
-      size = size-atom x (s .fits .0) l p k;
-      after = λ q m eq em. record {
-        fits = s .fits .1;
-        bare = s .bare .1;
-        size = rest-size (length (atomWords x)) (length (wordsOf atomWords xs)) n m size em;
-        at = at-right (atomWords x) q (s .at) eq;
-        within = rest-within (length (atomWords x)) (length (wordsOf atomWords xs)) n m p q (length l) size em eq (s .within);
-      };
+      size = size-atom x (s .fits .0) l p (k .stands);
+      after = λ q m eq em. record { fits = s .fits .1; bare = s .bare .1; size = k .left m em; at = k .behind q eq; within = k .within q m eq em };
     }
 
 pub none-left : (xs : List Atom) (l : List ℕ) (p n : ℕ) → AtomsAt xs l p n → n ≤ 0 → xs ≡ []
@@ -264,25 +252,18 @@ pub record FirstTab (ts : List Tab) (l : List ℕ) (p n : ℕ) : Type 0 where
 pub first-tab : (ts : List Tab) (l : List ℕ) (p n : ℕ) → TabsAt ts l p n → 0 < n → FirstTab ts l p n
 first-tab [] l p n s h = absurd (omega (arith, s .size))
 first-tab (x ∷ xs) l p n s h =
-    let size : n ≡ length (tabWords x) + length (wordsOf tabWords xs) = s .size ∙ length-append (tabWords x) (wordsOf tabWords xs) in
-    let k : At (tabWords x) l p = at-left (wordsOf tabWords xs) (s .at) in
+    let k = cut tabWords x xs l p n (s .size) (s .at) (s .within) in
     record {
       atom = x;
       rest = xs;
       is = refl;
       fits = s .fits .0;
       bare = s .bare .0;
-      stands = k;
-      inside = omega arith;
+      stands = k .stands;
+      inside = k .inside;
       some = two-tab x;
-      size = size-tab x (s .fits .0) l p k;
-      after = λ q m eq em. record {
-        fits = s .fits .1;
-        bare = s .bare .1;
-        size = rest-size (length (tabWords x)) (length (wordsOf tabWords xs)) n m size em;
-        at = at-right (tabWords x) q (s .at) eq;
-        within = rest-within (length (tabWords x)) (length (wordsOf tabWords xs)) n m p q (length l) size em eq (s .within);
-      };
+      size = size-tab x (s .fits .0) l p (k .stands);
+      after = λ q m eq em. record { fits = s .fits .1; bare = s .bare .1; size = k .left m em; at = k .behind q eq; within = k .within q m eq em };
     }
 
 pub no-tab-left : (xs : List Tab) (l : List ℕ) (p n : ℕ) → TabsAt xs l p n → n ≤ 0 → xs ≡ []
@@ -290,14 +271,20 @@ no-tab-left [] l p n s h = refl
 no-tab-left (x ∷ xs) l p n s h = absurd (omega (arith, s .size, length-append (tabWords x) (wordsOf tabWords xs), two-tab x))
 
 -- a walk that starts: no words are passed
-pub none-passed : (ts : List Tab) (l : List ℕ) (p n : ℕ) → TabsAt ts l p n → TabsAt ts l (p + 0) (n - 0)
-none-passed ts l p n s = subst (λ (q : ℕ). TabsAt ts l q (n - 0)) (plus p) (subst (λ (q : ℕ). TabsAt ts l p q) (minus n) s)
+passed-none : (P : ℕ → ℕ → Type 0) (p n : ℕ) → P p n → P (p + 0) (n - 0)
+passed-none P p n s = subst (λ (q : ℕ). P q (n - 0)) (plus p) (subst (λ (m : ℕ). P p m) (minus n) s)
   where
     plus : (p : ℕ) → p ≡ p + 0
     plus p = omega arith
 
     minus : (p : ℕ) → p ≡ p - 0
     minus p = omega arith
+
+pub none-passed : (ts : List Tab) (l : List ℕ) (p n : ℕ) → TabsAt ts l p n → TabsAt ts l (p + 0) (n - 0)
+none-passed ts l p n s = passed-none (λ (q m : ℕ). TabsAt ts l q m) p n s
+
+pub atoms-ahead : {xs : List Atom} {l : List ℕ} {p n : ℕ} → AtomsAt xs l p n → AtomsAt xs l (p + 0) (n - 0)
+atoms-ahead {xs} {l} {p} {n} s = passed-none (λ (q m : ℕ). AtomsAt xs l q m) p n s
 
 -- ---- an atom of a head that stands is read
 
@@ -337,71 +324,3 @@ module _ (t : Tab) (l : List ℕ) (p : ℕ) (f : EncodableTab t) (s : At (tabWor
         some = omega (arith, c);
         within = omega (arith, c, s .within, length-tab t);
       }
-
-pub tab-bare : (l : List ℕ) (p : ℕ) → BareTab (tabAt l p)
-unfolding tabAt
-tab-bare l p = refl
-
--- ---- alike
-
--- a head word is told by its parts
-whole-word : (w : ℕ) → headBase ≤ w → w < literalBase → w ≡ headWord (headOf w) (w % limit16)
-whole-word w a b = omega arith
-
-count-low : (w : ℕ) → headBase ≤ w → countOf w ≡ w % limit16
-count-low w h = omega arith
-
-module _ (l : List ℕ) (p q : ℕ) (a : TabAt l p) (b : TabAt l q) where
-  pub heads-differ : (getD l p 0 ≡ getD l q 0 → ⊥) → alike (tabAt l p) (tabAt l q) ≡ false
-  unfolding tabAt
-  heads-differ k = go (alike (tabAt l p) (tabAt l q)) refl
-    where
-      ca : countOf (getD l p 0) ≡ getD l p 0 % limit16
-      ca = count-low (getD l p 0) (a .low)
-
-      cb : countOf (getD l q 0) ≡ getD l q 0 % limit16
-      cb = count-low (getD l q 0) (b .low)
-
-      go : (c : Bool) → alike (tabAt l p) (tabAt l q) ≡ c → c ≡ false
-      go false e = refl
-      go true e =
-          let w = alike-same (tabAt l p) (tabAt l q) e in
-          let n : countOf (getD l p 0) - 1 ≡ countOf (getD l q 0) - 1 =
-          sym (length-part l (p + 1) (countOf (getD l p 0) - 1) (omega (arith, a .within, a .some, ca))) ∙ ap length (w .1)
-          ∙ length-part l (q + 1) (countOf (getD l q 0) - 1) (omega (arith, b .within, b .some, cb)) in
-          let m : getD l p 0 % limit16 ≡ getD l q 0 % limit16 = omega (arith, a .some, b .some, ca, cb, n) in
-          absurd (k (whole-word (getD l p 0) (a .low) (a .high) ∙ ap₂ headWord (w .0) m ∙ sym (whole-word (getD l q 0) (b .low) (b .high))))
-
-  pub heads-same : (n : ℕ) → getD l p 0 ≡ getD l q 0 → n ≡ getD l p 0 % limit16 - 1 → sameTerms (part l (p + 1) n) (part l (q + 1) n) ≡ alike (tabAt l p) (tabAt l q)
-  unfolding tabAt
-  heads-same n e en =
-      let n₁ : n ≡ countOf (getD l p 0) - 1 = en ∙ ap (λ (k : ℕ). k - 1) (sym (count-low (getD l p 0) (a .low))) in
-      let n₂ : n ≡ countOf (getD l q 0) - 1 = n₁ ∙ ap (λ (w : ℕ). countOf w - 1) e in
-      let h : true ≡ eqb (headOf (getD l p 0)) (headOf (getD l q 0)) = sym (eq-eqb _ _ (ap headOf e)) in
-      λ i. h i && sameTerms (part l (p + 1) (n₁ i)) (part l (q + 1) (n₂ i))
-
--- the output is the last word
-pub out-at : (l : List ℕ) (p : ℕ) → TabAt l p → getD l (p + getD l p 0 % limit16) 0 ≡ tabAt l p .out
-unfolding tabAt
-out-at l p a =
-    ap (λ (k : ℕ). getD l k 0) (sum p (getD l p 0 % limit16) (countOf (getD l p 0)) (a .some) (count-low (getD l p 0) (a .low))) ∙ sym (getD-drop (p + 1) l (countOf (getD l p 0) - 1) 0)
-  where
-    sum : (p c d : ℕ) → 1 ≤ c → d ≡ c → p + c ≡ p + 1 + (d - 1)
-    sum p c d h e = omega arith
-
--- ---- terms compared one by one
-
-differ-false : (xs ys : List ℕ) → (xs ≡ ys → ⊥) → sameTerms xs ys ≡ false
-differ-false xs ys k = go (sameTerms xs ys) refl
-  where
-    go : (b : Bool) → sameTerms xs ys ≡ b → sameTerms xs ys ≡ false
-    go true e = absurd (k (same-terms xs ys e))
-    go false e = e
-
-pub terms-differ : (l : List ℕ) (p q i n : ℕ) → i < n → (getD l (p + i) 0 ≡ getD l (q + i) 0 → ⊥) → sameTerms (part l p n) (part l q n) ≡ false
-terms-differ l p q i n h w =
-    differ-false (part l p n) (part l q n) (λ e. w (sym (getD-part l p n i h) ∙ ap (λ (x : List ℕ). getD x i 0) e ∙ getD-part l q n i h))
-
-pub terms-alike : (l : List ℕ) (p q i n : ℕ) → i ≡ n → part l p i ≡ part l q i → sameTerms (part l p n) (part l q n) ≡ true
-terms-alike l p q i n e h =
-    ap (λ (k : ℕ). sameTerms (part l p k) (part l q k)) (sym e) ∙ ap (λ (x : List ℕ). sameTerms x (part l q i)) h ∙ terms-same (part l q i)

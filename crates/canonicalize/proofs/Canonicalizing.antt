@@ -17,12 +17,11 @@ use Rattle.meaning.proofs.WordLaws.{bindings-words}
 use Rattle.meaning.specs.Meaning.{All}
 use Rattle.meaning.specs.Weight.{weight}
 use Rattle.bodies.specs.Standing.{AtomsAt, Bare, TabsAt, atomsIn}
-use Rattle.bodies.proofs.Standing.{First, atoms-before, atoms-is, atoms-join, atoms-read, first-atom, tabs-before, tabs-join}
+use Rattle.bodies.proofs.Standing.{First, atoms-ahead, atoms-before, atoms-is, atoms-join, atoms-read, first-atom, tabs-before, tabs-join}
 use Rattle.canonicalize.specs.declared.Canonical.{Canonical}
 use Rattle.canonicalize.specs.Canonicalize.{CanonicalAt, CanonicalizeAsks, FrontAsks, Fronted, Leads, ReplaceAsks, Replaced, ResolveAsks, Resolved, bindingWords}
 use Rattle.canonicalize.specs.Spans.{Built, Spanned}
 use Rattle.canonicalize.proofs.Replacing.{bindings-append, no-equality}
-use Rattle.canonicalize.proofs.Runs.{atoms-ahead}
 use Rattle.canonicalize.proofs.SpanLaws.{spanned-tail}
 use Rattle.canonicalize.proofs.SpansBuilt.{built-only}
 

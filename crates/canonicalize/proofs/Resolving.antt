@@ -15,9 +15,9 @@ use Rattle.meaning.proofs.Encodable.{resolve-encodable}
 use Rattle.meaning.proofs.Lists.{length-words-append}
 use Rattle.meaning.proofs.MergePass.{IsEqn}
 use Rattle.bodies.specs.Standing.{AtomsAt, TabsAt, atomsIn}
-use Rattle.bodies.proofs.Standing.{First, atoms-before, atoms-is, atoms-read, bare-resolve, first-atom, no-tabs, none-left, tabs-before, tabs-join}
+use Rattle.bodies.proofs.Standing.{First, atoms-ahead, atoms-before, atoms-is, atoms-read, bare-resolve, first-atom, no-tabs, none-left, tabs-before, tabs-join}
 use Rattle.canonicalize.specs.Canonicalize.{ResolveAsks, ResolveOneAsks, Resolved, othersIn, resolveAt, resolveTerms, untilEqn}
-use Rattle.canonicalize.proofs.Runs.{StartsEqn, atoms-ahead, from-starts, fromEqn, run-inside, run-rest, run-tabs, until-resolve}
+use Rattle.canonicalize.proofs.Runs.{StartsEqn, from-starts, fromEqn, run-inside, run-rest, run-tabs, until-resolve}
 
 -- ---- one equality
 

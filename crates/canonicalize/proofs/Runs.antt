@@ -14,7 +14,7 @@ use Rattle.meaning.proofs.MergePass.{IsEqn}
 use Rattle.meaning.specs.Meaning.{All}
 use Rattle.meaning.specs.ReadBack.{Encodable, EncodableTab}
 use Rattle.bodies.specs.Standing.{AtomsAt, Bare, BareTab, TabsAt, atomsIn, sizeAt}
-use Rattle.bodies.proofs.Standing.{First, first-atom, none-left}
+use Rattle.bodies.proofs.Standing.{First, atoms-ahead, first-atom, none-left}
 use Rattle.canonicalize.specs.Canonicalize.{othersIn, untilEqn}
 use Rattle.canonicalize.proofs.Replacing.{no-equality}
 
@@ -111,16 +111,6 @@ until-eqn (tab t ∷ xs) h = absurd h
 until-tab : (t : Tab) (xs : List Atom) → length (wordsOf tabWords (untilEqn (tab t ∷ xs))) ≡ length (tabWords t) + length (wordsOf tabWords (untilEqn xs))
 unfolding untilEqn
 until-tab t xs = length-append (tabWords t) (wordsOf tabWords (untilEqn xs))
-
--- nothing is passed yet
-pub atoms-ahead : {xs : List Atom} {l : List ℕ} {p n : ℕ} → AtomsAt xs l p n → AtomsAt xs l (p + 0) (n - 0)
-atoms-ahead {xs} {l} {p} {n} c = subst (λ (q : ℕ). AtomsAt xs l q (n - 0)) (plus p) (subst (λ (q : ℕ). AtomsAt xs l p q) (minus n) c)
-  where
-    plus : (p : ℕ) → p ≡ p + 0
-    plus p = omega arith
-
-    minus : (p : ℕ) → p ≡ p - 0
-    minus p = omega arith
 
 module _ {l : List ℕ} {from n : ℕ} (c : AtomsAt (atomsIn l from n) l from n) where
   pub passing-start : Passing l from n 0

@@ -1,3 +1,4 @@
+-- The low bits of an atom's first word count the words behind it, for a head and for an equality alike. Assumes nothing.
 use mathlib.Core.Path.{_∙_, ap, sym}
 use Prim.Native.Nat.{_%_, _+_, ℕ}
 use borrow.Author.Needs.{needs}
@@ -6,25 +7,20 @@ use Rattle.rules.specs.Words.{limit16}
 use Rattle.bodies.proofs.Standing.{size-at}
 use Rattle.bodies.proofs.atoms.size.Statement.{statement}
 use Rattle.bodies.proofs.atoms.size.Tie as tie
-use Rattle.bodies.proofs.atoms.size.Reads as reads
-use Rattle.bodies.proofs.atoms.size.Lts as lts
-use Rattle.octets.proofs.get.Reads as get-reads
 
--- src/atoms.rt:20:9
 get-requires : tie.Need-get-requires
 get-requires c κs = search needs
 
--- src/atoms.rt:21:5
 cast-result : tie.Need-cast-result
 cast-result c = search needs
 
--- src/atoms.rt:21:5
 add-result : tie.Need-add-result
 add-result c = search needs
 
--- src/atoms.rt:16:1
 returns : tie.Need-returns
-returns c = ap (λ (w : ℕ). w % limit16 + 1) (c .get .ensures .is) ∙ sym (size-at (words (c .before .before .args .s .now)) (c .before .before .args .p))
+returns c =
+    let a = c .before .before .args in
+    ap (λ (w : ℕ). w % limit16 + 1) (c .get .ensures .is) ∙ sym (size-at (words (a .s .now)) (a .p))
 
 pub size-spec : {M : Type 1} → statement M
 size-spec = tie.close (tie.spec get-requires cast-result add-result returns)

@@ -1,4 +1,4 @@
--- `buckets::bucket` meets its contract. Assumes nothing.
+-- A word's bucket is the upper half of its key times the count: a key is below 2^32, so that is below the count. Assumes nothing.
 use mathlib.Core.Path.{_∙_, _≡_, ap, refl, subst, sym}
 use Prim.Native.Nat.{ℕ, _*_, _/_, _<_}
 use native.Mathlib.Nat.{mul-lt-mul-of-pos-right}
@@ -8,7 +8,6 @@ use Rattle.bodies.specs.Buckets.{bucketOf, mix}
 use Rattle.bodies.proofs.BucketLaws.{bucket-in, mix-word}
 use Rattle.bodies.proofs.buckets.bucket.Statement.{statement}
 use Rattle.bodies.proofs.buckets.bucket.Tie as tie
-use Rattle.bodies.proofs.buckets.mixed.Reads as mixed-reads
 
 mixed-requires : tie.Need-mixed-requires
 mixed-requires c κs = search needs

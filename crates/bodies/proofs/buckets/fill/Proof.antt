@@ -1,4 +1,4 @@
--- `buckets::fill` meets its contract: the row that it fills is so many of one word. Assumes nothing.
+-- Filling a row with one word: after i turns the first i words are that word, and the others are as they were. Assumes nothing.
 use mathlib.Core.Path.{refl}
 use Prim.Native.Nat.{ℕ, _-_}
 use native.Mathlib.Omega.{arith}
@@ -33,8 +33,9 @@ loop-less c = search needs
 
 loop-again : tie.Need-loop-again Inv-loop μ-loop
 loop-again c =
-    let w : ℕ = c .before .before .before .before .before .before .before .args .w in
-    filled-next (c .before .before .before .before .before .loop .inv) (omega arith) (omega arith) (c .before .before .put .kept .0) (c .before .before .put .ensures) refl (replicate-more (c .before .before .before .before .before .loop .i) w)
+    let t = c .before .before .before .before .before in
+    let p = c .before .before .put in
+    filled-next (t .loop .inv) (omega arith) (omega arith) (p .kept .0) (p .ensures) refl (replicate-more (t .loop .i) (t .before .before .args .w))
 
 same-length : tie.Need-same-length Inv-loop μ-loop
 same-length c = search needs

@@ -1,4 +1,4 @@
--- `buckets::mix_all` meets its contract: the words read so far are mixed. Assumes nothing.
+-- Mixing a row of words into a key: after i turns the first i are mixed, in their order. Assumes nothing.
 use mathlib.Core.Path.{_∙_, _≡_, ap, sym}
 use Prim.Native.Nat.{_+_, _-_, _<_, _≤_, ℕ}
 use native.Mathlib.Omega.{arith}
@@ -11,10 +11,6 @@ use Rattle.bodies.specs.Buckets.{mix, mixAll}
 use Rattle.bodies.proofs.BucketLaws.{mix-more, mix-none}
 use Rattle.bodies.proofs.buckets.mix_all.Statement.{statement}
 use Rattle.bodies.proofs.buckets.mix_all.Tie as tie
-use Rattle.bodies.proofs.buckets.mix_all.Reads as reads
-use Rattle.bodies.proofs.buckets.mix_all.Lts as lts
-use Rattle.octets.proofs.get.Reads as get-reads
-use Rattle.bodies.proofs.buckets.mixed.Reads as mixed-reads
 
 abbrev Inv-loop : tie.InvT-loop
 Inv-loop s p n start k₀ i₀ k i = (i ≤ n) × (k ≡ mixAll start (part (words s) p i))
@@ -22,24 +18,20 @@ Inv-loop s p n start k₀ i₀ k i = (i ≤ n) × (k ≡ mixAll start (part (wor
 abbrev μ-loop : tie.MeasureT-loop
 μ-loop s p n start k₀ i₀ k i = n - i
 
+abbrev In : Type 0
+In = tie.In-loop Inv-loop μ-loop
+
+abbrev start : In → tie.Start Inv-loop μ-loop
+start c = c .before .before .before
+
 loop-holds : tie.Need-loop-holds Inv-loop μ-loop
-loop-holds c = (search needs, sym (mix-none (c .before .args .start) (words (c .before .args .s .now)) (c .before .args .p)))
+loop-holds c = let a = c .before .args in (search needs, sym (mix-none (a .start) (words (a .s .now)) (a .p)))
 
 add-get : tie.Need-add-get Inv-loop μ-loop
-add-get c =
-    let a = c .before .before .before .args in
-    let l = words (a .s .now) in
-    let i = c .before .loop .i in
-    let top = length-words (a .s .now) in
-    omega arith
+add-get c = omega (arith, length-words (start c .args .s .now))
 
 get-requires : tie.Need-get-requires Inv-loop μ-loop
-get-requires c κs =
-    let a = c .before .before .before .args in
-    let l = words (a .s .now) in
-    let i = c .before .loop .i in
-    let top = length-words (a .s .now) in
-    omega arith
+get-requires c κs = omega arith
 
 mixed-requires : tie.Need-mixed-requires Inv-loop μ-loop
 mixed-requires c κs = search needs
@@ -52,17 +44,16 @@ loop-less c = search needs
 
 loop-again : tie.Need-loop-again Inv-loop μ-loop
 loop-again c =
-    let a = c .before .before .before .before .before .args in
-    let l = words (a .s .now) in
-    let i = c .before .before .before .loop .i in
-    let top = length-words (a .s .now) in
-    let here : a .p + i < length l = omega arith in
-    (omega arith, c .mixed .ensures ∙ (λ j. mix (c .before .before .before .loop .inv .1 j) (c .before .get .ensures .is j)) ∙ sym (mix-more (a .start) l (a .p) i here))
+    let w = c .before .before .before .loop in
+    let a = start (c .before .before) .args in
+    let more = sym (mix-more (a .start) (words (a .s .now)) (a .p) (w .i) (omega arith)) in
+    (omega arith, c .mixed .ensures ∙ (λ j. mix (w .inv .1 j) (c .before .get .ensures .is j)) ∙ more)
 
 returns : tie.Need-returns Inv-loop μ-loop
 returns c =
-    let done : c .before .loop .i ≡ c .before .before .before .args .n = omega arith in
-    c .before .loop .inv .1 ∙ ap (λ (x : ℕ). mixAll (c .before .before .before .args .start) (part (words (c .before .before .before .args .s .now)) (c .before .before .before .args .p) x)) done
+    let a = c .before .before .before .args in
+    let done : c .before .loop .i ≡ a .n = omega arith in
+    c .before .loop .inv .1 ∙ ap (λ (x : ℕ). mixAll (a .start) (part (words (a .s .now)) (a .p) x)) done
 
 pub mix-all-spec : {M : Type 1} → statement M
 mix-all-spec =

@@ -1,11 +1,9 @@
--- `buckets::mixed` meets its contract. Assumes nothing.
+-- Mixing a word into a key is the definition's own sum, which fits 64 bits before the rest is taken. Assumes nothing.
 use mathlib.Core.Path.{refl}
 use borrow.Author.Needs.{needs}
 use Rattle.bodies.specs.Buckets.{mix}
 use Rattle.bodies.proofs.buckets.mixed.Statement.{statement}
 use Rattle.bodies.proofs.buckets.mixed.Tie as tie
-use Rattle.bodies.proofs.buckets.mixed.Reads as reads
-use Rattle.bodies.proofs.buckets.mixed.Lts as lts
 
 mul-result : tie.Need-mul-result
 mul-result c = search needs
