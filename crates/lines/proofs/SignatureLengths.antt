@@ -15,17 +15,21 @@ use Rattle.rules.specs.Program.{signatureLength}
 pub no-words : (ws : List ℕ) (n : ℕ) → n ≡ 0 → 0 ≡ signatureLength (part ws 0 n)
 no-words ws n e = sym (ap (λ (k : ℕ). signatureLength (part ws 0 k)) e)
 
--- a count that is not 0
-pub some : (n : ℕ) → (n ≡ 0 → ⊥) → 0 < n
-some n h = omega arith
-
 -- w is the first of n words
-module _ (ws : List ℕ) (n w : ℕ) (any : 0 < n) (all : n ≤ length ws) (is : w ≡ getD ws 0 0) where
+pub record First (ws : List ℕ) (n w : ℕ) : Type 0 where
+  pub any : 0 < n
+  pub all : n ≤ length ws
+  pub is : w ≡ getD ws 0 0
+
+pub first-of : {ws : List ℕ} {n w : ℕ} → (n ≡ 0 → ⊥) → n ≤ length ws → w ≡ getD ws 0 0 → First ws n w
+first-of some all is = record { any = omega arith; all = all; is = is }
+
+module _ {ws : List ℕ} {n w : ℕ} (f : First ws n w) where
   size : length (part ws 0 n) ≡ n
-  size = length-part ws 0 n (omega arith)
+  size = length-part ws 0 n (omega (arith, f .all))
 
   first : getD (part ws 0 n) 0 0 ≡ w
-  first = getD-part ws 0 n 0 any ∙ sym is
+  first = getD-part ws 0 n 0 (f .any) ∙ sym (f .is)
 
   -- the length by that word
   abbrev byFirst : ℕ
@@ -37,19 +41,19 @@ module _ (ws : List ℕ) (n w : ℕ) (any : 0 < n) (all : n ≤ length ws) (is :
   pub no-heads : w ≤ signatureBase → n ≡ signatureLength (part ws 0 n)
   no-heads h =
       let low : w < signatureBase + 1 = omega arith in
-      sym (by-first ∙ rw (le-leb 1 n any, lt-leb (signatureBase + 1) w low))
+      sym (by-first ∙ rw (le-leb 1 n (f .any), lt-leb (signatureBase + 1) w low))
 
   pub too-many-heads : signatureBase < w → limit12 < w - signatureBase → n ≡ signatureLength (part ws 0 n)
   too-many-heads h k =
       let least : signatureBase + 1 ≤ w = omega arith in
       let high : signatureBase + 1 + limit12 ≤ w = omega arith in
-      sym (by-first ∙ rw (le-leb 1 n any, le-leb (signatureBase + 1) w least, le-ltb w (signatureBase + 1 + limit12) high))
+      sym (by-first ∙ rw (le-leb 1 n (f .any), le-leb (signatureBase + 1) w least, le-ltb w (signatureBase + 1 + limit12) high))
 
   pub four-and-heads : signatureBase < w → w - signatureBase ≤ limit12 → 4 + (w - signatureBase) ≡ signatureLength (part ws 0 n)
   four-and-heads h k =
       let least : signatureBase + 1 ≤ w = omega arith in
       let low : w < signatureBase + 1 + limit12 = omega arith in
-      sym (by-first ∙ rw (le-leb 1 n any, le-leb (signatureBase + 1) w least, lt-ltb w (signatureBase + 1 + limit12) low))
+      sym (by-first ∙ rw (le-leb 1 n (f .any), le-leb (signatureBase + 1) w least, lt-ltb w (signatureBase + 1 + limit12) low))
 
 -- for a caller: as many counters as there can be lines are enough
 pub length-most : (ws : List ℕ) → length ws ≤ maxLines → signatureLength ws ≤ maxLines

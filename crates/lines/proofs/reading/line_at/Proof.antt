@@ -1,5 +1,4 @@
--- `lines::reading::line_at` meets its contract: each test that fails is a refusal of `lineAt`, and with all met its digits decide.
--- Assumes nothing.
+-- Reading one line: each test that fails is a refusal of `lineAt`, and with all met its digits decide. Assumes nothing.
 use mathlib.Core.Path.{_∙_}
 use Rattle.lines.proofs.Spelling.{line-late, line-short, line-unended, line-spelt}
 use borrow.Author.Needs.{needs}
@@ -7,8 +6,15 @@ use native.Mathlib.Omega.{arith}
 use Rattle.lines.proofs.reading.line_at.Statement.{statement}
 use Rattle.lines.proofs.reading.line_at.Tie as tie
 
+-- ---- it is one too many
+
 returns : tie.Need-returns
-returns c = line-late (c .before .before .args .input .now) (c .before .before .args .line) (omega arith)
+returns c = let a = c .before .before .args in line-late (a .input .now) (a .line) (omega arith)
+
+-- ---- it is too short
+
+abbrev start : tie.Else1 → tie.Start
+start c = c .before .before
 
 mul-at : tie.Need-mul-at
 mul-at c = search needs
@@ -17,7 +23,9 @@ sub-if2 : tie.Need-sub-if2
 sub-if2 c = search needs
 
 returns-2 : tie.Need-returns-2
-returns-2 c = line-short (c .before .before .before .args .input .now) (c .before .before .before .args .line) (c .before .if1 .left) (omega arith)
+returns-2 c = let a = start (c .before) .args in line-short (a .input .now) (a .line) (c .before .if1 .left) (omega arith)
+
+-- ---- it does not end
 
 add-if3 : tie.Need-add-if3
 add-if3 c = search needs
@@ -26,13 +34,21 @@ shared-slice-read-if3 : tie.Need-shared-slice-read-if3
 shared-slice-read-if3 c = search needs
 
 returns-3 : tie.Need-returns-3
-returns-3 c = line-unended (c .before .before .before .before .before .args .input .now) (c .before .before .before .before .before .args .line) (c .if3 .taken)
+returns-3 c = let a = start (c .before .before .before) .args in line-unended (a .input .now) (a .line) (c .if3 .taken)
+
+-- ---- it has eight bytes and an end
 
 spelled-requires : tie.Need-spelled-requires
 spelled-requires c κs = search needs
 
+abbrev few : tie.Else3 → tie.Else1
+few c = c .before .before .before
+
 returns-4 : tie.Need-returns-4
-returns-4 c = c .spelled .ensures ∙ line-spelt (c .before .before .before .before .before .before .args .input .now) (c .before .before .before .before .before .before .args .line) (c .before .before .before .before .if1 .left) (omega arith) (c .before .if3 .left)
+returns-4 c =
+    let e = few (c .before) in
+    let a = start e .args in
+    c .spelled .ensures ∙ line-spelt (a .input .now) (a .line) (e .if1 .left) (omega arith) (c .before .if3 .left)
 
 pub line-at-spec : {M : Type 1} → statement M
 line-at-spec =

@@ -1,5 +1,4 @@
--- `lines::reading::spelled` meets its contract: the digits passed so far are good and spell `w`, which stays below 16 to the power of
--- their number. Assumes nothing.
+-- Reading a word's digits: those passed are good and spell w, which stays below 16 to the power of their number. Assumes nothing.
 use mathlib.Core.Path.{sym, _∙_}
 use Prim.Native.Nat.{_-_}
 use Rattle.lines.proofs.Spelling.{SpeltTo, spelt-start, spelt-room, spelt-next, spelt-bad, spelt-end}
@@ -26,14 +25,21 @@ shared-slice-read-digit c = search needs
 digit-requires : tie.Need-digit-requires Inv-loop μ-loop
 digit-requires c κs = search needs
 
+-- ---- the byte is no digit
+
+abbrev turn : tie.After-digit Inv-loop μ-loop → tie.In-loop Inv-loop μ-loop
+turn c = c .before .before
+
 returns : tie.Need-returns Inv-loop μ-loop
-returns c = spelt-bad (c .before .before .before .before .loop .inv) (omega arith) (omega arith) (sym (c .before .digit .ensures .0) ∙ c .if1 .taken)
+returns c = spelt-bad (turn (c .before) .before .loop .inv) (omega arith) (omega arith) (sym (c .before .digit .ensures .0) ∙ c .if1 .taken)
+
+-- ---- it is one
 
 mul-w : tie.Need-mul-w Inv-loop μ-loop
-mul-w c = omega (arith, spelt-room (c .before .before .before .before .loop .inv) (omega arith) (omega arith))
+mul-w c = omega (arith, spelt-room (turn (c .before) .before .loop .inv) (omega arith) (omega arith))
 
 add-w : tie.Need-add-w Inv-loop μ-loop
-add-w c = omega (arith, spelt-room (c .before .before .before .before .loop .inv) (omega arith) (omega arith))
+add-w c = omega (arith, spelt-room (turn (c .before) .before .loop .inv) (omega arith) (omega arith))
 
 add-i : tie.Need-add-i Inv-loop μ-loop
 add-i c = search needs
@@ -42,7 +48,9 @@ loop-less : tie.Need-loop-less Inv-loop μ-loop
 loop-less c = search needs
 
 loop-again : tie.Need-loop-again Inv-loop μ-loop
-loop-again c = spelt-next (c .before .before .before .before .loop .inv) (omega arith) (omega arith) (c .before .digit .result) (c .before .digit .ensures .0) (omega arith)
+loop-again c = spelt-next (turn (c .before) .before .loop .inv) (omega arith) (omega arith) (c .before .digit .result) (c .before .digit .ensures .0) (omega arith)
+
+-- ---- all are read
 
 returns-2 : tie.Need-returns-2 Inv-loop μ-loop
 returns-2 c = spelt-end (c .before .loop .inv) (omega arith)
