@@ -43,7 +43,8 @@ module _ (input m : List ℕ) (is : m ≡ take inputBytes input) (long : inputBy
   same-good line h =
       let digits = same-part (line * 9) 8 (omega arith) in
       let feed = same-byte (line * 9 + 8) (omega arith) in
-      let whole : leb (line * 9 + 9) (length m) ≡ leb (line * 9 + 9) (length input) = le-leb (line * 9 + 9) (length m) (omega (arith, size)) ∙ sym (le-leb (line * 9 + 9) (length input) (omega arith)) in
+      let whole : leb (line * 9 + 9) (length m) ≡ leb (line * 9 + 9) (length input) =
+      le-leb (line * 9 + 9) (length m) (omega (arith, size)) ∙ sym (le-leb (line * 9 + 9) (length input) (omega arith)) in
       λ j. ltb line maxLines && whole j && areDigits (digits j) && eqb (feed j) lineFeed
 
   same-word : (line : ℕ) → line < maxLines → wordAt m line ≡ wordAt input line

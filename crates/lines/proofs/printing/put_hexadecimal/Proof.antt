@@ -1,4 +1,4 @@
--- `lines::printing::put_hexadecimal` meets its contract: with the digits of `rest` that are left, the text is as it is to be. Assumes nothing.
+-- Printing a word from its last digit to its first: at each turn the digits of `rest` that are left make the text what it is to be. Assumes nothing.
 use Rattle.lines.proofs.Texts.{LeftOf, left-start, left-next, left-end}
 use borrow.Author.Needs.{needs}
 use native.Mathlib.Omega.{arith}
