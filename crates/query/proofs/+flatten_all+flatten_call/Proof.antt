@@ -13,7 +13,7 @@ use Rattle.query.proofs.Arguments.{here, Row, row-start, row-turn, row-
 use Rattle.query.proofs.Calls.{leaf-answer, Begun, begun, none-left, Named, Fronted, around-room, leaves-answer}
 use Rattle.query.proofs.Calls.{args-known, args-room, Argued, args-refused, atom-asks, call-answer}
 use borrow.Author.Needs.{needs}
-use borrow.Fn.Kinds.{In}
+use borrow.Fn.Kinds.{In, Out}
 use borrow.Fn.PlainCycle.{Measures, is, falls, and}
 use Rattle.query.proofs.flatten_all.Reads as all
 use Rattle.query.proofs.flatten_all.Kinds as all-kinds
@@ -77,25 +77,20 @@ abbrev μ-loop : all-lts.MeasureT-loop
 μ-loop rule at n depth counters₀ scratch₀ to sp log left₀ next₀ end₀ top₀ uses₀ counters scratch left next end top uses = left
 
 module _ (t : ℕ) where
-  abbrev AllStart : Type 0
-  AllStart = all-lts.Start (all-calls t) (all-at t) all.Post Inv-loop μ-loop
+  -- a place of it, or a need there
+  abbrev In-all : (all-lts.Claims → In 3 all-kinds.ps → Out 3 all-kinds.ps all-kinds.r → all-lts.InvT-loop → all-lts.MeasureT-loop → Type 0) → Type 0
+  In-all P = P (all-calls t) (all-at t) all.Post Inv-loop μ-loop
 
-  abbrev AllTurn : Type 0
-  AllTurn = all-lts.In-loop (all-calls t) (all-at t) all.Post Inv-loop μ-loop
-
-  abbrev AllWalked : Type 0
-  AllWalked = all-lts.After-flatten-call (all-calls t) (all-at t) all.Post Inv-loop μ-loop
-
-  abbrev all-spot : AllStart → Spot
+  abbrev all-spot : In-all all-lts.Start → Spot
   all-spot c =
       let a = c .args in
       record { ws = words (a .rule .now); s = words (a .scratch .now); cs = words (a .counters .now); at = a .at; to = a .to; sp = a .sp; lg = a .log }
 
-  abbrev turn-start : AllTurn → AllStart
+  abbrev turn-start : In-all all-lts.In-loop → In-all all-lts.Start
   turn-start c = c .before .before .before .before .before
 
   -- a turn, and what its calls ask
-  at-turn : (c : AllTurn)
+  at-turn : (c : In-all all-lts.In-loop)
       → let p = all-spot (turn-start c) in
       let l = c .before .loop in
       Turn (p .ws) (turn-start c .args .depth) (p .at) (l .left) (l .top) (p .s) (p .cs) (words (l .scratch)) (words (l .counters)) (here (l .next) (l .end) (l .uses))
@@ -103,42 +98,40 @@ module _ (t : ℕ) where
       let l = c .before .loop in
       row-turn (l .inv .2) (c .loop-test .taken) (length-words-kept _ _ (l .inv .0)) (length-words-kept _ _ (l .inv .1))
 
-  all-loop-holds : all-lts.Need-loop-holds (all-calls t) (all-at t) all.Post Inv-loop μ-loop
+  all-loop-holds : In-all all-lts.Need-loop-holds
   all-loop-holds c =
-      let s : AllStart = c .before .before .before in
+      let s : In-all all-lts.Start = c .before .before .before in
       let held : Held (all-spot s) = record { rule = omega (arith, length-words (s .args .rule .now), s .good); scratch = omega (arith, length-words (s .args .scratch .now), s .good) } in
       (refl, refl, row-start (s .pre .1 .0) (s .pre .1 .1) held)
 
-  all-get-requires : all-lts.Need-get-requires (all-calls t) (all-at t) all.Post Inv-loop μ-loop
+  all-get-requires : In-all all-lts.Need-get-requires
   all-get-requires c κs = at-turn c .inside
 
-  -- the word is a name or a literal
-  abbrev AllLeaf : Type 0
-  AllLeaf = all-lts.Then1 (all-calls t) (all-at t) all.Post Inv-loop μ-loop
+  -- ---- the word is a name or a literal
 
-  abbrev leaf-turn : AllLeaf → AllTurn
+  abbrev leaf-turn : In-all all-lts.Then1 → In-all all-lts.In-loop
   leaf-turn c = c .before .before
 
   -- and is pushed
-  abbrev leaf-pushed : all-lts.After-slice-known3 (all-calls t) (all-at t) all.Post Inv-loop μ-loop → AllLeaf
+  abbrev leaf-pushed : In-all all-lts.After-slice-known3 → In-all all-lts.Then1
   leaf-pushed c = c .before .before .before .before
 
-  all-put-requires : all-lts.Need-put-requires (all-calls t) (all-at t) all.Post Inv-loop μ-loop
+  all-put-requires : In-all all-lts.Need-put-requires
   all-put-requires c κs = omega (arith, at-turn (leaf-turn (c .before)))
 
-  all-add-next : all-lts.Need-add-next (all-calls t) (all-at t) all.Post Inv-loop μ-loop
+  all-add-next : In-all all-lts.Need-add-next
   all-add-next c = let u = leaf-turn (leaf-pushed c) in omega (arith, at-turn u, u .before .loop .inv .2 .held)
 
-  all-add-top : all-lts.Need-add-top (all-calls t) (all-at t) all.Post Inv-loop μ-loop
+  all-add-top : In-all all-lts.Need-add-top
   all-add-top c = let u = leaf-turn (leaf-pushed c) in omega (arith, at-turn u, u .before .loop .inv .2 .held)
 
-  all-sub-left : all-lts.Need-sub-left (all-calls t) (all-at t) all.Post Inv-loop μ-loop
+  all-sub-left : In-all all-lts.Need-sub-left
   all-sub-left c = at-turn (leaf-turn (leaf-pushed c)) .some
 
-  all-loop-less : all-lts.Need-loop-less (all-calls t) (all-at t) all.Post Inv-loop μ-loop
+  all-loop-less : In-all all-lts.Need-loop-less
   all-loop-less c = let some = at-turn (leaf-turn (leaf-pushed c)) .some in omega arith
 
-  all-loop-again : all-lts.Need-loop-again (all-calls t) (all-at t) all.Post Inv-loop μ-loop
+  all-loop-again : In-all all-lts.Need-loop-again
   all-loop-again c =
       let h = leaf-pushed c in
       let u = leaf-turn h in
@@ -148,66 +141,66 @@ module _ (t : ℕ) where
       let leaf = leaf-answer here (turn-start u .args .depth) _ (h .before .get .ensures .is) (h .if1 .taken) in
       (l .inv .0, p .kept .0 ∙ l .inv .1, row-next (l .inv .2) (at-turn u) _ _ _ leaf _ refl (p .ensures))
 
-  -- it is a call's
-  abbrev call-turn : AllWalked → AllTurn
+  -- ---- it is a call's
+
+  abbrev call-turn : In-all all-lts.After-flatten-call → In-all all-lts.In-loop
   call-turn c = c .before .before .before .before .before
 
-  all-flatten-call-requires : all-lts.Need-flatten-call-requires (all-calls t) (all-at t) all.Post Inv-loop μ-loop
+  all-flatten-call-requires : In-all all-lts.Need-flatten-call-requires
   all-flatten-call-requires c κs =
       let e = c .before .before in
       let m = at-turn (e .before .before) in
       (omega (arith, turn-start (e .before .before) .pre .0, m .on), (record { sig = m .sig; known = (m .expr, m .counted) }, (m .room, (e .before .get .ensures .is, e .if1 .left))))
 
   -- both slices are as long as at the start
-  all-counters-kept : (c : AllWalked) → length (c .flatten-call .last .1 .1 .1 .1 .0) ≡ length (turn-start (call-turn c) .args .counters .now)
+  all-counters-kept : (c : In-all all-lts.After-flatten-call) → length (c .flatten-call .last .1 .1 .1 .1 .0) ≡ length (turn-start (call-turn c) .args .counters .now)
   all-counters-kept c = c .flatten-call .kept .1 .1 .1 .1 .0 ∙ call-turn c .before .loop .inv .0
 
-  all-scratch-kept : (c : AllWalked) → length (c .flatten-call .last .1 .1 .1 .1 .1 .0) ≡ length (turn-start (call-turn c) .args .scratch .now)
+  all-scratch-kept : (c : In-all all-lts.After-flatten-call) → length (c .flatten-call .last .1 .1 .1 .1 .1 .0) ≡ length (turn-start (call-turn c) .args .scratch .now)
   all-scratch-kept c = c .flatten-call .kept .1 .1 .1 .1 .1 .0 ∙ call-turn c .before .loop .inv .1
 
-  -- it is refused
-  abbrev stopped : all-lts.Then2 (all-calls t) (all-at t) all.Post Inv-loop μ-loop → AllWalked
+  -- ---- it is refused
+
+  abbrev stopped : In-all all-lts.Then2 → In-all all-lts.After-flatten-call
   stopped c = c .before .before .before .before .before .before
 
-  all-same-length : all-lts.Need-same-length (all-calls t) (all-at t) all.Post Inv-loop μ-loop
+  all-same-length : In-all all-lts.Need-same-length
   all-same-length c = all-counters-kept (stopped c)
 
-  all-same-length-2 : all-lts.Need-same-length-2 (all-calls t) (all-at t) all.Post Inv-loop μ-loop
+  all-same-length-2 : In-all all-lts.Need-same-length-2
   all-same-length-2 c = all-scratch-kept (stopped c)
 
-  all-returns : all-lts.Need-returns (all-calls t) (all-at t) all.Post Inv-loop μ-loop
+  all-returns : In-all all-lts.Need-returns
   all-returns c = let u = call-turn (stopped c) in row-stop (u .before .loop .inv .2) (at-turn u) _ _ _ (stopped c .flatten-call .ensures) (c .if2 .taken)
 
-  -- it is flattened
-  abbrev AllFine : Type 0
-  AllFine = all-lts.Else2 (all-calls t) (all-at t) all.Post Inv-loop μ-loop
+  -- ---- it is flattened
 
-  abbrev passed : AllFine → AllWalked
+  abbrev passed : In-all all-lts.Else2 → In-all all-lts.After-flatten-call
   passed c = c .before .before .before .before .before .before
 
-  abbrev passed-turn : AllFine → AllTurn
+  abbrev passed-turn : In-all all-lts.Else2 → In-all all-lts.In-loop
   passed-turn c = call-turn (passed c)
 
   -- and its variable is pushed
-  abbrev call-pushed : all-lts.After-slice-known6 (all-calls t) (all-at t) all.Post Inv-loop μ-loop → AllFine
+  abbrev call-pushed : In-all all-lts.After-slice-known6 → In-all all-lts.Else2
   call-pushed c = c .before .before .before .before
 
-  all-put-requires-2 : all-lts.Need-put-requires-2 (all-calls t) (all-at t) all.Post Inv-loop μ-loop
+  all-put-requires-2 : In-all all-lts.Need-put-requires-2
   all-put-requires-2 c κs =
       let k = passed (c .before) .flatten-call in
       let u = passed-turn (c .before) in
       omega (arith, at-turn u, length-words-kept (k .last .1 .1 .1 .1 .1 .0) (u .before .loop .scratch) (k .kept .1 .1 .1 .1 .1 .0))
 
-  all-add-top-2 : all-lts.Need-add-top-2 (all-calls t) (all-at t) all.Post Inv-loop μ-loop
+  all-add-top-2 : In-all all-lts.Need-add-top-2
   all-add-top-2 c = let u = passed-turn (call-pushed c) in omega (arith, at-turn u, u .before .loop .inv .2 .held)
 
-  all-sub-left-2 : all-lts.Need-sub-left-2 (all-calls t) (all-at t) all.Post Inv-loop μ-loop
+  all-sub-left-2 : In-all all-lts.Need-sub-left-2
   all-sub-left-2 c = at-turn (passed-turn (call-pushed c)) .some
 
-  all-loop-less-2 : all-lts.Need-loop-less-2 (all-calls t) (all-at t) all.Post Inv-loop μ-loop
+  all-loop-less-2 : In-all all-lts.Need-loop-less-2
   all-loop-less-2 c = let some = at-turn (passed-turn (call-pushed c)) .some in omega arith
 
-  all-loop-again-2 : all-lts.Need-loop-again-2 (all-calls t) (all-at t) all.Post Inv-loop μ-loop
+  all-loop-again-2 : In-all all-lts.Need-loop-again-2
   all-loop-again-2 c =
       let h = call-pushed c in
       let u = passed-turn h in
@@ -215,223 +208,218 @@ module _ (t : ℕ) where
       let row = row-next (u .before .loop .inv .2) (at-turn u) _ _ _ (passed h .flatten-call .ensures) _ (h .if2 .left) (p .ensures) in
       (all-counters-kept (passed h), p .kept .0 ∙ all-scratch-kept (passed h), row)
 
-  -- none are left
-  all-same-length-3 : all-lts.Need-same-length-3 (all-calls t) (all-at t) all.Post Inv-loop μ-loop
+  -- ---- none are left
+
+  all-same-length-3 : In-all all-lts.Need-same-length-3
   all-same-length-3 c = c .before .loop .inv .0
 
-  all-same-length-4 : all-lts.Need-same-length-4 (all-calls t) (all-at t) all.Post Inv-loop μ-loop
+  all-same-length-4 : In-all all-lts.Need-same-length-4
   all-same-length-4 c = c .before .loop .inv .1
 
-  all-returns-2 : all-lts.Need-returns-2 (all-calls t) (all-at t) all.Post Inv-loop μ-loop
+  all-returns-2 : In-all all-lts.Need-returns-2
   all-returns-2 c = row-done (c .before .loop .inv .2) (omega (arith, c .loop-test .left))
 
 -- ---- flatten_call: the variable, then the names and literals in front, and from there the atom at once or the walk of all arguments
 
 module _ (t : ℕ) where
-  abbrev CallStart : Type 0
-  CallStart = call-lts.Start (call-calls t) (call-at t) call.Post
+  -- a place of it, or a need there
+  abbrev In-call : (call-lts.Claims → In 3 call-kinds.ps → Out 3 call-kinds.ps call-kinds.r → Type 0) → Type 0
+  In-call P = P (call-calls t) (call-at t) call.Post
 
-  abbrev CallTook : Type 0
-  CallTook = call-lts.After-take (call-calls t) (call-at t) call.Post
-
-  abbrev CallNamed : Type 0
-  CallNamed = call-lts.Else1 (call-calls t) (call-at t) call.Post
-
-  abbrev CallFronted : Type 0
-  CallFronted = call-lts.After-leaves (call-calls t) (call-at t) call.Post
-
-  abbrev CallArgued : Type 0
-  CallArgued = call-lts.After-flatten-all (call-calls t) (call-at t) call.Post
-
-  abbrev spot : CallStart → Spot
+  abbrev spot : In-call call-lts.Start → Spot
   spot c =
       let a = c .args in
       record { ws = words (a .rule .now); s = words (a .scratch .now); cs = words (a .counters .now); at = a .at; to = a .to; sp = a .sp; lg = a .log }
 
-  at-start : (c : CallStart) → Begun (spot c) (c .args .depth) (c .args .w)
+  at-start : (c : In-call call-lts.Start) → Begun (spot c) (c .args .depth) (c .args .w)
   at-start c =
       let held : Held (spot c) = record { rule = omega (arith, length-words (c .args .rule .now), c .good); scratch = omega (arith, length-words (c .args .scratch .now), c .good) } in
       begun (c .pre .1 .0) (c .pre .1 .1 .0) held (c .pre .1 .1 .1 .0) (c .pre .1 .1 .1 .1)
 
-  call-sub-h : call-lts.Need-sub-h (call-calls t) (call-at t) call.Post
+  call-sub-h : In-call call-lts.Need-sub-h
   call-sub-h c = at-start (c .before .before .before) .facts .high
 
-  call-sub-n : call-lts.Need-sub-n (call-calls t) (call-at t) call.Post
+  call-sub-n : In-call call-lts.Need-sub-n
   call-sub-n c = at-start (c .before .before .before) .facts .high
 
-  call-take-requires : call-lts.Need-take-requires (call-calls t) (call-at t) call.Post
+  call-take-requires : In-call call-lts.Need-take-requires
   call-take-requires c κs = let b = at-start (c .before .before .before .before .before) in (b .facts .small, b .facts .low, b .log)
 
-  -- a variable is asked for
-  abbrev start : CallTook → CallStart
+  -- ---- a variable is asked for, and there is none
+
+  abbrev start : In-call call-lts.After-take → In-call call-lts.Start
   start c = c .before .before .before .before .before .before
 
-  call-same-length : call-lts.Need-same-length (call-calls t) (call-at t) call.Post
+  call-same-length : In-call call-lts.Need-same-length
   call-same-length c = search needs
 
-  call-same-length-2 : call-lts.Need-same-length-2 (call-calls t) (call-at t) call.Post
+  call-same-length-2 : In-call call-lts.Need-same-length-2
   call-same-length-2 c = search needs
 
-  call-returns : call-lts.Need-returns (call-calls t) (call-at t) call.Post
-  call-returns c = let k : CallTook = c .before .before .before .before .before in none-left (at-start (start k)) (k .take .ensures) (c .if1 .taken)
+  call-returns : In-call call-lts.Need-returns
+  call-returns c = let k : In-call call-lts.After-take = c .before .before .before .before .before in none-left (at-start (start k)) (k .take .ensures) (c .if1 .taken)
 
-  -- there is one
-  abbrev took : CallNamed → CallTook
+  -- ---- it has its variable
+
+  abbrev took : In-call call-lts.Else1 → In-call call-lts.After-take
   took c = c .before .before .before .before .before
 
-  abbrev named-start : CallNamed → CallStart
+  abbrev named-start : In-call call-lts.Else1 → In-call call-lts.Start
   named-start c = start (took c)
 
-  at-named : (c : CallNamed) → let v = took c .take in Named (at-start (named-start c)) (v .result) (words (v .last .1 .0)) (words (v .last .0))
+  at-named : (c : In-call call-lts.Else1) → let v = took c .take in Named (at-start (named-start c)) (v .result) (words (v .last .1 .0)) (words (v .last .0))
   at-named c =
       let v = took c .take in
       record { asked = v .ensures; some = c .if1 .left; counters = length-words-kept _ _ (v .kept .0); scratch = length-words-kept _ _ (v .kept .1 .0) }
 
-  call-add-leaves : call-lts.Need-add-leaves (call-calls t) (call-at t) call.Post
+  call-add-leaves : In-call call-lts.Need-add-leaves
   call-add-leaves c = omega (arith, at-start (named-start c))
 
-  call-cast-leaves : call-lts.Need-cast-leaves (call-calls t) (call-at t) call.Post
+  call-cast-leaves : In-call call-lts.Need-cast-leaves
   call-cast-leaves c = search needs
 
-  call-add-leaves-2 : call-lts.Need-add-leaves-2 (call-calls t) (call-at t) call.Post
+  call-add-leaves-2 : In-call call-lts.Need-add-leaves-2
   call-add-leaves-2 c = omega (arith, at-start (named-start (c .before)))
 
-  call-leaves-requires : call-lts.Need-leaves-requires (call-calls t) (call-at t) call.Post
+  call-leaves-requires : In-call call-lts.Need-leaves-requires
   call-leaves-requires c κs = let b = at-start (named-start (c .before)) .atom in (b .inside, omega (arith, b .words, at-named (c .before) .scratch))
 
-  -- the names and literals in front are written
-  abbrev named : CallFronted → CallNamed
+  -- ---- the names and literals in front are written
+
+  abbrev named : In-call call-lts.After-leaves → In-call call-lts.Else1
   named c = c .before .before
 
-  at-leaves : (c : CallFronted) → let l = c .leaves in Fronted (at-named (named c)) (l .result) (words (l .last .1 .1 .1 .1 .0))
+  at-leaves : (c : In-call call-lts.After-leaves) → let l = c .leaves in Fronted (at-named (named c)) (l .result) (words (l .last .1 .1 .1 .1 .0))
   at-leaves c = let l = c .leaves in record { bound = 2 ^ 32 - 1; run = l .ensures .0; put = l .ensures .1; left = length-words-kept _ _ (l .kept .1 .1 .1 .1 .0) }
 
   -- the scratch is as long as at the start
-  leaves-kept : (c : CallFronted) → length (c .leaves .last .1 .1 .1 .1 .0) ≡ length (named-start (named c) .args .scratch .now)
+  leaves-kept : (c : In-call call-lts.After-leaves) → length (c .leaves .last .1 .1 .1 .1 .0) ≡ length (named-start (named c) .args .scratch .now)
   leaves-kept c = c .leaves .kept .1 .1 .1 .1 .0 ∙ took (named c) .take .kept .1 .0
 
-  call-cast-if2 : call-lts.Need-cast-if2 (call-calls t) (call-at t) call.Post
+  call-cast-if2 : In-call call-lts.Need-cast-if2
   call-cast-if2 c = search needs
 
-  -- they are all
-  abbrev CallWhole : Type 0
-  CallWhole = call-lts.Then2 (call-calls t) (call-at t) call.Post
+  -- ---- they are all
 
-  abbrev whole : CallWhole → CallFronted
+  abbrev whole : In-call call-lts.Then2 → In-call call-lts.After-leaves
   whole c = c .before .before .before
 
-  abbrev whole-start : CallWhole → CallStart
+  abbrev whole-start : In-call call-lts.Then2 → In-call call-lts.Start
   whole-start c = named-start (named (whole c))
 
-  call-add-put-around : call-lts.Need-add-put-around (call-calls t) (call-at t) call.Post
+  call-add-put-around : In-call call-lts.Need-add-put-around
   call-add-put-around c = omega (arith, at-start (whole-start (c .before)) .low)
 
-  call-cast-put-around : call-lts.Need-cast-put-around (call-calls t) (call-at t) call.Post
+  call-cast-put-around : In-call call-lts.Need-cast-put-around
   call-cast-put-around c = search needs
 
-  call-put-around-requires : call-lts.Need-put-around-requires (call-calls t) (call-at t) call.Post
+  call-put-around-requires : In-call call-lts.Need-put-around-requires
   call-put-around-requires c κs = around-room (at-leaves (whole (c .before)))
 
   -- and the atom is put around them
-  abbrev around : call-lts.After-slice-known6 (call-calls t) (call-at t) call.Post → CallWhole
+  abbrev around : In-call call-lts.After-slice-known6 → In-call call-lts.Then2
   around c = c .before .before .before .before
 
-  call-add-t31 : call-lts.Need-add-t31 (call-calls t) (call-at t) call.Post
+  call-add-t31 : In-call call-lts.Need-add-t31
   call-add-t31 c = omega (arith, at-start (whole-start (around c)))
 
-  call-add-t32 : call-lts.Need-add-t32 (call-calls t) (call-at t) call.Post
+  call-add-t32 : In-call call-lts.Need-add-t32
   call-add-t32 c = omega (arith, at-start (whole-start (around c)), around c .if2 .taken)
 
-  call-add-t33 : call-lts.Need-add-t33 (call-calls t) (call-at t) call.Post
+  call-add-t33 : In-call call-lts.Need-add-t33
   call-add-t33 c = omega (arith, at-start (whole-start (around c)))
 
-  call-same-length-3 : call-lts.Need-same-length-3 (call-calls t) (call-at t) call.Post
+  call-same-length-3 : In-call call-lts.Need-same-length-3
   call-same-length-3 c = took (named (whole (around c))) .take .kept .0
 
-  call-same-length-4 : call-lts.Need-same-length-4 (call-calls t) (call-at t) call.Post
+  call-same-length-4 : In-call call-lts.Need-same-length-4
   call-same-length-4 c = c .before .before .put-around .kept .0 ∙ leaves-kept (whole (around c))
 
-  call-returns-2 : call-lts.Need-returns-2 (call-calls t) (call-at t) call.Post
+  call-returns-2 : In-call call-lts.Need-returns-2
   call-returns-2 c =
       let p = c .before .before .put-around in
       leaves-answer (at-leaves (whole (around c))) _ _ (around c .if2 .taken) (p .ensures .0) (p .ensures .1)
 
-  -- a call stands among the arguments
-  abbrev mixed : call-lts.Else2 (call-calls t) (call-at t) call.Post → CallFronted
+  -- ---- a call stands among the arguments
+
+  abbrev mixed : In-call call-lts.Else2 → In-call call-lts.After-leaves
   mixed c = c .before .before .before
 
-  abbrev mixed-start : call-lts.Else2 (call-calls t) (call-at t) call.Post → CallStart
+  abbrev mixed-start : In-call call-lts.Else2 → In-call call-lts.Start
   mixed-start c = named-start (named (mixed c))
 
-  call-add-flatten-all : call-lts.Need-add-flatten-all (call-calls t) (call-at t) call.Post
+  call-add-flatten-all : In-call call-lts.Need-add-flatten-all
   call-add-flatten-all c = omega (arith, at-start (mixed-start c))
 
-  call-cast-flatten-all : call-lts.Need-cast-flatten-all (call-calls t) (call-at t) call.Post
+  call-cast-flatten-all : In-call call-lts.Need-cast-flatten-all
   call-cast-flatten-all c = search needs
 
-  call-sub-flatten-all : call-lts.Need-sub-flatten-all (call-calls t) (call-at t) call.Post
+  call-sub-flatten-all : In-call call-lts.Need-sub-flatten-all
   call-sub-flatten-all c = omega (arith, at-start (mixed-start c) .facts .deep)
 
-  call-add-flatten-all-2 : call-lts.Need-add-flatten-all-2 (call-calls t) (call-at t) call.Post
+  call-add-flatten-all-2 : In-call call-lts.Need-add-flatten-all-2
   call-add-flatten-all-2 c = omega (arith, at-start (mixed-start (c .before .before)))
 
-  call-flatten-all-requires : call-lts.Need-flatten-all-requires (call-calls t) (call-at t) call.Post
+  call-flatten-all-requires : In-call call-lts.Need-flatten-all-requires
   call-flatten-all-requires c κs =
       let s = mixed-start (c .before .before) in
       let f = at-leaves (mixed (c .before .before)) in
       (omega (arith, s .pre .0, at-start s .facts .inside, at-start s .facts .deep), (args-known f, args-room f))
 
-  -- all are walked
-  abbrev fronted : CallArgued → CallFronted
+  -- ---- all are walked
+
+  abbrev fronted : In-call call-lts.After-flatten-all → In-call call-lts.After-leaves
   fronted c = mixed (c .before .before .before)
 
-  at-args : (c : CallArgued) → let k = c .flatten-all in Argued (at-leaves (fronted c)) (words (k .last .1 .1 .1 .1 .1 .0)) (words (k .last .1 .1 .1 .1 .0)) (k .result)
+  at-args : (c : In-call call-lts.After-flatten-all) → let k = c .flatten-all in Argued (at-leaves (fronted c)) (words (k .last .1 .1 .1 .1 .1 .0)) (words (k .last .1 .1 .1 .1 .0)) (k .result)
   at-args c = let k = c .flatten-all in record { walk = k .ensures; scratch = length-words-kept _ _ (k .kept .1 .1 .1 .1 .1 .0) }
 
   -- both slices are as long as at the start
-  call-counters-kept : (c : CallArgued) → length (c .flatten-all .last .1 .1 .1 .1 .0) ≡ length (named-start (named (fronted c)) .args .counters .now)
+  call-counters-kept : (c : In-call call-lts.After-flatten-all) → length (c .flatten-all .last .1 .1 .1 .1 .0) ≡ length (named-start (named (fronted c)) .args .counters .now)
   call-counters-kept c = c .flatten-all .kept .1 .1 .1 .1 .0 ∙ took (named (fronted c)) .take .kept .0
 
-  call-scratch-kept : (c : CallArgued) → length (c .flatten-all .last .1 .1 .1 .1 .1 .0) ≡ length (named-start (named (fronted c)) .args .scratch .now)
+  call-scratch-kept : (c : In-call call-lts.After-flatten-all) → length (c .flatten-all .last .1 .1 .1 .1 .1 .0) ≡ length (named-start (named (fronted c)) .args .scratch .now)
   call-scratch-kept c = c .flatten-all .kept .1 .1 .1 .1 .1 .0 ∙ leaves-kept (fronted c)
 
-  -- one of them is refused
-  abbrev refused : call-lts.Then3 (call-calls t) (call-at t) call.Post → CallArgued
+  -- ---- one of them is refused
+
+  abbrev refused : In-call call-lts.Then3 → In-call call-lts.After-flatten-all
   refused c = c .before .before .before .before .before .before
 
-  call-same-length-5 : call-lts.Need-same-length-5 (call-calls t) (call-at t) call.Post
+  call-same-length-5 : In-call call-lts.Need-same-length-5
   call-same-length-5 c = call-counters-kept (refused c)
 
-  call-same-length-6 : call-lts.Need-same-length-6 (call-calls t) (call-at t) call.Post
+  call-same-length-6 : In-call call-lts.Need-same-length-6
   call-same-length-6 c = call-scratch-kept (refused c)
 
-  call-returns-3 : call-lts.Need-returns-3 (call-calls t) (call-at t) call.Post
+  call-returns-3 : In-call call-lts.Need-returns-3
   call-returns-3 c = args-refused (at-args (refused c)) (c .if3 .taken)
 
-  -- all are fine
-  abbrev argued : call-lts.Else3 (call-calls t) (call-at t) call.Post → CallArgued
+  -- ---- all are fine
+
+  abbrev argued : In-call call-lts.Else3 → In-call call-lts.After-flatten-all
   argued c = c .before .before .before .before .before .before
 
-  call-add-put-atom : call-lts.Need-add-put-atom (call-calls t) (call-at t) call.Post
+  call-add-put-atom : In-call call-lts.Need-add-put-atom
   call-add-put-atom c = omega (arith, at-start (named-start (named (fronted (argued (c .before))))) .low)
 
-  call-cast-put-atom : call-lts.Need-cast-put-atom (call-calls t) (call-at t) call.Post
+  call-cast-put-atom : In-call call-lts.Need-cast-put-atom
   call-cast-put-atom c = search needs
 
-  call-put-atom-requires : call-lts.Need-put-atom-requires (call-calls t) (call-at t) call.Post
+  call-put-atom-requires : In-call call-lts.Need-put-atom-requires
   call-put-atom-requires c κs = atom-asks (at-args (argued (c .before))) (c .before .if3 .left)
 
   -- and the atom is put behind theirs
-  abbrev behind : call-lts.After-slice-known9 (call-calls t) (call-at t) call.Post → call-lts.Else3 (call-calls t) (call-at t) call.Post
+  abbrev behind : In-call call-lts.After-slice-known9 → In-call call-lts.Else3
   behind c = c .before .before .before .before
 
-  call-same-length-7 : call-lts.Need-same-length-7 (call-calls t) (call-at t) call.Post
+  call-same-length-7 : In-call call-lts.Need-same-length-7
   call-same-length-7 c = call-counters-kept (argued (behind c))
 
-  call-same-length-8 : call-lts.Need-same-length-8 (call-calls t) (call-at t) call.Post
+  call-same-length-8 : In-call call-lts.Need-same-length-8
   call-same-length-8 c = c .before .before .put-atom .kept .0 ∙ call-scratch-kept (argued (behind c))
 
-  call-returns-4 : call-lts.Need-returns-4 (call-calls t) (call-at t) call.Post
+  call-returns-4 : In-call call-lts.Need-returns-4
   call-returns-4 c =
       let p = c .before .before .put-atom in
       call-answer (at-args (argued (behind c))) _ _ (behind c .if3 .left) (p .ensures .0) (p .ensures .1)

@@ -6,7 +6,7 @@ use Rattle.rules.specs.Program.{decimalUpTo}
 use Rattle.lines.proofs.Texts.{wrote-one, wrote-snoc, wrote-same, decimal-one, decimal-more, length-tenth}
 use lib.ListN.{length-set}
 use Prim.Native.Nat.{ℕ, _/_, _<_}
-use borrow.Fn.Kinds.{In}
+use borrow.Fn.Kinds.{In, Out}
 use borrow.Fn.PlainCycle.{Measures, is, falls, and}
 use Rattle.lines.proofs.printing.put_decimal.Reads as put-decimal
 use Rattle.lines.proofs.printing.put_decimal.Kinds as kinds
@@ -19,36 +19,38 @@ abbrev μ-put-decimal : Measures 1 kinds.ps ℕ
 μ-put-decimal κs a = a .1 .1 .0
 
 abbrev at-measure : ℕ → In 1 kinds.ps
-at-measure t =
-    and 1 kinds.ps (is 1 kinds.ps μ-put-decimal t) put-decimal.Pre
+at-measure t = and 1 kinds.ps (is 1 kinds.ps μ-put-decimal t) put-decimal.Pre
 
 abbrev below-measure : ℕ → In 1 kinds.ps
-below-measure t =
-    and 1 kinds.ps (falls 1 kinds.ps _<_ μ-put-decimal t) put-decimal.Pre
+below-measure t = and 1 kinds.ps (falls 1 kinds.ps _<_ μ-put-decimal t) put-decimal.Pre
 
 -- what is known of the two functions that it calls, itself below the measure
 abbrev called : ℕ → lts.Claims
 called t = (byte-of-reads.Asked, byte-of-reads.Learnt, below-measure t, put-decimal.Post)
 
 module _ (t : ℕ) where
+  -- a place of it, or a need there
+  abbrev Here : (lts.Claims → In 1 kinds.ps → Out 1 kinds.ps kinds.r → Type 0) → Type 0
+  Here P = P (called t) (at-measure t) put-decimal.Post
+
   -- ---- one digit
 
-  cast-byte-of : lts.Need-cast-byte-of (called t) (at-measure t) put-decimal.Post
+  cast-byte-of : Here lts.Need-cast-byte-of
   cast-byte-of c = omega arith
 
-  byte-of-requires : lts.Need-byte-of-requires (called t) (at-measure t) put-decimal.Post
+  byte-of-requires : Here lts.Need-byte-of-requires
   byte-of-requires c κs = omega arith
 
-  slice-write-text : lts.Need-slice-write-text (called t) (at-measure t) put-decimal.Post
+  slice-write-text : Here lts.Need-slice-write-text
   slice-write-text c = omega arith
 
-  add-result : lts.Need-add-result (called t) (at-measure t) put-decimal.Post
+  add-result : Here lts.Need-add-result
   add-result c = omega arith
 
-  same-length : lts.Need-same-length (called t) (at-measure t) put-decimal.Post
+  same-length : Here lts.Need-same-length
   same-length c = simp length-set
 
-  returns : lts.Need-returns (called t) (at-measure t) put-decimal.Post
+  returns : Here lts.Need-returns
   returns c =
       let a = c .before .before .before .args in
       let digit = wrote-one (a .text .now) (a .at) (c .byte-of .result) (slice-write-text c) in
@@ -56,38 +58,35 @@ module _ (t : ℕ) where
 
   -- ---- more than one: those of the tenth are written
 
-  put-decimal-requires : lts.Need-put-decimal-requires (called t) (at-measure t) put-decimal.Post
+  put-decimal-requires : Here lts.Need-put-decimal-requires
   put-decimal-requires c κs = (omega arith, c .before .before .before .pre .1)
 
-  abbrev Tenth : Type 0
-  Tenth = lts.After-put-decimal (called t) (at-measure t) put-decimal.Post
-
-  abbrev more : Tenth → lts.Else1 (called t) (at-measure t) put-decimal.Post
+  abbrev more : Here lts.After-put-decimal → Here lts.Else1
   more c = c .before .before
 
-  abbrev start : Tenth → lts.Start (called t) (at-measure t) put-decimal.Post
+  abbrev start : Here lts.After-put-decimal → Here lts.Start
   start c = more c .before .before
 
-  cast-byte-of-2 : lts.Need-cast-byte-of-2 (called t) (at-measure t) put-decimal.Post
+  cast-byte-of-2 : Here lts.Need-cast-byte-of-2
   cast-byte-of-2 c = omega arith
 
-  byte-of-requires-2 : lts.Need-byte-of-requires-2 (called t) (at-measure t) put-decimal.Post
+  byte-of-requires-2 : Here lts.Need-byte-of-requires-2
   byte-of-requires-2 c κs = omega arith
 
   -- ---- and the last digit behind them
 
-  slice-write-text-2 : lts.Need-slice-write-text-2 (called t) (at-measure t) put-decimal.Post
+  slice-write-text-2 : Here lts.Need-slice-write-text-2
   slice-write-text-2 c = omega (arith, length-tenth (start (c .before .before .before) .args .k) (omega arith))
 
-  add-result-2 : lts.Need-add-result-2 (called t) (at-measure t) put-decimal.Post
+  add-result-2 : Here lts.Need-add-result-2
   add-result-2 c = omega (arith, slice-write-text-2 c)
 
-  same-length-2 : lts.Need-same-length-2 (called t) (at-measure t) put-decimal.Post
+  same-length-2 : Here lts.Need-same-length-2
   same-length-2 c = simp length-set (c .before .before .before .put-decimal .kept .0)
 
-  returns-2 : lts.Need-returns-2 (called t) (at-measure t) put-decimal.Post
+  returns-2 : Here lts.Need-returns-2
   returns-2 c =
-      let p : Tenth = c .before .before .before in
+      let p : Here lts.After-put-decimal = c .before .before .before in
       let k = start p .args .k in
       let digits = wrote-snoc (c .byte-of2 .result) (p .put-decimal .ensures) (slice-write-text-2 c) (omega arith) in
       let last = ap (λ (b : ℕ). decimalUpTo 20 (k / 10) [] ++ (b ∷ [])) (c .byte-of2 .ensures) in
