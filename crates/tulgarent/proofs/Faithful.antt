@@ -11,12 +11,17 @@ use Rattle.meaning.proofs.Demand3Bytes.{demand3-bytes}
 use Rattle.tulgarent.specs.declared.Answer.{Answer}
 use Rattle.tulgarent.specs.Answers.{GivesBoth}
 
+-- the first n words of the output l are a lowered rule, faithful to the written one, with so many replacements
+abbrev Carried : (signature rule counters l : List ℕ) → (n replacements : ℕ) → Type 1
+Carried signature rule counters l n k = CarriedFaithfully (words signature) (words rule) (words counters) (words (take (4 * n) l)) k
+
 pub lowered-faithful : (signature rule counters output : List ℕ) (scratch : ℕ) (r : Answer) (output′ counters′ : List ℕ)
     → GivesBoth (lower signature rule counters output scratch) r output′ counters′ → r .number ≡ 0
     → CarriedFaithfully (words signature) (words rule) (words counters) (words (take (4 * r .words) output′)) (r .replacements)
 lowered-faithful signature rule counters output scratch r output′ counters′ g z =
     let o = lower signature rule counters output scratch in
     let f = demand3-bytes signature rule counters output scratch (sym (ap (λ (a : Answer). a .number) (g .answer)) ∙ z) in
-    subst (λ (l : List ℕ). CarriedFaithfully (words signature) (words rule) (words counters) (words (take (4 * r .words) l)) (r .replacements)) (sym (g .writes))
-    (subst (λ (n : ℕ). CarriedFaithfully (words signature) (words rule) (words counters) (words (take (4 * n) (o .output))) (r .replacements)) (sym (ap (λ (a : Answer). a .words) (g .answer)))
-    (subst (λ (n : ℕ). CarriedFaithfully (words signature) (words rule) (words counters) (words (take (4 * o .written) (o .output))) n) (sym (ap (λ (a : Answer). a .replacements) (g .answer))) f))
+    let a = g .answer in
+    subst (λ (l : List ℕ). Carried signature rule counters l (r .words) (r .replacements)) (sym (g .writes))
+    (subst (λ (n : ℕ). Carried signature rule counters (o .output) n (r .replacements)) (sym (ap (λ (x : Answer). x .words) a))
+    (subst (λ (n : ℕ). Carried signature rule counters (o .output) (o .written) n) (sym (ap (λ (x : Answer). x .replacements) a)) f))

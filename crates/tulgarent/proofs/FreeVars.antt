@@ -53,7 +53,8 @@ module _ (k : Given) where
     pub free-asks : GoodUnder (words (k .rule)) (g .globals)
     free-asks = record { some = record { sig = y .sig; rule = y .passed .rule; good = good }; globals = globals }
 
-    pub free-done : {n : ℕ} {m : List ℕ} → ((s : Sig) (f : FlatRule) → g .globals ≡ s .globals → Good s (words (k .rule)) f → Wrote (getFreeVars s (f .actions)) n (k .output) m)
+    pub free-done : {n : ℕ} {m : List ℕ}
+        → ((s : Sig) (f : FlatRule) → g .globals ≡ s .globals → Good s (words (k .rule)) f → Wrote (getFreeVars s (f .actions)) n (k .output) m)
         → length m ≡ length (k .output) → Done y n 0 0 m
     free-done wrote size =
         record {

@@ -38,7 +38,8 @@ lowering k =
 
 module _ (k : Given) where
   -- the call's answer is the definition's
-  pub lower-gives : {r : Answer} {m d : List ℕ} → Answers (lowering k) r m d → GivesBoth (lower (k .signature) (k .rule) (k .counters) (k .output) (length (k .scratch))) r m d
+  pub lower-gives : {r : Answer} {m d : List ℕ} → Answers (lowering k) r m d
+      → GivesBoth (lower (k .signature) (k .rule) (k .counters) (k .output) (length (k .scratch))) r m d
   unfolding lower
   lower-gives g = g
 
@@ -76,7 +77,8 @@ module _ (k : Given) where
         let p = y .passed in
         record { is = omega arith; inside = omega (arith, p .scratch, p .short); fits = omega (arith, p .short) }
 
-    pub lower-asks : {cut : ℕ} → Lent (scratchWritten (k .rule)) (k .scratch) cut → LowerAsks (words (k .signature)) (words (k .rule)) g (words (k .counters)) (length (words (take cut (k .scratch))))
+    pub lower-asks : {cut : ℕ} → Lent (scratchWritten (k .rule)) (k .scratch) cut
+        → LowerAsks (words (k .signature)) (words (k .rule)) g (words (k .counters)) (length (words (take cut (k .scratch))))
     lower-asks l =
         record {
           sig = y .sig;

@@ -1,4 +1,5 @@
--- Settling a good flat rule: where its atoms and its actions stand, what each step asks, and what is written at the end. Assumes nothing.
+-- Settling a good flat rule. What is known at a step of `settle_good` is a record over the words before and after it: `Begun`, `Found`, `Copied`, `Done`.
+-- What holds of the rule holds under every signature under which the words are one, `SomeFlat`. Assumes nothing.
 use Prim.Native.Nat.{ℕ, _+_, _-_, _*_, _/_, _%_, _≤_, _<_}
 use native.Mathlib.Omega.{arith}
 use mathlib.Core.Path.{_≡_, refl, sym, _∙_, ap, subst}
@@ -9,13 +10,12 @@ use lib.Dec.{leb}
 use Rattle.octets.specs.Words.{Got}
 use Rattle.octets.specs.Regions.{splice, part, At}
 use Rattle.octets.proofs.Places.{at-splice, at-left, at-right}
-use Rattle.octets.proofs.Splice.{part-all, length-splice}
-use Rattle.rules.specs.Words.{limit12, headerBase, headerWord, isHeaderWord, factsOf, actionsOf}
+use Rattle.octets.proofs.Splice.{part-all}
+use Rattle.rules.specs.Words.{limit12, maxFlat, headerBase, headerWord, isHeaderWord, factsOf, actionsOf}
 use Rattle.rules.specs.Refusals.{ok, unfit}
 use Rattle.rules.specs.Signature.{Sig}
 use Rattle.rules.specs.Written.{readWord, readRow}
-use Rattle.rules.specs.Flat.{CoreAction, FlatRule, atomWords, actionWords, wordsOf, readAtom, readCoreAction, readFlat, encode}
-use Rattle.rules.specs.Canonicalize.{bindings}
+use Rattle.rules.specs.Flat.{Atom, FlatRule, atomWords, actionWords, wordsOf, readAtom, readCoreAction, readFlat}
 use Rattle.rules.specs.RemoveDupVars as rules
 use Rattle.words.proofs.Ranges.{within-true}
 use Rattle.meaning.proofs.Results.{bind-ok, demand-ok}
@@ -27,14 +27,15 @@ use Rattle.records.specs.declared.written.Walk.{Walk}
 use Rattle.records.specs.declared.signature.Signature.{Signature}
 use Rattle.records.proofs.flat.Words.{word-read, row-spelled, atom-spelled, action-spelled, flat-spelled}
 use Rattle.records.proofs.flat.Whole.{flat-with}
+use Rattle.bodies.specs.declared.terms.Sign.{Sign}
 use Rattle.bodies.specs.Terms.{GoodSign, Agrees}
 use Rattle.bodies.specs.Standing.{BodyAt}
 use Rattle.settling.specs.declared.Settled.{Settled}
 use Rattle.settling.specs.Settle.{SettleAsks, SettledAt}
 use Rattle.settling.proofs.Settling.{settle-asks}
-use Rattle.free_vars.specs.Head.{Wrote}
 use Rattle.tulgarent.specs.Emit.{Parts, Stand}
-use Rattle.tulgarent.specs.Settle.{FlatUnder, EndedWith}
+use Rattle.tulgarent.specs.Settle.{FlatUnder, SomeFlat, EndedWith}
+use Rattle.tulgarent.proofs.Emitting.{Finishes, settled-parts}
 
 -- ---- the header of a flat rule, and where its atoms end
 
@@ -67,117 +68,126 @@ parted t ws f e =
           ∙ ap walkOf (a .1) ∙ ap (walk 0) at-is;
     })
 
+-- settling takes two numbers of a signature
+abbrev pub termsOf : Signature → Sign
+termsOf g = record { globals = g .globals; equals = g .equals }
+
 at-whole : (l : List ℕ) → At l l 0
 at-whole l = record { within = omega arith; words = part-all l }
 
-module _ (ws : List ℕ) (g : Signature) (s : Sig) (f : FlatRule) (u : FlatUnder ws g s f) where
+module _ {ws : List ℕ} {g : Signature} (t : SomeFlat ws g) where
   abbrev atomsThere : List ℕ
-  atomsThere = wordsOf atomWords (f .atoms)
+  atomsThere = wordsOf atomWords (t .rule .atoms)
 
   abbrev actionsThere : List ℕ
-  actionsThere = wordsOf actionWords (f .actions)
+  actionsThere = wordsOf actionWords (t .rule .actions)
 
-  known : Parted (withHeads (g .heads)) ws f
-  known = parted (withHeads (g .heads)) ws f (ap (λ (k : ℕ). readFlat (withHeads k) ws) (u .same-heads) ∙ flat-with s ws (u .few-heads) ∙ u .read)
+  known : Parted (withHeads (g .heads)) ws (t .rule)
+  known =
+      let u = t .under in
+      parted (withHeads (g .heads)) ws (t .rule) (ap (λ (k : ℕ). readFlat (withHeads k) ws) (u .same-heads) ∙ flat-with (t .sig) ws (u .few-heads) ∙ u .read)
 
   size : 1 + length atomsThere + length actionsThere ≡ length ws
-  size = flat-size s ws f (u .read)
+  size = flat-size (t .sig) ws (t .rule) (t .under .read)
 
   pub some-word : 0 < length ws
   some-word = omega (arith, size)
 
   behind : At (atomsThere ++ actionsThere) ws 1
   behind =
-      let h = headerWord (length (f .atoms)) (length (f .actions)) in
-      at-right (h ∷ []) 1 (subst (λ (l : List ℕ). At l ws 0) (flat-spelled s ws f (u .read)) (at-whole ws)) refl
+      let h = headerWord (length (t .rule .atoms)) (length (t .rule .actions)) in
+      at-right (h ∷ []) 1 (subst (λ (l : List ℕ). At l ws 0) (flat-spelled (t .sig) ws (t .rule) (t .under .read)) (at-whole ws)) refl
 
-  atoms-at : At atomsThere ws 1
-  atoms-at = at-left actionsThere behind
+  -- settling takes these two numbers
+  pub good-sign : GoodSign (termsOf g)
+  good-sign =
+      let u = t .under in
+      record { globals = omega (arith, u .same-globals, u .few-globals); equals = omega (arith, u .same-equals, u .known-equals, u .few-heads) }
 
-  module _ {w : ℕ} (got : Got ws 0 w) where
-    pub has-header : headerBase ≤ w
-    has-header =
-        let k = within-true headerBase (limit12 * limit12) (getD ws 0 0) (known .header) in
-        omega (arith, got .is, k .0)
+  agrees : Agrees (termsOf g) (t .sig)
+  agrees = record { globals = t .under .same-globals; equals = t .under .same-equals }
 
-    module _ {r : Walk} (walked : r ≡ walkOf (readRow (readAtom (withHeads (g .heads)) ws) ((w - headerBase) / limit12) 1)) where
-      pub atoms-end : r .at ≡ 1 + length atomsThere
-      atoms-end =
-          ap (λ (v : Walk). v .at)
-          (walked ∙ ap (λ (n : ℕ). walkOf (readRow (readAtom (withHeads (g .heads)) ws) (factsOf n) 1)) (got .is) ∙ known .ends)
+-- ---- the header is read, w, and there is a scratch l
 
-      pub end-some : 1 ≤ r .at
-      end-some = omega (arith, atoms-end)
+pub record Begun (ws : List ℕ) (g : Signature) (l : List ℕ) (w : ℕ) : Type 0 where
+  pub some : SomeFlat ws g
+  pub enough : 16 * length ws ≤ length l
+  pub is : w ≡ getD ws 0 0
+  pub header : headerBase ≤ w
 
-      pub end-inside : r .at ≤ length ws
-      end-inside = omega (arith, atoms-end, size)
+pub begun : {ws : List ℕ} {g : Signature} {l : List ℕ} {w : ℕ} → SomeFlat ws g → 16 * length ws ≤ length l → Got ws 0 w → Begun ws g l w
+begun {ws} some enough got =
+    let h = within-true headerBase (limit12 * limit12) (getD ws 0 0) (known some .header) in
+    record { some = some; enough = enough; is = got .is; header = omega (arith, got .is, h .0) }
 
-      actions-at : At actionsThere ws (r .at)
-      actions-at = at-right atomsThere (r .at) behind atoms-end
+-- ---- the atoms end at `at`
 
-      module _ (l : List ℕ) (enough : 16 * length ws ≤ length l) where
-        pub copy-asks : (0 + (r .at - 1) ≤ length l) × (1 + (r .at - 1) ≤ length ws)
-        copy-asks = (omega (arith, atoms-end, size, u .short), omega (arith, atoms-end, size))
+pub record Found {ws : List ℕ} {g : Signature} {l : List ℕ} {w : ℕ} (b : Begun ws g l w) (at : ℕ) : Type 0 where
+  pub ends : (t : SomeFlat ws g) → at ≡ 1 + length (atomsThere t)
+  pub from : 1 ≤ at
+  pub inside : at ≤ length ws
+  pub short : length ws ≤ maxFlat
 
-        module _ {m : List ℕ} (copied : m ≡ splice l 0 (part ws 1 (r .at - 1))) where
-          copied-atoms : m ≡ splice l 0 atomsThere
-          copied-atoms =
-              let n : r .at - 1 ≡ length atomsThere = omega (arith, atoms-end) in
-              copied ∙ ap (λ (k : ℕ). splice l 0 (part ws 1 k)) n ∙ ap (splice l 0) (atoms-at .words)
+module _ {ws : List ℕ} {g : Signature} {l : List ℕ} {w : ℕ} (b : Begun ws g l w) where
+  pub found : {r : Walk} → r ≡ walkOf (readRow (readAtom (withHeads (g .heads)) ws) ((w - headerBase) / limit12) 1) → Found b (r .at)
+  found {r} walked =
+      let ends : (t : SomeFlat ws g) → r .at ≡ 1 + length (atomsThere t) =
+      λ t. ap (λ (v : Walk). v .at) (walked ∙ ap (λ (n : ℕ). walkOf (readRow (readAtom (withHeads (g .heads)) ws) (factsOf n) 1)) (b .is) ∙ known t .ends) in
+      let e = ends (b .some) in
+      let s = size (b .some) in
+      record { ends = ends; from = omega arith; inside = omega arith; short = b .some .under .short }
 
-          room : 0 + length atomsThere ≤ length l
-          room = omega (arith, size, u .short)
+module _ {ws : List ℕ} {g : Signature} {l : List ℕ} {w : ℕ} {b : Begun ws g l w} {at : ℕ} (f : Found b at) where
+  pub copy-asks : (0 + (at - 1) ≤ length l) × (1 + (at - 1) ≤ length ws)
+  copy-asks = (omega (arith, f .inside, b .enough), omega (arith, f .from, f .inside))
 
-          pub body-at : BodyAt (f .atoms) m 0 (r .at - 1)
-          body-at = record {
-            fits = u .fits;
-            size = omega (arith, atoms-end);
-            at = subst (λ (k : List ℕ). At atomsThere k 0) (sym copied-atoms) (at-splice l 0 atomsThere room);
-          }
+  actions-at : (t : SomeFlat ws g) → At (actionsThere t) ws at
+  actions-at t = at-right (atomsThere t) at (behind t) (f .ends t)
 
-          -- the body has few words
-          few-words : 0 + 2 * (r .at - 1) < 0x1000_0000
-          few-words = omega (arith, atoms-end, size, u .short)
+-- ---- they are copied to the front of the scratch, which leaves m
 
-          pub asks-room : SettleAsks m 0 (r .at - 1)
-          asks-room =
-              let e = ap (λ (k : List ℕ). length k) copied-atoms ∙ length-splice l 0 atomsThere room in
-              settle-asks (f .atoms) m 0 (r .at - 1) body-at (omega (arith, e, atoms-end, size, u .short)) few-words
+pub record Copied {ws : List ℕ} {g : Signature} {l : List ℕ} {w : ℕ} {b : Begun ws g l w} {at : ℕ} (f : Found b at) (m : List ℕ) : Type 0 where
+  pub body : (t : SomeFlat ws g) → BodyAt (t .rule .atoms) m 0 (at - 1)
+  pub asks : SettleAsks m 0 (at - 1)
 
-          pub good-sign : GoodSign (record { globals = g .globals; equals = g .equals })
-          good-sign = record {
-            globals = omega (arith, u .same-globals, u .few-globals);
-            equals = omega (arith, u .same-equals, u .known-equals, u .few-heads);
-          }
+module _ {ws : List ℕ} {g : Signature} {l : List ℕ} {w : ℕ} {b : Begun ws g l w} {at : ℕ} (f : Found b at) where
+  pub copied : {m : List ℕ} → length m ≡ length l → m ≡ splice l 0 (part ws 1 (at - 1)) → Copied f m
+  copied {m} kept put =
+      let body : (t : SomeFlat ws g) → BodyAt (t .rule .atoms) m 0 (at - 1) = λ t. body-at t in
+      let i = f .inside in
+      let s = f .short in
+      record { body = body; asks = settle-asks (b .some .rule .atoms) m 0 (at - 1) (body (b .some)) (omega (arith, b .enough, f .from)) (omega arith) }
+    where
+      body-at : (t : SomeFlat ws g) → BodyAt (t .rule .atoms) m 0 (at - 1)
+      body-at t =
+          let n : at - 1 ≡ length (atomsThere t) = omega (arith, f .ends t) in
+          let room : 0 + length (atomsThere t) ≤ length l = omega (arith, size t, b .enough) in
+          let there = ap (λ (k : ℕ). splice l 0 (part ws 1 k)) n ∙ ap (splice l 0) (at-left (actionsThere t) (behind t) .words) in
+          record { fits = t .under .fits; size = n; at = subst (λ (k : List ℕ). At (atomsThere t) k 0) (sym (put ∙ there)) (at-splice l 0 (atomsThere t) room) }
 
-          pub agrees : Agrees (record { globals = g .globals; equals = g .equals }) s
-          agrees = record { globals = u .same-globals; equals = u .same-equals }
+-- ---- they are settled: body, with z left behind
 
-          module _ {body : Settled} {z : List ℕ} (settled : SettledAt s (f .atoms) m z 0 (r .at - 1) body) {k : ℕ} (all : k ≡ length ws) where
-            pub parts : Parts (rules.settle s (f .atoms)) (f .actions) z body ((w - headerBase) % limit12) ws (r .at) (k - r .at)
-            parts =
-                let c = settled-counts s ws f (u .read) (u .short) in
-                record {
-                  tabs = settled .tabs;
-                  words = settled .words;
-                  atoms = settled .atoms;
-                  binds = settled .binds;
-                  replacements = settled .replacements;
-                  head = actions-at;
-                  rest = omega (arith, all, atoms-end, size);
-                  actions = ap actionsOf (got .is) ∙ sym (known .actions);
-                  few = c .0;
-                  some = c .1;
-                }
+pub record Done {ws : List ℕ} {g : Signature} {l : List ℕ} {w : ℕ} {b : Begun ws g l w} {at : ℕ} {f : Found b at} {m : List ℕ} (c : Copied f m)
+    (body : Settled) (z : List ℕ) : Type 0 where
+  pub done : (t : SomeFlat ws g) → SettledAt (t .sig) (t .rule .atoms) m z 0 (at - 1) body
 
-            pub stand : Stand z body ((w - headerBase) % limit12) ws (r .at) (k - r .at)
-            stand = record { settled = rules.settle s (f .atoms); kept = f .actions; parts = parts }
+module _ {ws : List ℕ} {g : Signature} {l : List ℕ} {w : ℕ} {b : Begun ws g l w} {at : ℕ} {f : Found b at} {m : List ℕ} (c : Copied f m) where
+  pub is-done : {body : Settled} {z : List ℕ}
+      → ((s : Sig) (xs : List Atom) → Agrees (termsOf g) s → BodyAt xs m 0 (at - 1) → SettledAt s xs m z 0 (at - 1) body) → Done c body z
+  is-done settles = record { done = λ t. settles (t .sig) (t .rule .atoms) (agrees t) (c .body t) }
 
-            pub ended : {n : ℕ} {o p : List ℕ}
-                → ((b : rules.Settled) (head : List CoreAction) → Parts b head z body ((w - headerBase) % limit12) ws (r .at) (k - r .at) → Wrote (encode (b .tabs) (bindings (b .repls) ++ head)) n o p)
-                → EndedWith s f (record { needed = n; replacements = body .replacements; passes = body .passes }) o p
-            ended h = record {
-              wrote = h (rules.settle s (f .atoms)) (f .actions) parts;
-              replacements = settled .replacements;
-              passes = settled .passes;
-            }
+module _ {ws : List ℕ} {g : Signature} {l : List ℕ} {w : ℕ} {b : Begun ws g l w} {at : ℕ} {f : Found b at} {m : List ℕ} {c : Copied f m}
+    {body : Settled} {z : List ℕ} (d : Done c body z) {k : ℕ} (all : k ≡ length ws) where
+  parts : (t : SomeFlat ws g) → Parts (rules.settle (t .sig) (t .rule .atoms)) (t .rule .actions) z body ((w - headerBase) % limit12) ws at (k - at)
+  parts t =
+      settled-parts (d .done t) (t .rule .actions) ((w - headerBase) % limit12) ws at (k - at) (actions-at f t) (omega (arith, f .ends t, size t))
+      (ap actionsOf (b .is) ∙ sym (known t .actions)) (settled-counts (t .sig) ws (t .rule) (t .under .read) (t .under .short))
+
+  pub stand : Stand z body ((w - headerBase) % limit12) ws at (k - at)
+  stand = record { settled = rules.settle (b .some .sig) (b .some .rule .atoms); kept = b .some .rule .actions; parts = parts (b .some) }
+
+  pub ended : {n : ℕ} {o p : List ℕ} → Finishes z body ((w - headerBase) % limit12) ws at (k - at) n o p
+      → (s : Sig) (r : FlatRule) → FlatUnder ws g s r → EndedWith s r (record { needed = n; replacements = body .replacements; passes = body .passes }) o p
+  ended h s r u =
+      let t : SomeFlat ws g = record { sig = s; rule = r; under = u } in
+      record { wrote = h (rules.settle s (r .atoms)) (r .actions) (parts t); replacements = d .done t .replacements; passes = d .done t .passes }

@@ -83,10 +83,12 @@ module _ (k : Given) where
         let p = y .passed in
         record { is = omega arith; inside = omega (arith, p .scratch, p .short); fits = omega (arith, p .short) }
 
-    pub settle-asks : {cut : ℕ} → Lent (scratchFlat (k .rule)) (k .scratch) cut → SomeFlat (words (k .rule)) g × (16 * length (words (k .rule)) ≤ length (words (take cut (k .scratch))))
+    pub settle-asks : {cut : ℕ} → Lent (scratchFlat (k .rule)) (k .scratch) cut
+        → SomeFlat (words (k .rule)) g × (16 * length (words (k .rule)) ≤ length (words (take cut (k .scratch))))
     settle-asks l = (record { sig = y .sig; rule = y .passed .rule; under = under }, omega (arith, lent-words l))
 
-    pub settle-done : {e : Ended} {m : List ℕ} → ((s : Sig) (f : FlatRule) → FlatUnder (words (k .rule)) g s f → EndedWith s f e (k .output) m) → length m ≡ length (k .output)
+    pub settle-done : {e : Ended} {m : List ℕ} → ((s : Sig) (f : FlatRule) → FlatUnder (words (k .rule)) g s f → EndedWith s f e (k .output) m)
+        → length m ≡ length (k .output)
         → Done y (e .needed) (e .replacements) (e .passes) m
     settle-done ends size =
         let z = ends (y .sig) (y .passed .rule) under in

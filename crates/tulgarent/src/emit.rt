@@ -28,7 +28,8 @@ fn emit(
     rest: usize,
 )
     requires { ⌜ Fits body from rest (length (words (now output))) (length (words (now scratch))) (length (words (now source))) ⌝ }
-    ensures { λ _. ⌜ words (now (output .exit)) ≡ splice (words (now (output .entry))) 0 (emitted header (words (now (scratch .entry))) body (words (now (source .entry))) from rest) ⌝ }
+    ensures { λ _. ⌜ words (now (output .exit)) ≡ splice (words (now (output .entry))) 0
+        (emitted header (words (now (scratch .entry))) body (words (now (source .entry))) from rest) ⌝ }
 {
     let at = body.at;
     let atoms = body.words;

@@ -76,7 +76,8 @@ fn lower_good(
 ) -> Lowered
     requires { ⌜ LowerAsks (words (now signature)) (words (now rule)) sign (words (now counters)) (length (words (now scratch))) ⌝ }
     ensures { λ r. ⌜ ((s : Sig) (rl : Rule) → WrittenUnder (words (now (signature .entry))) (words (now (rule .entry))) sign s rl
-        → LowersTo s (toCoreRule s rl (words (now (counters .entry)))) (words (now (counters .entry))) (words (now (counters .exit))) (now (output .entry)) (now (output .exit)) r) ⌝ }
+        → LowersTo s (toCoreRule s rl (words (now (counters .entry)))) (words (now (counters .entry))) (words (now (counters .exit)))
+        (now (output .entry)) (now (output .exit)) r) ⌝ }
 {
     let n = octets::count(rule);
     let core = lowering::to_core_rule(signature, rule, counters, scratch);
@@ -138,7 +139,9 @@ pub extern "C" fn tulgarent_lower(
     output: &mut [u8],
     scratch: &mut [u8],
 ) -> Answer
-    ensures { λ r. ⌜ GivesBoth (lower (now (signature .entry)) (now (rule .entry)) (now (counters .entry)) (now (output .entry)) (length (now (scratch .entry)))) r (now (output .exit)) (now (counters .exit)) ⌝ }
+    ensures { λ r. ⌜ GivesBoth
+        (lower (now (signature .entry)) (now (rule .entry)) (now (counters .entry)) (now (output .entry)) (length (now (scratch .entry))))
+        r (now (output .exit)) (now (counters .exit)) ⌝ }
     ensures { λ _. ⌜ Beyond (scratchWritten (now (rule .entry))) (now (scratch .entry)) (now (scratch .exit)) ⌝ }
 {
     let rest = both_whole(output, scratch);

@@ -35,7 +35,8 @@ pub struct Ended {
 fn settle_good(rule: &[u8], sign: Signature, output: &mut [u8], scratch: &mut [u8]) -> Ended
     requires { ⌜ SomeFlat (words (now rule)) sign ⌝ }
     requires { ⌜ 16 * length (words (now rule)) ≤ length (words (now scratch)) ⌝ }
-    ensures { λ r. ⌜ ((s : Sig) (f : FlatRule) → FlatUnder (words (now (rule .entry))) sign s f → EndedWith s f r (now (output .entry)) (now (output .exit))) ⌝ }
+    ensures { λ r. ⌜ ((s : Sig) (f : FlatRule) → FlatUnder (words (now (rule .entry))) sign s f
+        → EndedWith s f r (now (output .entry)) (now (output .exit))) ⌝ }
 {
     let counts = octets::get(rule, 0) - HEADER;
     let read = records::flat::atoms(rule, sign.heads, 1, counts / LIMIT_12);
@@ -74,7 +75,9 @@ pub extern "C" fn tulgarent_settle(
     output: &mut [u8],
     scratch: &mut [u8],
 ) -> Answer
-    ensures { λ r. ⌜ Gives (settled (now (signature .entry)) (now (rule .entry)) (now (output .entry)) (length (now (scratch .entry)))) r (now (output .exit)) ⌝ }
+    ensures { λ r. ⌜ Gives
+        (settled (now (signature .entry)) (now (rule .entry)) (now (output .entry)) (length (now (scratch .entry))))
+        r (now (output .exit)) ⌝ }
     ensures { λ _. ⌜ Beyond (scratchFlat (now (rule .entry))) (now (scratch .entry)) (now (scratch .exit)) ⌝ }
 {
     let rest = whole(scratch);

@@ -1,204 +1,122 @@
--- `tulgarent::lower::lower_good` meets its contract: lowered, settled and written as the definition does. Assumes nothing.
-use Prim.Native.Nat.{_≤_, _<_}
-use mathlib.Core.Path.{_≡_}
+-- The rule is lowered into the scratch, its body settled in front of its head and of the log, and all of it written; where there is no room the log, which
+-- is as it was, takes the counters back. Assumes nothing.
 use native.Mathlib.Omega.{arith}
-use lib.ListN.{length}
 use denote.Ref.{now}
 use Rattle.octets.specs.Words.{words}
 use Rattle.octets.proofs.Words.{length-words-kept}
-use Rattle.tulgarent.proofs.Lowering.{asks-core, good-sign, turned, asks-settle, stands, log-fits, ends-short, ends-good}
+use Rattle.tulgarent.proofs.Lowering.{core-asks, good-sign, turned, Laid, laid, asks-settle, Done, is-done, stands, ends-short, ends-good}
 use borrow.Author.Needs.{needs}
 use Rattle.tulgarent.proofs.lower.lower_good.Statement.{statement}
 use Rattle.tulgarent.proofs.lower.lower_good.Tie as tie
-use Rattle.tulgarent.proofs.lower.lower_good.Reads as reads
-use Rattle.tulgarent.proofs.lower.lower_good.Lts as lts
-use Rattle.lowering.proofs.to_core_rule.Reads as to-core-rule-reads
-use Rattle.octets.proofs.count.Reads as count-reads
-use Rattle.settling.proofs.settle.Reads as settle-reads
-use Rattle.tulgarent.proofs.emit.finish.Reads as finish-reads
-use Rattle.walks.proofs.restore.Reads as restore-reads
 
--- src/lower.rt:69:9
+-- ---- the rule is lowered
+
+abbrev start : tie.After-count → tie.Start
+start c = c .before .before .before .before .before .before
+
+abbrev core-start : tie.After-to-core-rule → tie.Start
+core-start c = start (c .before .before .before)
+
 count-requires : tie.Need-count-requires
 count-requires c κs = search needs
 
--- src/lower.rt:70:9
 to-core-rule-requires : tie.Need-to-core-rule-requires
-to-core-rule-requires c κs =
-    let a = c .before .before .before .before .before .before .before .before .args in
-    asks-core (words (now (a .signature))) (words (now (a .rule))) (a .sign) (words (now (a .counters))) (length (words (now (a .scratch)))) (c .before .before .before .before .before .before .before .before .pre)
+to-core-rule-requires c κs = core-asks (start (c .before .before) .pre)
 
--- src/lower.rt:72:9
+-- ---- it is refused
+
+abbrev then-core : tie.Then1 → tie.After-to-core-rule
+then-core c = c .before .before .before .before .before .before
+
 same-length : tie.Need-same-length
 same-length c = search needs
 
--- src/lower.rt:72:9
 same-length-2 : tie.Need-same-length-2
 same-length-2 c = search needs
 
--- src/lower.rt:72:9
 returns : tie.Need-returns
-returns c =
-    let a = c .before .before .before .before .before .before .before .before .before .before .before .before .before .before .before .args in
-    let gs = words (now (a .signature)) in
-    let ws = words (now (a .rule)) in
-    let cs = words (now (a .counters)) in
-    let room = length (words (now (a .scratch))) in
-    let p = c .before .before .before .before .before .before .before .before .before .before .before .before .before .before .before .pre in
-    let k = c .before .before .before .before .before .before .to-core-rule in
-    let cs1 = words (k .last .1 .1 .0) in
-    let m1 = words (k .last .1 .1 .1 .0) in
-    turned gs ws (a .sign) cs room p m1 cs1 (k .result) (k .ensures) (now (a .output)) (c .if1 .taken)
+returns c = let k = then-core c in turned (k .to-core-rule .ensures) (now (core-start k .args .output)) (c .if1 .taken)
 
--- src/lower.rt:81:9
+-- ---- its body is settled
+
+abbrev else-core : tie.Else1 → tie.After-to-core-rule
+else-core c = c .before .before .before .before .before .before
+
+at-core : (c : tie.Else1) → let k = else-core c .to-core-rule in
+    Laid (core-start (else-core c) .pre) (words (k .last .1 .1 .1 .0)) (words (k .last .1 .1 .0)) (k .result)
+at-core c =
+    let k = else-core c .to-core-rule in
+    laid (core-start (else-core c) .pre) (length-words-kept _ _ (k .kept .1 .1 .1 .0)) (k .ensures) (c .if1 .left)
+
 settle-requires : tie.Need-settle-requires
-settle-requires c κs =
-    let a = c .before .before .before .before .before .before .before .before .before .before .before .before .before .before .before .before .args in
-    let gs = words (now (a .signature)) in
-    let ws = words (now (a .rule)) in
-    let cs = words (now (a .counters)) in
-    let room = length (words (now (a .scratch))) in
-    let p = c .before .before .before .before .before .before .before .before .before .before .before .before .before .before .before .before .pre in
-    let k = c .before .before .before .before .before .before .before .to-core-rule in
-    let cs1 = words (k .last .1 .1 .0) in
-    let m1 = words (k .last .1 .1 .1 .0) in
-    let same : length m1 ≡ room = length-words-kept (k .last .1 .1 .1 .0) (now (a .scratch)) (k .kept .1 .1 .1 .0) in
-    let fine = c .before .if1 .left in
-    (good-sign gs ws (a .sign) cs room p, asks-settle gs ws (a .sign) cs room p m1 cs1 (k .result) (k .ensures) fine same)
+settle-requires c κs = let e = c .before in (good-sign (core-start (else-core e) .pre), asks-settle (at-core e))
 
--- src/lower.rt:84:84
+abbrev settle-count : tie.After-settle → tie.After-count
+settle-count c = else-core (c .before .before) .before .before .before
+
+at-settle : (c : tie.After-settle) → Done (at-core (c .before .before)) (settle-count c .count .result) (words (c .settle .last .0)) (c .settle .result)
+at-settle c = is-done (at-core (c .before .before)) (settle-count c .count .ensures) (c .settle .ensures)
+
+-- ---- the rule is written, if there is room
+
 mul-finish : tie.Need-mul-finish
-mul-finish c =
-    let p = c .before .before .before .before .before .before .before .before .before .before .before .before .before .before .before .before .before .before .before .before .before .pre in
-    let s = p .under .short in
-    let en = c .before .before .before .before .before .before .before .before .before .before .before .before .before .before .before .count .ensures in
-    omega (arith, s, en)
+mul-finish c = omega (arith, at-settle (c .before .before .before .before) .fits)
 
--- src/lower.rt:84:9
 finish-requires : tie.Need-finish-requires
-finish-requires c κs =
-    let a = c .before .before .before .before .before .before .before .before .before .before .before .before .before .before .before .before .before .before .before .before .before .args in
-    let gs = words (now (a .signature)) in
-    let ws = words (now (a .rule)) in
-    let cs = words (now (a .counters)) in
-    let room = length (words (now (a .scratch))) in
-    let p = c .before .before .before .before .before .before .before .before .before .before .before .before .before .before .before .before .before .before .before .before .before .pre in
-    let k = c .before .before .before .before .before .before .before .before .before .before .before .before .to-core-rule in
-    let cs1 = words (k .last .1 .1 .0) in
-    let m1 = words (k .last .1 .1 .1 .0) in
-    let same : length m1 ≡ room = length-words-kept (k .last .1 .1 .1 .0) (now (a .scratch)) (k .kept .1 .1 .1 .0) in
-    let fine = c .before .before .before .before .before .before .if1 .left in
-    let n = c .before .before .before .before .before .before .before .before .before .before .before .before .before .before .before .count .result in
-    let en : n ≡ length ws = c .before .before .before .before .before .before .before .before .before .before .before .before .before .before .before .count .ensures in
-    let t = c .before .before .before .before .settle in
-    let m2 = words (t .last .0) in
-    stands gs ws (a .sign) cs room p m1 cs1 (k .result) (k .ensures) fine n en m2 (t .result) (t .ensures)
+finish-requires c κs = stands (at-settle (c .before .before .before .before))
 
--- src/lower.rt:86:8
+abbrev finish-settle : tie.After-finish → tie.After-settle
+finish-settle c = c .before .before .before .before .before
+
+abbrev count-finish : tie.After-count2 → tie.After-finish
+count-finish c = c .before .before .before .before
+
 count-requires-2 : tie.Need-count-requires-2
 count-requires-2 c κs = search needs
 
--- src/lower.rt:87:43
+-- ---- there is none: the counters are taken back
+
+abbrev then-settle : tie.Then2 → tie.After-settle
+then-settle c = finish-settle (count-finish (c .before))
+
 mul-restore : tie.Need-mul-restore
-mul-restore c =
-    let p = c .before .before .before .before .before .before .before .before .before .before .before .before .before .before .before .before .before .before .before .before .before .before .before .before .before .before .before .before .before .pre in
-    let s = p .under .short in
-    let en = c .before .before .before .before .before .before .before .before .before .before .before .before .before .before .before .before .before .before .before .before .before .before .before .count .ensures in
-    omega (arith, s, en)
+mul-restore c = omega (arith, at-settle (then-settle (c .before .before)) .fits)
 
--- src/lower.rt:87:9
 restore-requires : tie.Need-restore-requires
-restore-requires c κs =
-    let a = c .before .before .before .before .before .before .before .before .before .before .before .before .before .before .before .before .before .before .before .before .before .before .before .before .before .before .before .before .before .args in
-    let gs = words (now (a .signature)) in
-    let ws = words (now (a .rule)) in
-    let cs = words (now (a .counters)) in
-    let room = length (words (now (a .scratch))) in
-    let p = c .before .before .before .before .before .before .before .before .before .before .before .before .before .before .before .before .before .before .before .before .before .before .before .before .before .before .before .before .before .pre in
-    let k = c .before .before .before .before .before .before .before .before .before .before .before .before .before .before .before .before .before .before .before .before .to-core-rule in
-    let cs1 = words (k .last .1 .1 .0) in
-    let m1 = words (k .last .1 .1 .1 .0) in
-    let same : length m1 ≡ room = length-words-kept (k .last .1 .1 .1 .0) (now (a .scratch)) (k .kept .1 .1 .1 .0) in
-    let fine = c .before .before .before .before .before .before .before .before .before .before .before .before .before .before .if1 .left in
-    let n = c .before .before .before .before .before .before .before .before .before .before .before .before .before .before .before .before .before .before .before .before .before .before .before .count .result in
-    let en : n ≡ length ws = c .before .before .before .before .before .before .before .before .before .before .before .before .before .before .before .before .before .before .before .before .before .before .before .count .ensures in
-    let t = c .before .before .before .before .before .before .before .before .before .before .before .before .settle in
-    let m2 = words (t .last .0) in
-    log-fits gs ws (a .sign) cs room p m1 cs1 (k .result) (k .ensures) fine n en m2 (t .result) (t .ensures) same
+restore-requires c κs = at-settle (then-settle (c .before .before)) .log
 
--- src/lower.rt:88:9
 same-length-3 : tie.Need-same-length-3
 same-length-3 c = search needs
 
--- src/lower.rt:88:9
 same-length-4 : tie.Need-same-length-4
 same-length-4 c = search needs
 
--- src/lower.rt:88:9
 same-length-5 : tie.Need-same-length-5
 same-length-5 c = search needs
 
--- src/lower.rt:88:9
 returns-2 : tie.Need-returns-2
 returns-2 c =
-    let a = c .before .before .before .before .before .before .before .before .before .before .before .before .before .before .before .before .before .before .before .before .before .before .before .before .before .before .before .before .before .before .before .before .args in
-    let gs = words (now (a .signature)) in
-    let ws = words (now (a .rule)) in
-    let cs = words (now (a .counters)) in
-    let room = length (words (now (a .scratch))) in
-    let p = c .before .before .before .before .before .before .before .before .before .before .before .before .before .before .before .before .before .before .before .before .before .before .before .before .before .before .before .before .before .before .before .before .pre in
-    let k = c .before .before .before .before .before .before .before .before .before .before .before .before .before .before .before .before .before .before .before .before .before .before .before .to-core-rule in
-    let cs1 = words (k .last .1 .1 .0) in
-    let m1 = words (k .last .1 .1 .1 .0) in
-    let same : length m1 ≡ room = length-words-kept (k .last .1 .1 .1 .0) (now (a .scratch)) (k .kept .1 .1 .1 .0) in
-    let fine = c .before .before .before .before .before .before .before .before .before .before .before .before .before .before .before .before .before .if1 .left in
-    let n = c .before .before .before .before .before .before .before .before .before .before .before .before .before .before .before .before .before .before .before .before .before .before .before .before .before .before .count .result in
-    let en : n ≡ length ws = c .before .before .before .before .before .before .before .before .before .before .before .before .before .before .before .before .before .before .before .before .before .before .before .before .before .before .count .ensures in
-    let t = c .before .before .before .before .before .before .before .before .before .before .before .before .before .before .before .settle in
-    let m2 = words (t .last .0) in
-    let f = c .before .before .before .before .before .before .before .before .before .before .finish in
-    let out = now (a .output) in
-    let out′ = f .last .0 in
-    let kept : length (words out′) ≡ length (words out) = length-words-kept out′ out (f .kept .0) in
-    let h : length (words out) < f .result = omega (arith, c .before .before .before .before .before .before .count2 .ensures, c .before .before .before .before .before .if2 .taken, kept) in
-    ends-short gs ws (a .sign) cs room p m1 cs1 (k .result) (k .ensures) fine n en m2 (t .result) (t .ensures) out out′ (f .result) (f .ensures) (words (c .before .before .restore .last .0)) h (c .before .before .restore .ensures)
+    let r = c .before .before in
+    let t = r .before .before .before in
+    let f = count-finish (t .before) .finish in
+    ends-short (at-settle (then-settle t)) (f .ensures) (t .before .count2 .ensures) (f .kept .0) (t .if2 .taken) (r .restore .ensures)
 
--- src/lower.rt:64:1
+-- ---- there is room
+
 same-length-6 : tie.Need-same-length-6
 same-length-6 c = search needs
 
--- src/lower.rt:64:1
 same-length-7 : tie.Need-same-length-7
 same-length-7 c = search needs
 
--- src/lower.rt:64:1
 same-length-8 : tie.Need-same-length-8
 same-length-8 c = search needs
 
--- src/lower.rt:64:1
 returns-3 : tie.Need-returns-3
 returns-3 c =
-    let a = c .before .before .before .before .before .before .before .before .before .before .before .before .before .before .before .before .before .before .before .before .before .before .before .before .before .before .before .args in
-    let gs = words (now (a .signature)) in
-    let ws = words (now (a .rule)) in
-    let cs = words (now (a .counters)) in
-    let room = length (words (now (a .scratch))) in
-    let p = c .before .before .before .before .before .before .before .before .before .before .before .before .before .before .before .before .before .before .before .before .before .before .before .before .before .before .before .pre in
-    let k = c .before .before .before .before .before .before .before .before .before .before .before .before .before .before .before .before .before .before .to-core-rule in
-    let cs1 = words (k .last .1 .1 .0) in
-    let m1 = words (k .last .1 .1 .1 .0) in
-    let same : length m1 ≡ room = length-words-kept (k .last .1 .1 .1 .0) (now (a .scratch)) (k .kept .1 .1 .1 .0) in
-    let fine = c .before .before .before .before .before .before .before .before .before .before .before .before .if1 .left in
-    let n = c .before .before .before .before .before .before .before .before .before .before .before .before .before .before .before .before .before .before .before .before .before .count .result in
-    let en : n ≡ length ws = c .before .before .before .before .before .before .before .before .before .before .before .before .before .before .before .before .before .before .before .before .before .count .ensures in
-    let t = c .before .before .before .before .before .before .before .before .before .before .settle in
-    let m2 = words (t .last .0) in
-    let f = c .before .before .before .before .before .finish in
-    let out = now (a .output) in
-    let out′ = f .last .0 in
-    let kept : length (words out′) ≡ length (words out) = length-words-kept out′ out (f .kept .0) in
-    let h : f .result ≤ length (words out) = omega (arith, c .before .count2 .ensures, c .if2 .left, kept) in
-    ends-good gs ws (a .sign) cs room p m1 cs1 (k .result) (k .ensures) fine n en m2 (t .result) (t .ensures) out out′ (f .result) (f .ensures) h
+    let n = c .before in
+    let f = count-finish n .finish in
+    ends-good (at-settle (finish-settle (count-finish n))) (f .ensures) (n .count2 .ensures) (f .kept .0) (c .if2 .left)
 
 pub lower-good-spec : {M : Type 1} → statement M
 lower-good-spec =

@@ -1,95 +1,84 @@
--- `tulgarent::settle::settle_good` meets its contract: the atoms are copied, settled where they are, and written with the actions. Assumes nothing.
+-- The atoms are copied to the front of the scratch, settled there, and written with the actions as they stood. Assumes nothing.
 use native.Mathlib.Omega.{arith}
 use denote.Ref.{now}
 use Rattle.octets.specs.Words.{words}
-use Rattle.tulgarent.proofs.SettleGood.{some-word, has-header, end-some, end-inside, copy-asks, good-sign, asks-room, agrees, body-at, stand, ended}
+use Rattle.octets.proofs.Words.{length-words-kept}
+use Rattle.tulgarent.proofs.SettleGood.{some-word, good-sign, Begun, begun, Found, found, copy-asks, Copied, copied, Done, is-done, stand, ended}
 use borrow.Author.Needs.{needs}
 use Rattle.tulgarent.proofs.settle.settle_good.Statement.{statement}
 use Rattle.tulgarent.proofs.settle.settle_good.Tie as tie
-use Rattle.tulgarent.proofs.settle.settle_good.Reads as reads
-use Rattle.tulgarent.proofs.settle.settle_good.Lts as lts
-use Rattle.octets.proofs.count.Reads as count-reads
-use Rattle.octets.proofs.get.Reads as get-reads
-use Rattle.octets.proofs.regions.copy.Reads as copy-reads
-use Rattle.records.proofs.flat.atoms.Reads as atoms-reads
-use Rattle.settling.proofs.settle.Reads as settle-reads
-use Rattle.tulgarent.proofs.emit.finish.Reads as finish-reads
 
--- src/settle.rt:39:18
+-- ---- the header
+
+abbrev get-start : tie.After-get → tie.Start
+get-start c = c .before .before .before .before
+
+at-get : (c : tie.After-get)
+    → let a = get-start c .args in Begun (words (now (a .rule))) (a .sign) (words (now (a .scratch))) (c .get .result)
+at-get c = let s = get-start c in begun (s .pre .0) (s .pre .1) (c .get .ensures)
+
 get-requires : tie.Need-get-requires
-get-requires c κs =
-    let a = c .before .before .before .args in
-    let k = c .before .before .before .pre .0 in
-    some-word (words (now (a .rule))) (a .sign) (k .sig) (k .rule) (k .under)
+get-requires c κs = some-word (c .before .before .before .pre .0)
 
--- src/settle.rt:39:18
 sub-counts : tie.Need-sub-counts
-sub-counts c =
-    let a = c .before .before .before .before .args in
-    let k = c .before .before .before .before .pre .0 in
-    has-header (words (now (a .rule))) (a .sign) (k .sig) (k .rule) (k .under) (c .get .ensures)
+sub-counts c = at-get c .header
 
--- src/settle.rt:40:9
 atoms-requires : tie.Need-atoms-requires
 atoms-requires c κs = search needs
 
--- src/settle.rt:42:13
+-- ---- where the atoms end
+
+at-atoms : (c : tie.After-atoms) → Found (at-get (c .before)) (c .atoms .result .at)
+at-atoms c = found (at-get (c .before)) (c .atoms .ensures)
+
 sub-n : tie.Need-sub-n
-sub-n c =
-    let a = c .before .before .before .before .before .args in
-    let k = c .before .before .before .before .before .pre .0 in
-    end-some (words (now (a .rule))) (a .sign) (k .sig) (k .rule) (k .under) (c .before .get .ensures) (c .atoms .ensures)
+sub-n c = at-atoms c .from
 
--- src/settle.rt:43:5
 copy-requires : tie.Need-copy-requires
-copy-requires c κs =
-    let a = c .before .before .before .before .before .before .args in
-    let k = c .before .before .before .before .before .before .pre .0 in
-    copy-asks (words (now (a .rule))) (a .sign) (k .sig) (k .rule) (k .under) (c .before .before .get .ensures) (c .before .atoms .ensures) (words (now (a .scratch))) (c .before .before .before .before .before .before .pre .1)
+copy-requires c κs = copy-asks (at-atoms (c .before))
 
--- src/settle.rt:48:9
+-- ---- they are copied, and settled
+
+abbrev copy-atoms : tie.After-copy → tie.After-atoms
+copy-atoms c = c .before .before
+
+at-copy : (c : tie.After-copy) → Copied (at-atoms (copy-atoms c)) (words (c .copy .last .0))
+at-copy c = copied (at-atoms (copy-atoms c)) (length-words-kept _ _ (c .copy .kept .0)) (c .copy .ensures)
+
 settle-requires : tie.Need-settle-requires
-settle-requires c κs =
-    let a = c .before .before .before .before .before .before .before .before .before .before .args in
-    let k = c .before .before .before .before .before .before .before .before .before .before .pre .0 in
-    (good-sign (words (now (a .rule))) (a .sign) (k .sig) (k .rule) (k .under) (c .before .before .before .before .before .before .get .ensures) (c .before .before .before .before .before .atoms .ensures) (words (now (a .scratch))) (c .before .before .before .before .before .before .before .before .before .before .pre .1) (c .before .before .before .copy .ensures), asks-room (words (now (a .rule))) (a .sign) (k .sig) (k .rule) (k .under) (c .before .before .before .before .before .before .get .ensures) (c .before .before .before .before .before .atoms .ensures) (words (now (a .scratch))) (c .before .before .before .before .before .before .before .before .before .before .pre .1) (c .before .before .before .copy .ensures))
+settle-requires c κs = let t = c .before .before .before in (good-sign (at-get (copy-atoms t .before) .some), at-copy t .asks)
 
--- src/settle.rt:51:61
+abbrev settle-copy : tie.After-settle → tie.After-copy
+settle-copy c = c .before .before .before .before
+
+at-settle : (c : tie.After-settle) → Done (at-copy (settle-copy c)) (c .settle .result) (words (c .settle .last .0))
+at-settle c = is-done (at-copy (settle-copy c)) (c .settle .ensures)
+
+-- ---- the rule is written
+
+abbrev count-settle : tie.After-count → tie.After-settle
+count-settle c = c .before .before .before .before .before
+
 cast-finish : tie.Need-cast-finish
 cast-finish c = search needs
 
--- src/settle.rt:51:102
 count-requires : tie.Need-count-requires
 count-requires c κs = search needs
 
--- src/settle.rt:51:102
 sub-finish : tie.Need-sub-finish
-sub-finish c =
-    let a = c .before .before .before .before .before .before .before .before .before .before .before .before .before .before .before .before .args in
-    let k = c .before .before .before .before .before .before .before .before .before .before .before .before .before .before .before .before .pre .0 in
-    let e = end-inside (words (now (a .rule))) (a .sign) (k .sig) (k .rule) (k .under) (c .before .before .before .before .before .before .before .before .before .before .before .before .get .ensures) (c .before .before .before .before .before .before .before .before .before .before .before .atoms .ensures) in
-    omega (arith, e, c .count .ensures)
+sub-finish c = omega (arith, at-atoms (copy-atoms (settle-copy (count-settle c))) .inside, c .count .ensures)
 
--- src/settle.rt:51:9
 finish-requires : tie.Need-finish-requires
-finish-requires c κs =
-    let a = c .before .before .before .before .before .before .before .before .before .before .before .before .before .before .before .before .args in
-    let k = c .before .before .before .before .before .before .before .before .before .before .before .before .before .before .before .before .pre .0 in
-    stand (words (now (a .rule))) (a .sign) (k .sig) (k .rule) (k .under) (c .before .before .before .before .before .before .before .before .before .before .before .before .get .ensures) (c .before .before .before .before .before .before .before .before .before .before .before .atoms .ensures) (words (now (a .scratch))) (c .before .before .before .before .before .before .before .before .before .before .before .before .before .before .before .before .pre .1) (c .before .before .before .before .before .before .before .before .before .copy .ensures) (c .before .before .before .before .before .settle .ensures (k .sig) (k .rule .atoms) (agrees (words (now (a .rule))) (a .sign) (k .sig) (k .rule) (k .under) (c .before .before .before .before .before .before .before .before .before .before .before .before .get .ensures) (c .before .before .before .before .before .before .before .before .before .before .before .atoms .ensures) (words (now (a .scratch))) (c .before .before .before .before .before .before .before .before .before .before .before .before .before .before .before .before .pre .1) (c .before .before .before .before .before .before .before .before .before .copy .ensures)) (body-at (words (now (a .rule))) (a .sign) (k .sig) (k .rule) (k .under) (c .before .before .before .before .before .before .before .before .before .before .before .before .get .ensures) (c .before .before .before .before .before .before .before .before .before .before .before .atoms .ensures) (words (now (a .scratch))) (c .before .before .before .before .before .before .before .before .before .before .before .before .before .before .before .before .pre .1) (c .before .before .before .before .before .before .before .before .before .copy .ensures))) (c .count .ensures)
+finish-requires c κs = stand (at-settle (count-settle c)) (c .count .ensures)
 
--- src/settle.rt:34:1
 same-length : tie.Need-same-length
 same-length c = search needs
 
--- src/settle.rt:34:1
 same-length-2 : tie.Need-same-length-2
 same-length-2 c = search needs
 
--- src/settle.rt:34:1
 returns : tie.Need-returns
-returns c s f u =
-    let a = c .before .before .before .before .before .before .before .before .before .before .before .before .before .before .before .before .before .before .before .args in
-    ended (words (now (a .rule))) (a .sign) s f u (c .before .before .before .before .before .before .before .before .before .before .before .before .before .before .before .get .ensures) (c .before .before .before .before .before .before .before .before .before .before .before .before .before .before .atoms .ensures) (words (now (a .scratch))) (c .before .before .before .before .before .before .before .before .before .before .before .before .before .before .before .before .before .before .before .pre .1) (c .before .before .before .before .before .before .before .before .before .before .before .before .copy .ensures) (c .before .before .before .before .before .before .before .before .settle .ensures s (f .atoms) (agrees (words (now (a .rule))) (a .sign) s f u (c .before .before .before .before .before .before .before .before .before .before .before .before .before .before .before .get .ensures) (c .before .before .before .before .before .before .before .before .before .before .before .before .before .before .atoms .ensures) (words (now (a .scratch))) (c .before .before .before .before .before .before .before .before .before .before .before .before .before .before .before .before .before .before .before .pre .1) (c .before .before .before .before .before .before .before .before .before .before .before .before .copy .ensures)) (body-at (words (now (a .rule))) (a .sign) s f u (c .before .before .before .before .before .before .before .before .before .before .before .before .before .before .before .get .ensures) (c .before .before .before .before .before .before .before .before .before .before .before .before .before .before .atoms .ensures) (words (now (a .scratch))) (c .before .before .before .before .before .before .before .before .before .before .before .before .before .before .before .before .before .before .before .pre .1) (c .before .before .before .before .before .before .before .before .before .before .before .before .copy .ensures))) (c .before .before .before .count .ensures) (c .before .before .finish .ensures)
+returns c = let f = c .before .before in ended (at-settle (count-settle (f .before))) (f .before .count .ensures) (f .finish .ensures)
 
 pub settle-good-spec : {M : Type 1} → statement M
 settle-good-spec =
