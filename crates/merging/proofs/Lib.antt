@@ -4,6 +4,7 @@ pub mod Linking
 pub mod Links
 pub mod Marks
 pub mod Groups
+pub mod Following
 pub mod Runs
 pub mod MergingOne
 pub mod MergingAll

@@ -5,8 +5,8 @@ use lib.ListN.{length}
 use Rattle.octets.proofs.Words.{length-words}
 use Rattle.octets.specs.Words.{words}
 use Rattle.merging.proofs.Links.{leftFrom}
-use Rattle.merging.proofs.Groups.{Begun, begun, Following, follow-start, Met, met, Stepped, stepped, follow-falls, follow-next}
-use Rattle.merging.proofs.Groups.{Ended, followed, follow-none, follow-some}
+use Rattle.merging.proofs.Following.{Begun, begun, Following, follow-start, Met, met, Stepped, stepped, follow-falls, follow-next}
+use Rattle.merging.proofs.Following.{Ended, followed, follow-none, follow-some}
 use borrow.Author.Needs.{needs}
 use Rattle.merging.proofs.group.Statement.{statement}
 use Rattle.merging.proofs.group.Tie as tie
