@@ -72,16 +72,16 @@ lower-arguments-requires c κs = exprs-ask (at-get (c .before .before) .begun)
 
 -- ---- the arguments
 
-abbrev args-get : tie.After-lower-arguments → tie.After-get2
-args-get c = c .before .before .before
+abbrev args-call : tie.After-lower-arguments → tie.After-get2
+args-call c = c .before .before .before
 
 at-args : (c : tie.After-lower-arguments)
     → let a = c .lower-arguments in
-    let w = args-get c .get2 .result in
-    Argued (site (start (args-get c .before))) 3 (maxDepth - 1) (countOf w) w (words (a .last .1 .1 .1 .1 .1 .1 .0)) (words (a .last .1 .1 .1 .1 .1 .0)) (a .result)
+    let w = args-call c .get2 .result in
+    Argued (site (start (args-call c .before))) 3 (maxDepth - 1) (countOf w) w (words (a .last .1 .1 .1 .1 .1 .1 .0)) (words (a .last .1 .1 .1 .1 .1 .0)) (a .result)
 at-args c =
     let a = c .lower-arguments in
-    argued (at-get (args-get c) .begun) (length-words-kept _ _ (a .kept .1 .1 .1 .1 .1 .1 .0)) (length-words-kept _ _ (a .kept .1 .1 .1 .1 .1 .0)) (a .ensures)
+    argued (at-get (args-call c) .begun) (length-words-kept _ _ (a .kept .1 .1 .1 .1 .1 .1 .0)) (length-words-kept _ _ (a .kept .1 .1 .1 .1 .1 .0)) (a .ensures)
 
 same-length : tie.Need-same-length
 same-length c = search needs
@@ -92,7 +92,7 @@ same-length-2 c = search needs
 returns : tie.Need-returns
 returns c =
     let a = c .before .before .before .before .before .before in
-    args-refused (at-get (args-get a)) (at-args a) (c .if1 .taken)
+    args-refused (at-get (args-call a)) (at-args a) (c .if1 .taken)
 
 -- ---- the arguments are fine
 
@@ -105,7 +105,7 @@ at-else c = is-fine (at-args (else-args c)) (omega arith) (c .if1 .left)
 may-read-requires : tie.Need-may-read-requires
 may-read-requires c κs =
     let a = else-args (c .before) in
-    name-asks (at-get (args-get a)) (at-args a) (at-else (c .before))
+    name-asks (at-get (args-call a)) (at-args a) (at-else (c .before))
 
 -- back from where the name may be read to where the arguments are fine
 abbrev then-else : tie.Then2 → tie.Else1
@@ -139,17 +139,17 @@ take-else c = then-else (put-then (take-put c))
 
 at-take : (c : tie.After-take)
     → let a = else-args (take-else c) .lower-arguments in
-    Used (args-get (else-args (take-else c)) .get2 .result) (a .result .log) (words (take-put c .put .last .0)) (words (a .last .1 .1 .1 .1 .1 .0))
+    Used (args-call (else-args (take-else c)) .get2 .result) (a .result .log) (words (take-put c .put .last .0)) (words (a .last .1 .1 .1 .1 .1 .0))
     (words (c .take .last .1 .0)) (words (c .take .last .0)) (c .take .result)
 at-take c =
     let t = c .take in
     record { taken = t .ensures; size = length-words-kept _ _ (t .kept .1 .0); counters = length-words-kept _ _ (t .kept .0) }
 
 -- both slices are as long as at the start
-counters-kept : (c : tie.After-take) → length (c .take .last .0) ≡ length (start (args-get (else-args (take-else c)) .before) .args .counters .now)
+counters-kept : (c : tie.After-take) → length (c .take .last .0) ≡ length (start (args-call (else-args (take-else c)) .before) .args .counters .now)
 counters-kept c = c .take .kept .0 ∙ else-args (take-else c) .lower-arguments .kept .1 .1 .1 .1 .1 .0
 
-scratch-kept : (c : tie.After-take) → length (c .take .last .1 .0) ≡ length (start (args-get (else-args (take-else c)) .before) .args .scratch .now)
+scratch-kept : (c : tie.After-take) → length (c .take .last .1 .0) ≡ length (start (args-call (else-args (take-else c)) .before) .args .scratch .now)
 scratch-kept c = c .take .kept .1 .0 ∙ take-put c .put .kept .0 ∙ else-args (take-else c) .lower-arguments .kept .1 .1 .1 .1 .1 .1 .0
 
 -- ---- none is left
@@ -171,7 +171,7 @@ returns-2 c =
     let t = then-take c in
     let d = put-then (take-put t) in
     let a = else-args (then-else d) in
-    used-up (at-get (args-get a)) (at-args a) (at-else (then-else d)) (d .before .may-read .ensures) (d .if2 .taken) (take-put t .put .ensures) (at-take t) (c .if3 .taken)
+    used-up (at-get (args-call a)) (at-args a) (at-else (then-else d)) (d .before .may-read .ensures) (d .if2 .taken) (take-put t .put .ensures) (at-take t) (c .if3 .taken)
 
 -- ---- the set is written
 
@@ -211,7 +211,7 @@ returns-3 c =
     let t = else-take (terms-else p) in
     let d = put-then (take-put t) in
     let a = else-args (then-else d) in
-    set-done (at-get (args-get a)) (at-args a) (at-else (then-else d)) (d .before .may-read .ensures) (d .if2 .taken) (take-put t .put .ensures) (at-take t) (terms-else p .if3 .left)
+    set-done (at-get (args-call a)) (at-args a) (at-else (then-else d)) (d .before .may-read .ensures) (d .if2 .taken) (take-put t .put .ensures) (at-take t) (terms-else p .if3 .left)
     (p .put-terms .ensures)
 
 -- ---- the name may not be read
@@ -228,7 +228,7 @@ same-length-8 c = search needs
 returns-4 : tie.Need-returns-4
 returns-4 c =
     let e = c .before .before .before in
-    name-refused (at-get (args-get (else-args e))) (at-args (else-args e)) (at-else e) (c .before .may-read .ensures) (c .if2 .left)
+    name-refused (at-get (args-call (else-args e))) (at-args (else-args e)) (at-else e) (c .before .may-read .ensures) (c .if2 .left)
 
 pub set-name-spec : {M : Type 1} → statement M
 set-name-spec =
