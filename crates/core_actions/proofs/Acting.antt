@@ -141,4 +141,8 @@ module _ {k : Site} {l : ℕ} (h : Panics k l) where
       (ok (nothing (k .cs))) (λ p. record { terms = []; words = actionWord 6 ∷ getD (k .ws) (k .at + 1) 0 ∷ []; count = 1; next = k .cs })
       (omega (arith, r .words)) (omega (arith, r .stack)) (omega (arith, r .log)) (omega arith) (omega arith) (omega arith)
       (none-walked {T = λ p. p ≡ nothing (k .cs)} (k .sp) (k .s) (k .cs) standing refl refl) refl (put .1) (omega (arith, put .0))
-      (λ p u. record { words = λ i. sym (ap (λ (z : Piece). z .words) u) i ++ (actionWord 6 ∷ sym (h .is) i ∷ []); counters = sym (ap (λ (z : Piece). z .next) u); terms = refl }))
+      (λ p u. record {
+        words = λ i. sym (ap (λ (z : Piece). z .words) u) i ++ (actionWord 6 ∷ sym (h .is) i ∷ []);
+        counters = sym (ap (λ (z : Piece). z .next) u);
+        terms = refl;
+      }))

@@ -200,8 +200,8 @@ module _ {k : Site} {code more w : ℕ} (h : Changing k code more w) where
       where
         refused : (t : Tree k (Change k more w)) → Ends s1 cs1 (ended a) t
         refused t =
-            stop (2 + t .it .exprs .size) (k .at) (loweredAll (t .sig) (t .bound) (t .it .exprs .value) (k .cs)) (closing code more (k .at + 1) (headOf w)) (m .walk t) bad
-            (omega arith)
+            stop (2 + t .it .exprs .size) (k .at) (loweredAll (t .sig) (t .bound) (t .it .exprs .value) (k .cs)) (closing code more (k .at + 1) (headOf w))
+            (m .walk t) bad (omega arith)
 
     termed : a .refused ≡ 0 → (t : Tree k (Change k more w))
         → Termed k (2 + t .it .exprs .size) (countOf w + more) (loweredAll (t .sig) (t .bound) (t .it .exprs .value) (k .cs)) s1 cs1 a

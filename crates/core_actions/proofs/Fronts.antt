@@ -130,7 +130,8 @@ module _ {k : Site} {d n : ℕ} {g : Begun k (Row k d n)} {i : ℕ} {s0 : List �
         record { words = omega (arith, g .room .words); stack = omega arith; log = omega arith } in
         let plain = f .plain j (omega arith) in
         let there : part (k .ws) (k .at) (suc j) ≡ xs ++ (w ∷ []) = ap (part (k .ws) (k .at)) (sym (add-one j)) ∙ part-more (k .ws) (k .at) j (omega arith) in
-        let put : s1 ≡ set sj (k .sp + j) w = e ∙ ap (splice (k .s) (k .sp)) there ∙ sym (splice-snoc (k .s) (k .sp) xs (k .sp + j) w (omega arith) (omega arith)) in
+        let put : s1 ≡ set sj (k .sp + j) w =
+        e ∙ ap (splice (k .s) (k .sp)) there ∙ sym (splice-snoc (k .s) (k .sp) xs (k .sp + j) w (omega arith) (omega arith)) in
         rest-is (n - j - 1) (n - suc j) (k .sp + j + 1) (k .sp + suc j) (at + 1) (k .at + suc j) w s1 s1 (omega arith) (omega arith) (omega arith) refl
         (left-next one all rowed (t .sig) (k .ws) d n (k .at) (k .to) (k .sp) (k .lg) (k .s) (k .cs) (t .it .exprs)
         (n - j) (k .sp + j) sj (k .cs) (standing at (k .to) (k .lg)) (turns j sj (omega arith) refl) (omega arith) now

@@ -107,8 +107,8 @@ module _ {k : Site} {v : ℕ} (h : Letting k v) where
       let-fine fine = let t = h .begun .tree in is-fine (h .begun) (low t) (walk t) (omega arith) (t .it .expr .inside) fine
 
       -- the action is written, up to to′, which leaves s2, and the name is put, which leaves s3
-      module _ (fine : e .refused ≡ 0) {s2 s3 : List ℕ} {to′ : ℕ} (put : (to′ ≡ e .to + 3) × (s2 ≡ splice s1 (e .to) (actionWord 1 ∷ v ∷ e .term ∷ [])))
-          (push : s3 ≡ set s2 (k .sp) v) where
+      module _ (fine : e .refused ≡ 0) {s2 s3 : List ℕ} {to′ : ℕ}
+          (put : (to′ ≡ e .to + 3) × (s2 ≡ splice s1 (e .to) (actionWord 1 ∷ v ∷ e .term ∷ []))) (push : s3 ≡ set s2 (k .sp) v) where
         abbrev answer : Acted
         answer = record { walk = record { next = e .next; to = to′; log = e .log; term = 0; refused = 0 }; names = 1; count = e .log - k .lg + 1 }
 
@@ -148,7 +148,8 @@ module _ {k : Site} {v : ℕ} (h : Letting k v) where
             stored v (_>>=_ (low t) (λ q. ok (letPiece v q))) (action t) refl push (omega arith) (r .words) (r .stack) (r .log) (λ p here room u. u)
 
         after : (t : lets) (y : Res Low)
-            → ScopeAfter (_>>=_ y (λ q. ok (record { acts = q .acts ++ Let v (q .term) ∷ []; bound = v ∷ t .bound; next = q .next }))) (t .sig) (k .scope) s3 answer
+            → ScopeAfter (_>>=_ y (λ q. ok (record { acts = q .acts ++ Let v (q .term) ∷ []; bound = v ∷ t .bound; next = q .next })))
+            (t .sig) (k .scope) s3 answer
         after t (refuse n p) = tt
         after t (ok q) =
             let r = let-room t in

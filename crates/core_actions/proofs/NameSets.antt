@@ -75,8 +75,8 @@ module _ {k : Site} {v w : ℕ} (h : Naming k v w) where
   answers : {s′ cs′ : List ℕ} {r : Acted} → ((t : Tree k (NameCall k v w)) → Ends s′ cs′ r t) → Answers k s′ cs′ r
   answers {s′} {cs′} {r} f sig x bound n sc =
       subst
-      (λ (u : ℕ). Acts (lowerSet sig bound (k .at + 2) (headOf u) (x .exprs .value) (leaf (k .at + 1) (getD (k .ws) (k .at + 1) 0)) (k .cs)) sig (k .scope) (3 + x .exprs .size)
-      (k .at) (k .to) (k .sp) (k .lg) (k .s) (k .cs) s′ cs′ r) (h .isw)
+      (λ (u : ℕ). Acts (lowerSet sig bound (k .at + 2) (headOf u) (x .exprs .value) (leaf (k .at + 1) (getD (k .ws) (k .at + 1) 0)) (k .cs))
+      sig (k .scope) (3 + x .exprs .size) (k .at) (k .to) (k .sp) (k .lg) (k .s) (k .cs) s′ cs′ r) (h .isw)
       (subst
       (λ (u : ℕ). Acts (lowerSet sig bound (k .at + 2) (headOf w) (x .exprs .value) (leaf (k .at + 1) u) (k .cs)) sig (k .scope) (3 + x .exprs .size)
       (k .at) (k .to) (k .sp) (k .lg) (k .s) (k .cs) s′ cs′ r) (h .isv) (f (tree sig (name-call-at (h .isv) (h .isw) sig x) bound n sc)))
@@ -171,7 +171,8 @@ module _ {k : Site} {v w : ℕ} (h : Naming k v w) where
                 let many = exprs-many (t .sig) (k .ws) (maxDepth - 1) (countOf w) (k .at + 3) x in
                 let halted : WalkedAt k (countOf w + 1) (λ p. ⊥) (andThen (args t) (name t)) (x .size + 1) (k .at + 2) s1 cs1 ans =
                 walk-then (x .size) 1 (k .at + 2) (k .to) (k .sp) (k .sp + countOf w) (k .lg) (k .s) (k .cs) s1 cs1 s1 cs1 (early t) ans
-                (omega (arith, h .begun .room .stack)) (omega arith) (omega arith) (countOf w + 1) (λ p. ⊥) (args t) (name t) (omega arith) (first t) refl (second t) (λ p q t u. u) in
+                (omega (arith, h .begun .room .stack)) (omega arith) (omega arith) (countOf w + 1) (λ p. ⊥) (args t) (name t) (omega arith)
+                (first t) refl (second t) (λ p q t u. u) in
                 stop (3 + x .size) (k .at) (andThen (args t) (name t)) (closing (actionWord 2) 1 (k .at + 2) (headOf w)) halted (λ z. omega arith) (omega arith)
 
         -- ---- the name is put behind them, which leaves s2, and a fresh variable u is taken
@@ -209,8 +210,8 @@ module _ {k : Site} {v w : ℕ} (h : Naming k v w) where
               let all : WalkedAt k (countOf w + 1) (OnStack (k .sp) (countOf w + 1) (k .lg) s2 late) (andThen (args t) (name t)) (x .size + 1)
               (k .at + 2) s2 cs1 late =
               walk-then (x .size) 1 (k .at + 2) (k .to) (k .sp) (k .sp + countOf w) (k .lg) (k .s) (k .cs) s1 cs1 s2 cs1 (early t) late
-              (omega arith) (omega arith) (omega arith) (countOf w + 1) (OnStack (k .sp) (countOf w + 1) (k .lg) s2 late) (args t) (name t) (omega arith) (first t) refl there
-              (λ p q y u. stacked p q (countOf w + 1) refl (omega arith) refl (there .kept) y u) in
+              (omega arith) (omega arith) (omega arith) (countOf w + 1) (OnStack (k .sp) (countOf w + 1) (k .lg) s2 late) (args t) (name t) (omega arith)
+              (first t) refl there (λ p q y u. stacked p q (countOf w + 1) refl (omega arith) refl (there .kept) y u) in
               record { behind = x .size + 1; whole = omega arith; walk = all; fine = refl; many = omega arith; inside = omega arith; room = r }
 
           module _ {s3 cs2 : List ℕ} {u : ℕ} (o : Used w (a .log) s2 cs1 s3 cs2 u) where

@@ -128,7 +128,8 @@ module _ {k : Site} (g : Begun k (Pair k)) {s1 cs1 : List ℕ} {l : Walk} (left 
           let u = right t in
           let i = t .it .right .inside in
           walk-then (t .it .left .size) (t .it .right .size) (k .at + 1) (k .to) (k .sp) (k .sp) (k .lg) (k .s) (k .cs) s1 cs1 s2 cs2 l r
-          (omega (arith, g .room .stack)) (omega arith) (omega arith) 2 Sides (X t) (Y t) (omega arith) (walk t) fine (low .walk (u .sig) (u .it) (u .bound) (u .counted) (u .scoped))
+          (omega (arith, g .room .stack)) (omega arith) (omega arith) 2 Sides (X t) (Y t) (omega arith) (walk t) fine
+          (low .walk (u .sig) (u .it) (u .bound) (u .counted) (u .scoped))
           (λ p q t u. record { terms = λ i. t .term i ++ u .term i; uses = omega (arith, t .uses, u .uses) })
 
       pub right-refused : (r .refused ≡ 0 → ⊥) → Answers k s2 cs2 (ended r)
@@ -141,7 +142,8 @@ module _ {k : Site} (g : Begun k (Pair k)) {s1 cs1 : List ℕ} {l : Walk} (left 
           is-fine g (andThen (X t) (Y t)) (sides t) (omega arith) (omega arith) fine2
 
       -- the action is written, up to e, which leaves s3
-      module _ (fine2 : r .refused ≡ 0) {s3 : List ℕ} {e : ℕ} (put : (e ≡ r .to + 3) × (s3 ≡ splice s2 (r .to) (actionWord 5 ∷ l .term ∷ r .term ∷ []))) where
+      module _ (fine2 : r .refused ≡ 0) {s3 : List ℕ} {e : ℕ}
+          (put : (e ≡ r .to + 3) × (s3 ≡ splice s2 (r .to) (actionWord 5 ∷ l .term ∷ r .term ∷ []))) where
         abbrev answer : Acted
         answer = record { walk = record { next = r .next; to = e; log = r .log; term = 0; refused = 0 }; names = 0; count = r .log - k .lg + 1 }
 
@@ -152,10 +154,10 @@ module _ {k : Site} (g : Begun k (Pair k)) {s1 cs1 : List ℕ} {l : Walk} (left 
             done t =
                 let i = t .it .right .inside in
                 let q = g .room in
-                acts-same (t .sig) (t .bound) (k .scope) (length (k .ws)) (union t) (same-union (t .sig) (t .bound) (t .it .left .value) (t .it .right .value) (k .cs)) refl
-                (g .scopeRoom) (omega arith) (t .scoped)
+                acts-same (t .sig) (t .bound) (k .scope) (length (k .ws)) (union t)
+                (same-union (t .sig) (t .bound) (t .it .left .value) (t .it .right .value) (k .cs)) refl (g .scopeRoom) (omega arith) (t .scoped)
                 (rw (done-union (t .sig) (t .bound) (t .it .left .value) (t .it .right .value) (k .cs))
-                (written 0 (Gave answer) (size t) (1 + size t) (k .at + 1) (k .at) (k .to) (k .sp) (k .lg) (k .s) (k .cs) s2 cs2 s3 (actionWord 5 ∷ l .term ∷ r .term ∷ []) r e 0
-                (andThen (X t) (Y t)) unionPiece (omega (arith, q .words)) (omega (arith, q .stack)) (omega (arith, q .log)) (omega arith) (omega arith) (omega arith) (sides t) fine2
-                (put .1) (put .0)
+                (written 0 (Gave answer) (size t) (1 + size t) (k .at + 1) (k .at) (k .to) (k .sp) (k .lg) (k .s) (k .cs) s2 cs2 s3
+                (actionWord 5 ∷ l .term ∷ r .term ∷ []) r e 0 (andThen (X t) (Y t)) unionPiece
+                (omega (arith, q .words)) (omega (arith, q .stack)) (omega (arith, q .log)) (omega arith) (omega arith) (omega arith) (sides t) fine2 (put .1) (put .0)
                 (λ p u. record { words = λ i. p .words ++ actionWord 5 ∷ u .terms i; counters = refl; terms = omega (arith, u .uses) })))

@@ -71,7 +71,8 @@ pub record Begun (k : Site) (X : Sig → Type 0) : Type 0 where
   pub ruleFits : length (k .ws) < 2 ^ 64
   pub scratchFits : length (k .s) < 2 ^ 64
 
-pub begun : {k : Site} {X : Sig → Type 0} → Known k X → RoomAt k (k .at) → ScopeRoomAt k (k .at) → length (k .ws) < 2 ^ 64 → length (k .s) < 2 ^ 64 → Begun k X
+pub begun : {k : Site} {X : Sig → Type 0} → Known k X → RoomAt k (k .at) → ScopeRoomAt k (k .at) → length (k .ws) < 2 ^ 64 → length (k .s) < 2 ^ 64
+    → Begun k X
 begun q room sr fr fs =
     let n = q .known .2 in
     record { tree = tree (q .sig) (q .known .0) (n .bound) (q .known .1) (n .scoped); room = room; scopeRoom = sr; ruleFits = fr; scratchFits = fs }

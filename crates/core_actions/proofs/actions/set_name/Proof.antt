@@ -171,7 +171,8 @@ returns-2 c =
     let t = then-take c in
     let d = put-then (take-put t) in
     let a = else-args (then-else d) in
-    used-up (at-get (args-call a)) (at-args a) (at-else (then-else d)) (d .before .may-read .ensures) (d .if2 .taken) (take-put t .put .ensures) (at-take t) (c .if3 .taken)
+    used-up (at-get (args-call a)) (at-args a) (at-else (then-else d)) (d .before .may-read .ensures) (d .if2 .taken)
+    (take-put t .put .ensures) (at-take t) (c .if3 .taken)
 
 -- ---- the set is written
 
@@ -211,8 +212,8 @@ returns-3 c =
     let t = else-take (terms-else p) in
     let d = put-then (take-put t) in
     let a = else-args (then-else d) in
-    set-done (at-get (args-call a)) (at-args a) (at-else (then-else d)) (d .before .may-read .ensures) (d .if2 .taken) (take-put t .put .ensures) (at-take t) (terms-else p .if3 .left)
-    (p .put-terms .ensures)
+    set-done (at-get (args-call a)) (at-args a) (at-else (then-else d)) (d .before .may-read .ensures) (d .if2 .taken)
+    (take-put t .put .ensures) (at-take t) (terms-else p .if3 .left) (p .put-terms .ensures)
 
 -- ---- the name may not be read
 
