@@ -3,7 +3,7 @@ use mathlib.Core.Path.{_≡_, refl, sym, ap, subst}
 use mathlib.Core.List.{List, [], _∷_, _++_}
 use Prim.Native.Nat.{ℕ, _+_, _-_, _*_, _^_, _≤_, _<_}
 use native.Mathlib.Omega.{arith}
-use lib.ListN.{length, getD}
+use lib.ListN.{length}
 use Rattle.octets.specs.Regions.{splice}
 use Rattle.rules.specs.Words.{maxDepth, actionWord}
 use Rattle.rules.specs.Refusals.{Res, ok, refuse, _>>=_}
@@ -21,6 +21,7 @@ use Rattle.core_actions.specs.declared.scope.Scope.{Scope}
 use Rattle.core_actions.specs.declared.actions.Acted.{Acted}
 use Rattle.core_actions.proofs.Scopes.{scoped-kept}
 use Rattle.core_actions.proofs.Pieces.{silent, done-expression, SameBound, same-expression}
+use Rattle.core_actions.proofs.Does.{Does, second}
 use Rattle.core_actions.proofs.Sites.{Site, RoomAt, ScopeRoomAt, Every, WalkedAt, Begun}
 
 -- ---- from a walk to what an action leaves
@@ -93,8 +94,7 @@ module _ {k : Site} (g : Begun k (λ sig. ExprAt sig (k .ws) maxDepth (k .at + 1
   answer = record { walk = e; names = 0; count = e .log - k .lg }
 
   pub expression-done : Every k (λ sig. ExprAt sig (k .ws) maxDepth (k .at + 1))
-      (λ sig x bound. Acts (lowerAction sig bound (expr′ (x .value)) (k .cs)) sig (k .scope) (1 + x .size)
-      (k .at) (k .to) (k .sp) (k .lg) (k .s) (k .cs) s1 cs1 answer)
+      (λ sig x bound. Does k sig (lowerAction sig bound (expr′ (x .value)) (k .cs)) (1 + x .size) s1 cs1 answer)
   expression-done sig x bound n sc =
       let i = x .inside in
       acts-same sig bound (k .scope) (length (k .ws)) (lowerAction sig bound (expr′ (x .value)) (k .cs)) (same-expression sig bound (x .value) (k .cs)) refl
@@ -119,7 +119,7 @@ module _ {k : Site} (g : Begun k (λ sig. ExprAt sig (k .ws) maxDepth (k .at + 1
 
 -- its literal is read as l
 pub record Panics (k : Site) (l : ℕ) : Type 0 where
-  pub is : l ≡ getD (k .ws) (k .at + 1) 0
+  pub is : l ≡ second k
   pub inside : k .at + 1 < length (k .ws)
   pub room : RoomAt k (k .at)
   pub scopeRoom : ScopeRoomAt k (k .at)
@@ -131,14 +131,14 @@ module _ {k : Site} {l : ℕ} (h : Panics k l) where
 
   pub panic-done : {s1 : List ℕ} {e : ℕ} → (e ≡ k .to + 2) × (s1 ≡ splice (k .s) (k .to) (actionWord 6 ∷ l ∷ []))
       → (sig : Sig) (bound : List ℕ) → Scoped sig bound (k .s) (k .scope)
-      → Acts (lowerAction sig bound (panic′ (getD (k .ws) (k .at + 1) 0)) (k .cs)) sig (k .scope) 2 (k .at) (k .to) (k .sp) (k .lg) (k .s) (k .cs) s1 (k .cs)
+      → Does k sig (lowerAction sig bound (panic′ (second k)) (k .cs)) 2 s1 (k .cs)
       (record { walk = record { next = k .at + 2; to = e; log = k .lg; term = 0; refused = 0 }; names = 0; count = 1 })
   panic-done {s1} {e} put sig bound sc =
       let i = h .inside in
       let r = h .room in
-      acts-same sig bound (k .scope) (length (k .ws)) (lowerAction sig bound (panic′ (getD (k .ws) (k .at + 1) 0)) (k .cs)) refl refl (h .scopeRoom) (omega arith) sc
+      acts-same sig bound (k .scope) (length (k .ws)) (lowerAction sig bound (panic′ (second k)) (k .cs)) refl refl (h .scopeRoom) (omega arith) sc
       (written 0 (λ p. p .count ≡ 1) 0 2 (k .at + 2) (k .at) (k .to) (k .sp) (k .lg) (k .s) (k .cs) (k .s) (k .cs) s1 (actionWord 6 ∷ l ∷ []) standing e 0
-      (ok (nothing (k .cs))) (λ p. record { terms = []; words = actionWord 6 ∷ getD (k .ws) (k .at + 1) 0 ∷ []; count = 1; next = k .cs })
+      (ok (nothing (k .cs))) (λ p. record { terms = []; words = actionWord 6 ∷ second k ∷ []; count = 1; next = k .cs })
       (omega (arith, r .words)) (omega (arith, r .stack)) (omega (arith, r .log)) (omega arith) (omega arith) (omega arith)
       (none-walked {T = λ p. p ≡ nothing (k .cs)} (k .sp) (k .s) (k .cs) standing refl refl) refl (put .1) (omega (arith, put .0))
       (λ p u. record {

@@ -4,7 +4,7 @@ use mathlib.Core.Path.{_≡_, refl, sym, ap, _∙_, subst}
 use mathlib.Core.List.{List, _∷_, _++_}
 use Prim.Native.Nat.{ℕ, _+_, _-_, _*_, _^_, _≤_, _<_}
 use native.Mathlib.Omega.{arith}
-use lib.ListN.{length, getD}
+use lib.ListN.{length}
 use Rattle.octets.specs.Regions.{splice, part}
 use Rattle.octets.proofs.Splice.{length-part}
 use Rattle.rules.specs.Words.{maxDepth, limit12, headBase, headWord, headOf, countOf}
@@ -21,6 +21,7 @@ use Rattle.core_actions.specs.Lowered.{loweredAll}
 use Rattle.core_actions.specs.Acts.{ChangeAt, changePiece, changed, Gave}
 use Rattle.core_actions.specs.declared.actions.Acted.{Acted}
 use Rattle.core_actions.proofs.Acting.{ended}
+use Rattle.core_actions.proofs.Does.{second, Changes}
 use Rattle.core_actions.proofs.Sites.{Site, RoomAt, Asks, Every, WalkedAt, Tree, tree, Begun, begun-as, asks}
 
 -- ---- where it stands
@@ -153,31 +154,23 @@ module _ {k : Site} {size n : ℕ} {X : Res Piece} {s1 cs1 : List ℕ} {a : Walk
 
 -- ---- the ways out of `lower_change`
 
--- what the contract says of an answer
-abbrev pub Answers : Site → (code more : ℕ) → List ℕ → List ℕ → Acted → Type 0
-Answers k code more s′ cs′ r =
-    (r .names ≡ 0)
-    × Every k (λ sig. ChangeAt sig (k .ws) more (k .at))
-    (λ sig x bound. WalkedAt k 0 (Gave r) (changed sig bound code more (k .at + 1) (headOf (getD (k .ws) (k .at + 1) 0)) (x .exprs .value) (k .cs))
-    (2 + x .exprs .size) (k .at) s′ cs′ (r .walk))
-
 -- the kind 3 word is read as w
 abbrev pub Change : Site → (more w : ℕ) → Sig → Type 0
 Change k more w = Headed k 2 maxDepth (countOf w + more) w
 
-abbrev pub change-at : {k : Site} {more w : ℕ} → w ≡ getD (k .ws) (k .at + 1) 0 → (sig : Sig) → ChangeAt sig (k .ws) more (k .at) → Change k more w sig
+abbrev pub change-at : {k : Site} {more w : ℕ} → w ≡ second k → (sig : Sig) → ChangeAt sig (k .ws) more (k .at) → Change k more w sig
 change-at {k} {more} {w} is sig x =
     record {
       high = subst (λ (u : ℕ). headBase ≤ u) (sym is) (x .high);
       head = subst (λ (u : ℕ). headOf u < heads sig) (sym is) (x .head);
       exprs =
-          recount sig (k .ws) maxDepth (countOf (getD (k .ws) (k .at + 1) 0) + more) (countOf w + more) (k .at + 2) (ap (λ (u : ℕ). countOf u + more) (sym is))
+          recount sig (k .ws) maxDepth (countOf (second k) + more) (countOf w + more) (k .at + 2) (ap (λ (u : ℕ). countOf u + more) (sym is))
           (x .exprs);
     }
 
 pub record Changing (k : Site) (code more w : ℕ) : Type 0 where
   pub begun : Begun k (Change k more w)
-  pub is : w ≡ getD (k .ws) (k .at + 1) 0
+  pub is : w ≡ second k
   pub few : more ≤ 1
 
 module _ {k : Site} {code more w : ℕ} (h : Changing k code more w) where
@@ -186,7 +179,7 @@ module _ {k : Site} {code more w : ℕ} (h : Changing k code more w) where
       WalkedAt k 0 (Gave r) (changed (t .sig) (t .bound) code more (k .at + 1) (headOf w) (t .it .exprs .value) (k .cs)) (2 + t .it .exprs .size)
       (k .at) s′ cs′ (r .walk)
 
-  answers : {s′ cs′ : List ℕ} {r : Acted} → r .names ≡ 0 → ((t : Tree k (Change k more w)) → Ends s′ cs′ r t) → Answers k code more s′ cs′ r
+  answers : {s′ cs′ : List ℕ} {r : Acted} → r .names ≡ 0 → ((t : Tree k (Change k more w)) → Ends s′ cs′ r t) → Changes k code more s′ cs′ r
   answers {s′} {cs′} {r} none f = (
     none,
     λ sig x bound n sc. subst
@@ -195,7 +188,7 @@ module _ {k : Site} {code more w : ℕ} (h : Changing k code more w) where
   )
 
   module _ {s1 cs1 : List ℕ} {a : Walk} (m : Argued k 2 maxDepth (countOf w + more) w s1 cs1 a) where
-    pub change-refused : (a .refused ≡ 0 → ⊥) → Answers k code more s1 cs1 (ended a)
+    pub change-refused : (a .refused ≡ 0 → ⊥) → Changes k code more s1 cs1 (ended a)
     change-refused bad = answers refl refused
       where
         refused : (t : Tree k (Change k more w)) → Ends s1 cs1 (ended a) t
@@ -218,11 +211,11 @@ module _ {k : Site} {code more w : ℕ} (h : Changing k code more w) where
         }
 
     module _ (fine : a .refused ≡ 0) {s2 cs2 : List ℕ} {u : ℕ} (o : Used w (a .log) s1 cs1 s2 cs2 u) where
-      pub change-full : u ≡ 0 → Answers k code more s2 cs2 (ended (record { next = k .at + 1; to = a .to; log = a .log; term = 0; refused = usedUp }))
+      pub change-full : u ≡ 0 → Changes k code more s2 cs2 (ended (record { next = k .at + 1; to = a .to; log = a .log; term = 0; refused = usedUp }))
       change-full z = answers refl (λ t. closed-full (termed fine t) code more (k .at + 1) o 0 z)
 
       pub change-done : {s3 : List ℕ} {e : ℕ} → (u ≡ 0 → ⊥)
           → (e ≡ a .to + 2 + (countOf w + more)) × (s3 ≡ splice s2 (a .to) (code ∷ w ∷ part s2 (k .sp) (countOf w + more)))
-          → Answers k code more s3 cs2
+          → Changes k code more s3 cs2
           (record { walk = record { next = a .next; to = e; log = a .log + 1; term = 0; refused = 0 }; names = 0; count = a .log - k .lg + 1 })
       change-done some put = answers refl (λ t. closed (termed fine t) code more (k .at + 1) o (t .it .high) refl some put)

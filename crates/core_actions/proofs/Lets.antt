@@ -19,10 +19,11 @@ use Rattle.walks.proofs.Frames.{kept-none}
 use Rattle.walks.proofs.Steps.{stop, stored, Own, written}
 use Rattle.core_actions.specs.Scopes.{Scoped, ScopeFits}
 use Rattle.core_actions.specs.Lowered.{lowered}
-use Rattle.core_actions.specs.Acts.{LetAt, Gave, ScopeAfter, Acts}
+use Rattle.core_actions.specs.Acts.{LetAt, Gave, ScopeAfter}
 use Rattle.core_actions.specs.declared.actions.Acted.{Acted}
 use Rattle.core_actions.proofs.Scopes.{scope-let, scope-fits}
 use Rattle.core_actions.proofs.Pieces.{letPiece, done-let}
+use Rattle.core_actions.proofs.Does.{Does, second}
 use Rattle.core_actions.proofs.Sites.{Site, Asks, Every, WalkedAt, Tree, tree, Begun, begun-as, asks}
 use Rattle.core_actions.proofs.Acting.{ended, acts-stop, LowAt, Fine, is-fine}
 
@@ -30,14 +31,13 @@ use Rattle.core_actions.proofs.Acting.{ended, acts-stop, LowAt, Fine, i
 abbrev pub Answers : Site → List ℕ → List ℕ → Acted → Type 0
 Answers k s′ cs′ r =
     Every k (λ sig. LetAt sig (k .ws) (k .at))
-    (λ sig x bound. Acts (lowerLet (elem (getD (k .ws) (k .at + 1) 0) bound) sig bound (k .at) (getD (k .ws) (k .at + 1) 0) (x .expr .value) (k .cs))
-    sig (k .scope) (2 + x .expr .size) (k .at) (k .to) (k .sp) (k .lg) (k .s) (k .cs) s′ cs′ r)
+    (λ sig x bound. Does k sig (lowerLet (elem (second k) bound) sig bound (k .at) (second k) (x .expr .value) (k .cs)) (2 + x .expr .size) s′ cs′ r)
 
 -- ---- the name is read as v
 
 pub record Letting (k : Site) (v : ℕ) : Type 0 where
   pub begun : Begun k (λ sig. LetAt sig (k .ws) (k .at))
-  pub is : v ≡ getD (k .ws) (k .at + 1) 0
+  pub is : v ≡ second k
   pub end : k .scope .first + k .scope .names ≡ k .sp
 
 module _ {k : Site} {v : ℕ} (h : Letting k v) where
@@ -56,16 +56,14 @@ module _ {k : Site} {v : ℕ} (h : Letting k v) where
 
   abbrev Ends : Bool → List ℕ → List ℕ → Acted → lets → Type 0
   Ends b s′ cs′ r t =
-      Acts (lowerLet b (t .sig) (t .bound) (k .at) v (t .it .expr .value) (k .cs)) (t .sig) (k .scope) (2 + t .it .expr .size)
-      (k .at) (k .to) (k .sp) (k .lg) (k .s) (k .cs) s′ cs′ r
+      Does k (t .sig) (lowerLet b (t .sig) (t .bound) (k .at) v (t .it .expr .value) (k .cs)) (2 + t .it .expr .size) s′ cs′ r
 
   module _ {b : Bool} (test : (sig : Sig) (bound : List ℕ) → Scoped sig bound (k .s) (k .scope) → v < freshBase → b ≡ elem v bound) where
     answers : {s′ cs′ : List ℕ} {r : Acted} (b′ : Bool) → b ≡ b′ → ((t : lets) → Ends b′ s′ cs′ r t) → Answers k s′ cs′ r
     answers {s′} {cs′} {r} b′ e f sig x bound n sc =
         let there : b ≡ elem v bound = test sig bound sc (subst (λ (u : ℕ). u < freshBase) (sym (h .is)) (x .old)) in
         subst
-        (λ (u : ℕ). Acts (lowerLet (elem u bound) sig bound (k .at) u (x .expr .value) (k .cs)) sig (k .scope) (2 + x .expr .size)
-        (k .at) (k .to) (k .sp) (k .lg) (k .s) (k .cs) s′ cs′ r) (h .is)
+        (λ (u : ℕ). Does k sig (lowerLet (elem u bound) sig bound (k .at) u (x .expr .value) (k .cs)) (2 + x .expr .size) s′ cs′ r) (h .is)
         (subst (λ (u : Bool). Ends u s′ cs′ r (tree sig x bound n sc)) (sym e ∙ there) (f (tree sig x bound n sc)))
 
     pub let-twice : b ≡ true → Answers k (k .s) (k .cs) (ended (record { next = k .at; to = k .to; log = k .lg; term = 0; refused = alreadyDefined }))

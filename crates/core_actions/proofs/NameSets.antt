@@ -10,7 +10,7 @@ use Rattle.octets.specs.Regions.{splice, part}
 use Rattle.rules.specs.Words.{maxDepth, headBase, freshBase, actionWord, headOf, countOf}
 use Rattle.rules.specs.Refusals.{Res, ok, _>>=_, unbound, usedUp}
 use Rattle.rules.specs.Signature.{Sig, heads}
-use Rattle.rules.specs.Written.{leaf}
+use Rattle.rules.specs.Written.{Exprs, leaf}
 use Rattle.rules.specs.ToCoreActions.{readable, Done, lowerSet}
 use Rattle.walks.specs.Steps.{Piece, both, andThen, Walked, InAnswer, OnStack}
 use Rattle.walks.specs.declared.Walk.{Walk}
@@ -19,15 +19,20 @@ use Rattle.walks.proofs.Steps.{went, stop, walk-then, placed, pushed, stacked}
 use Rattle.walks.proofs.Read.{exprs-many, recount}
 use Rattle.core_actions.specs.Scopes.{Scoped, ScopeFits}
 use Rattle.core_actions.specs.Lowered.{lowered, loweredAll}
-use Rattle.core_actions.specs.Acts.{NameCallAt, Gave, Acts}
+use Rattle.core_actions.specs.Acts.{NameCallAt, Gave}
 use Rattle.core_actions.specs.declared.actions.Acted.{Acted}
 use Rattle.core_actions.proofs.Scopes.{scope-fits}
 use Rattle.core_actions.proofs.Pieces.{lowered-leaf, done-set, same-set}
+use Rattle.core_actions.proofs.Does.{Does, second}
 use Rattle.core_actions.proofs.Sites.{Site, Every, WalkedAt, Tree, tree, tree-as, Begun}
 use Rattle.core_actions.proofs.Acting.{ended, acts-stop, acts-same, scope-after}
 use Rattle.core_actions.proofs.Changes.{Headed, Argued, Fine, Used, Termed, closing, closed-full, closed}
 
 -- ---- both words are read: the name as v, and the call's kind 3 word as w
+
+-- the third word of the action
+abbrev pub third : Site → ℕ
+third k = getD (k .ws) (k .at + 2) 0
 
 -- the call
 abbrev pub Call : Site → ℕ → Sig → Type 0
@@ -37,7 +42,7 @@ pub record NameCall (k : Site) (v w : ℕ) (sig : Sig) : Type 0 where
   pub old : v < freshBase
   pub call : Call k w sig
 
-abbrev pub name-call-at : {k : Site} {v w : ℕ} → v ≡ getD (k .ws) (k .at + 1) 0 → w ≡ getD (k .ws) (k .at + 2) 0 → (sig : Sig)
+abbrev pub name-call-at : {k : Site} {v w : ℕ} → v ≡ second k → w ≡ third k → (sig : Sig)
     → NameCallAt sig (k .ws) (k .at) → NameCall k v w sig
 name-call-at {k} {v} {w} isv isw sig x =
     record {
@@ -46,40 +51,41 @@ name-call-at {k} {v} {w} isv isw sig x =
           record {
             high = subst (λ (u : ℕ). headBase ≤ u) (sym isw) (x .high);
             head = subst (λ (u : ℕ). headOf u < heads sig) (sym isw) (x .head);
-            exprs = recount sig (k .ws) (maxDepth - 1) (countOf (getD (k .ws) (k .at + 2) 0)) (countOf w) (k .at + 3) (ap countOf (sym isw)) (x .exprs);
+            exprs = recount sig (k .ws) (maxDepth - 1) (countOf (third k)) (countOf w) (k .at + 3) (ap countOf (sym isw)) (x .exprs);
           };
     }
 
 pub record Naming (k : Site) (v w : ℕ) : Type 0 where
   pub begun : Begun k (Call k w)
-  pub isv : v ≡ getD (k .ws) (k .at + 1) 0
-  pub isw : w ≡ getD (k .ws) (k .at + 2) 0
+  pub isv : v ≡ second k
+  pub isw : w ≡ third k
+
+-- the set of the name v and a call with the word w and these arguments
+abbrev pub set-of : Site → (v w : ℕ) (sig : Sig) (bound : List ℕ) → Exprs → Res Done
+set-of k v w sig bound es = lowerSet sig bound (k .at + 2) (headOf w) es (leaf (k .at + 1) v) (k .cs)
 
 -- what the contract says of an answer
 abbrev pub Answers : Site → List ℕ → List ℕ → Acted → Type 0
 Answers k s′ cs′ r =
     Every k (λ sig. NameCallAt sig (k .ws) (k .at))
-    (λ sig x bound. Acts
-    (lowerSet sig bound (k .at + 2) (headOf (getD (k .ws) (k .at + 2) 0)) (x .exprs .value) (leaf (k .at + 1) (getD (k .ws) (k .at + 1) 0)) (k .cs))
-    sig (k .scope) (3 + x .exprs .size) (k .at) (k .to) (k .sp) (k .lg) (k .s) (k .cs) s′ cs′ r)
+    (λ sig x bound. Does k sig (set-of k (second k) (third k) sig bound (x .exprs .value)) (3 + x .exprs .size) s′ cs′ r)
 
 -- ---- what the definition makes of it
 
 module _ {k : Site} {v w : ℕ} (h : Naming k v w) where
   abbrev lowering : Tree k (NameCall k v w) → Res Done
-  lowering t = lowerSet (t .sig) (t .bound) (k .at + 2) (headOf w) (t .it .call .exprs .value) (leaf (k .at + 1) v) (k .cs)
+  lowering t = set-of k v w (t .sig) (t .bound) (t .it .call .exprs .value)
 
   abbrev Ends : List ℕ → List ℕ → Acted → Tree k (NameCall k v w) → Type 0
-  Ends s′ cs′ r t = Acts (lowering t) (t .sig) (k .scope) (3 + t .it .call .exprs .size) (k .at) (k .to) (k .sp) (k .lg) (k .s) (k .cs) s′ cs′ r
+  Ends s′ cs′ r t = Does k (t .sig) (lowering t) (3 + t .it .call .exprs .size) s′ cs′ r
 
   answers : {s′ cs′ : List ℕ} {r : Acted} → ((t : Tree k (NameCall k v w)) → Ends s′ cs′ r t) → Answers k s′ cs′ r
   answers {s′} {cs′} {r} f sig x bound n sc =
       subst
-      (λ (u : ℕ). Acts (lowerSet sig bound (k .at + 2) (headOf u) (x .exprs .value) (leaf (k .at + 1) (getD (k .ws) (k .at + 1) 0)) (k .cs))
-      sig (k .scope) (3 + x .exprs .size) (k .at) (k .to) (k .sp) (k .lg) (k .s) (k .cs) s′ cs′ r) (h .isw)
+      (λ (u : ℕ). Does k sig (set-of k (second k) u sig bound (x .exprs .value)) (3 + x .exprs .size) s′ cs′ r) (h .isw)
       (subst
-      (λ (u : ℕ). Acts (lowerSet sig bound (k .at + 2) (headOf w) (x .exprs .value) (leaf (k .at + 1) u) (k .cs)) sig (k .scope) (3 + x .exprs .size)
-      (k .at) (k .to) (k .sp) (k .lg) (k .s) (k .cs) s′ cs′ r) (h .isv) (f (tree sig (name-call-at (h .isv) (h .isw) sig x) bound n sc)))
+      (λ (u : ℕ). Does k sig (set-of k u w sig bound (x .exprs .value)) (3 + x .exprs .size) s′ cs′ r) (h .isv)
+      (f (tree sig (name-call-at (h .isv) (h .isw) sig x) bound n sc)))
 
   -- the arguments, then the name, then the set
   abbrev args : Tree k (NameCall k v w) → Res Piece

@@ -19,9 +19,10 @@ use Rattle.walks.proofs.Read.{moved}
 use Rattle.walks.proofs.Asks.{counted-kept, right-there}
 use Rattle.core_actions.specs.Scopes.{Scoped, ScopeRoom}
 use Rattle.core_actions.specs.Lowered.{lowered}
-use Rattle.core_actions.specs.Acts.{PairAt, Gave, Acts}
+use Rattle.core_actions.specs.Acts.{PairAt, Gave}
 use Rattle.core_actions.specs.declared.actions.Acted.{Acted}
 use Rattle.core_actions.proofs.Pieces.{unionPiece, done-union, same-union}
+use Rattle.core_actions.proofs.Does.{Does}
 use Rattle.core_actions.proofs.Sites.{Site, site-of, ScopeRoomAt, Asks, Every, WalkedAt, Tree, tree, Begun, begun-as, asks}
 use Rattle.core_actions.proofs.Acting.{ended, acts-stop, acts-same, scope-after, LowAt, Fine, is-fine}
 
@@ -32,8 +33,7 @@ Pair k sig = PairAt sig (k .ws) (k .at)
 abbrev pub Answers : Site → List ℕ → List ℕ → Acted → Type 0
 Answers k s′ cs′ r =
     Every k (Pair k)
-    (λ sig x bound. Acts (lowerUnion sig bound none (x .left .value) (x .right .value) (k .cs)) sig (k .scope) (1 + (x .left .size + x .right .size))
-    (k .at) (k .to) (k .sp) (k .lg) (k .s) (k .cs) s′ cs′ r)
+    (λ sig x bound. Does k sig (lowerUnion sig bound none (x .left .value) (x .right .value) (k .cs)) (1 + (x .left .size + x .right .size)) s′ cs′ r)
 
 -- what lowering the left side asks
 pub left-asks : {k : Site} → Begun k (Pair k)
@@ -60,7 +60,7 @@ module _ {k : Site} (g : Begun k (Pair k)) {s1 cs1 : List ℕ} {l : Walk} (left 
   union t = lowerUnion (t .sig) (t .bound) none (t .it .left .value) (t .it .right .value) (k .cs)
 
   abbrev Ends : List ℕ → List ℕ → Acted → Tree k (Pair k) → Type 0
-  Ends s′ cs′ r t = Acts (union t) (t .sig) (k .scope) (1 + size t) (k .at) (k .to) (k .sp) (k .lg) (k .s) (k .cs) s′ cs′ r
+  Ends s′ cs′ r t = Does k (t .sig) (union t) (1 + size t) s′ cs′ r
 
   walk : (t : Tree k (Pair k)) → WalkedAt k 1 (InAnswer (k .lg) l) (X t) (t .it .left .size) (k .at + 1) s1 cs1 l
   walk t = left .walk (t .sig) (t .it .left) (t .bound) (t .counted) (t .scoped)
