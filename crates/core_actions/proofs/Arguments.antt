@@ -5,15 +5,14 @@ use Prim.Native.Nat.{ℕ, _+_, _-_, _^_, _≤_, _<_}
 use native.Mathlib.Omega.{arith}
 use lib.ListN.{length, set}
 use Rattle.rules.specs.Signature.{Sig}
-use Rattle.walks.specs.Steps.{Walked, InAnswer, OnStack, Counted, ExprAt, ExprsAt}
+use Rattle.walks.specs.Steps.{InAnswer, OnStack, ExprAt, ExprsAt}
 use Rattle.walks.specs.declared.Walk.{Walk}
 use Rattle.walks.proofs.Asks.{counted-kept, first-at}
 use Rattle.walks.proofs.Rows.{Going, going-start, Left, left-all, left-none, left-stop, left-next, left-going}
 use Rattle.walks.proofs.Turns.{Turn, turn}
 use Rattle.core_actions.specs.Scopes.{Scoped}
 use Rattle.core_actions.specs.Lowered.{lowered, loweredAll}
-use Rattle.core_actions.proofs.Sites.{Site, site-of, Tree, tree, Begun, Known}
-use Rattle.core_actions.proofs.Does.{RoomFor, ScopeRoomFor}
+use Rattle.core_actions.proofs.Sites.{Site, site-of, Every, WalkedAt, Asks, Tree, tree, Begun}
 use Rattle.core_actions.proofs.Pieces.{lowered-row}
 use Rattle.core_actions.proofs.Expressions.{standing, scope-room, scope-going}
 
@@ -24,14 +23,12 @@ Exprs-at k d n sig = ExprsAt sig (k .ws) d n (k .at)
 -- what the contract says of an answer
 abbrev pub Answers : Site → (d n : ℕ) → List ℕ → List ℕ → Walk → Type 0
 Answers k d n s′ cs′ r =
-    (sig : Sig) (x : Exprs-at k d n sig) (bound : List ℕ) → Counted sig (k .cs) → Scoped sig bound (k .s) (k .scope)
-    → Walked n (OnStack (k .sp) n (k .lg) s′ r) (loweredAll sig bound (x .value) (k .cs)) (x .size) (k .at) (k .to) (k .sp) (k .lg) (k .s) (k .cs) s′ cs′ r
+    Every k (Exprs-at k d n) (λ sig x bound. WalkedAt k n (OnStack (k .sp) n (k .lg) s′ r) (loweredAll sig bound (x .value) (k .cs)) (x .size) (k .at) s′ cs′ r)
 
 -- and what that of lowering one expression says
 abbrev pub Lowers : Site → ℕ → List ℕ → List ℕ → Walk → Type 0
 Lowers k d s′ cs′ r =
-    (sig : Sig) (x : ExprAt sig (k .ws) d (k .at)) (bound : List ℕ) → Counted sig (k .cs) → Scoped sig bound (k .s) (k .scope)
-    → Walked 1 (InAnswer (k .lg) r) (lowered sig bound (x .value) (k .cs)) (x .size) (k .at) (k .to) (k .sp) (k .lg) (k .s) (k .cs) s′ cs′ r
+    Every k (λ sig. ExprAt sig (k .ws) d (k .at)) (λ sig x bound. WalkedAt k 1 (InAnswer (k .lg) r) (lowered sig bound (x .value) (k .cs)) (x .size) (k .at) s′ cs′ r)
 
 -- where the next argument stands, behind the walk w with its stack up to top
 abbrev pub next : Site → (top : ℕ) → List ℕ → List ℕ → Walk → Site
@@ -91,8 +88,7 @@ module _ {k : Site} {d n left top : ℕ} {s1 cs1 : List ℕ} {w : Walk} (row : R
         scope-going (length (k .ws)) (row .begun .scopeRoom) (row .going) le x
 
     -- so it can be walked
-    pub next-asks : let j = next k top s1 cs1 w in
-        Known j (λ sig. ExprAt sig (k .ws) d (w .next)) × (RoomFor j × ScopeRoomFor j)
+    pub next-asks : Asks (next k top s1 cs1 w) (λ sig. ExprAt sig (k .ws) d (w .next)) (w .next)
     next-asks =
         let t = row .begun .tree in
         let e = first-at (t .sig) (k .ws) d left (w .next) (row .rest t .rest) some in (

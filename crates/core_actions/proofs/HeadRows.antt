@@ -16,8 +16,8 @@ use Rattle.core_actions.specs.Lowered.{donePiece}
 use Rattle.core_actions.specs.Acts.{ActionAt, ActionsAt, Acts, Gave, Signed}
 use Rattle.core_actions.specs.declared.scope.Scope.{Scope}
 use Rattle.core_actions.specs.declared.actions.Acted.{Acted}
-use Rattle.core_actions.proofs.Sites.{Site, site-of}
-use Rattle.core_actions.proofs.Does.{RoomFor, ScopeRoomFor, KnownSigned, DoesAction}
+use Rattle.core_actions.proofs.Sites.{Site, site-of, RoomAt, ScopeRoomAt}
+use Rattle.core_actions.proofs.Does.{KnownSigned, DoesAction}
 use Rattle.core_actions.proofs.Expressions.{standing}
 use Rattle.core_actions.proofs.ReadActions.{action-inside}
 use Rattle.core_actions.proofs.ActionRows.{having, acts-few, Left, left-all, left-none, first-action, left-stop, left-next, left-going}
@@ -90,10 +90,10 @@ module _ {h : Head} {left names count : ℕ} {s1 cs1 : List ℕ} {w : Walk} (row
   row-done z sig x bound n sc sg =
       left-none sig bound (h .ws) (h .n) (h .at) (h .to) (h .lg) (h .scope) (h .s) (h .cs) x left names count s1 cs1 w (row .rest sig x bound n sc sg) (row .going .fine) z
 
-  pub turn-room : RoomFor (turn h names s1 cs1 w)
+  pub turn-room : RoomAt (turn h names s1 cs1 w) (w .next)
   turn-room = going-room (length (h .ws)) (length s1) (row .room) (row .scratch) (row .going)
 
-  pub turn-scope : ScopeRoomFor (turn h names s1 cs1 w)
+  pub turn-scope : ScopeRoomAt (turn h names s1 cs1 w) (w .next)
   turn-scope =
       let sr = row .scopeRoom in
       let g = row .going in

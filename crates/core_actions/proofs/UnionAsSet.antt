@@ -14,13 +14,15 @@ use Rattle.rules.specs.Signature.{Sig, heads, isConstructor, isName}
 use Rattle.rules.specs.Written.{Expr, Exprs, leaf, call, end, Shape, isLeaf, isCall, isBad, shapeAt, Read, Reader, readShape, readExpr, readMany}
 use Rattle.rules.specs.ToCoreActions.{Done, AsSet, optional, unionAsSet, lowerUnion, lowerSet}
 use Rattle.meaning.proofs.Results.{bind-ok, ok-inj, refuse-ok}
-use Rattle.walks.specs.Steps.{Piece, Walked, Counted, ExprAt, ExprsAt}
+use Rattle.walks.specs.Steps.{Piece, ExprAt, ExprsAt}
 use Rattle.walks.proofs.Read.{moved, leaf-cases, call-cases}
 use Rattle.core_actions.specs.Acts.{ChangeAt, PairAt, NameCallAt, Signed, setMode, changed, Gave}
-use Rattle.core_actions.specs.Scopes.{Scoped}
 use Rattle.core_actions.specs.declared.actions.Acted.{Acted}
-use Rattle.core_actions.proofs.Sites.{Site, Known}
-use Rattle.core_actions.proofs.Does.{RoomFor, ScopeRoomFor, KnownSigned, Does, Finishes, Changes}
+use Rattle.core_actions.proofs.Sites.{Site, Known, RoomAt, ScopeRoomAt, WalkedAt}
+use Rattle.core_actions.proofs.Does.{KnownSigned, EverySigned, Does}
+use Rattle.core_actions.proofs.Changes as changes
+use Rattle.core_actions.proofs.NameSets as name-sets
+use Rattle.core_actions.proofs.Pairs as pairs
 use Rattle.core_actions.proofs.Acting.{acts-same}
 use Rattle.core_actions.specs.Lowered.{donePiece}
 use Rattle.core_actions.proofs.Pieces.{snoc, done-set-row, SameBound, same-set}
@@ -249,13 +251,14 @@ module _ (sig : Sig) (ws : List ℕ) (few : heads sig ≤ limit12) (at : ℕ) (x
 -- what the contract says of an answer
 abbrev pub Answers : List ℕ → Site → List ℕ → List ℕ → Acted → Type 0
 Answers gs k s′ cs′ r =
-    (sig : Sig) (x : PairAt sig (k .ws) (k .at)) (bound : List ℕ) → Counted sig (k .cs) → Scoped sig bound (k .s) (k .scope) → Signed sig gs
-    → Does k sig (lowerUnion sig bound (unionAsSet sig (x .left .value) (x .right .value)) (x .left .value) (x .right .value) (k .cs)) (1 + (x .left .size + x .right .size)) s′ cs′ r
+    EverySigned k gs (λ sig. PairAt sig (k .ws) (k .at))
+    (λ sig x bound. Does k sig (lowerUnion sig bound (unionAsSet sig (x .left .value) (x .right .value)) (x .left .value) (x .right .value) (k .cs))
+    (1 + (x .left .size + x .right .size)) s′ cs′ r)
 
 pub record Moded (gs : List ℕ) (k : Site) (mode : ℕ) : Type 0 where
   pub known : KnownSigned k gs (λ sig. PairAt sig (k .ws) (k .at))
-  pub room : RoomFor k
-  pub scopeRoom : ScopeRoomFor k
+  pub room : RoomAt k (k .at)
+  pub scopeRoom : ScopeRoomAt k (k .at)
   pub is : Modes gs (k .ws) (k .at) mode
 
 module _ {gs : List ℕ} {k : Site} {mode : ℕ} (g : Moded gs k mode) where
@@ -270,14 +273,14 @@ module _ {gs : List ℕ} {k : Site} {mode : ℕ} (g : Moded gs k mode) where
     pub left-asks : Known k (λ sig. ChangeAt sig (k .ws) 1 (k .at))
     left-asks = asks (λ sig x few sg. left sig x few sg .change)
 
-    pub left-done : {s′ cs′ : List ℕ} {r : Acted} → Changes k (actionWord 2) 1 s′ cs′ r → Answers gs k s′ cs′ r
+    pub left-done : {s′ cs′ : List ℕ} {r : Acted} → changes.Answers k (actionWord 2) 1 s′ cs′ r → Answers gs k s′ cs′ r
     left-done {s′} {cs′} {r} does sig x bound n sc sg =
         let l = left sig x (n .few) sg in
         let u = lowerUnion sig bound (unionAsSet sig (x .left .value) (x .right .value)) (x .left .value) (x .right .value) (k .cs) in
         let i = x .right .inside in
         acts-same sig bound (k .scope) (length (k .ws)) u (l .same bound (k .cs)) (does .0) (g .scopeRoom) (omega arith) sc
-        (subst (λ (size : ℕ). Walked 0 (Gave r) (donePiece u) size (k .at) (k .to) (k .sp) (k .lg) (k .s) (k .cs) s′ cs′ (r .walk)) (l .size)
-        (subst (λ (p : Res Piece). Walked 0 (Gave r) p (2 + l .change .exprs .size) (k .at) (k .to) (k .sp) (k .lg) (k .s) (k .cs) s′ cs′ (r .walk)) (sym (l .piece bound (k .cs)))
+        (subst (λ (size : ℕ). WalkedAt k 0 (Gave r) (donePiece u) size (k .at) s′ cs′ (r .walk)) (l .size)
+        (subst (λ (p : Res Piece). WalkedAt k 0 (Gave r) p (2 + l .change .exprs .size) (k .at) s′ cs′ (r .walk)) (sym (l .piece bound (k .cs)))
         (does .1 sig (l .change) bound n sc)))
 
   -- its right side is
@@ -288,10 +291,7 @@ module _ {gs : List ℕ} {k : Site} {mode : ℕ} (g : Moded gs k mode) where
     pub right-asks : Known k (λ sig. NameCallAt sig (k .ws) (k .at))
     right-asks = asks (λ sig x few sg. right sig x few sg .named)
 
-    pub right-done : {s′ cs′ : List ℕ} {r : Acted}
-        → Finishes k (λ sig. NameCallAt sig (k .ws) (k .at))
-        (λ sig bound y. lowerSet sig bound (k .at + 2) (headOf (getD (k .ws) (k .at + 2) 0)) (y .exprs .value) (leaf (k .at + 1) (getD (k .ws) (k .at + 1) 0)) (k .cs))
-        (λ sig y. 3 + y .exprs .size) s′ cs′ r → Answers gs k s′ cs′ r
+    pub right-done : {s′ cs′ : List ℕ} {r : Acted} → name-sets.Answers k s′ cs′ r → Answers gs k s′ cs′ r
     right-done {s′} {cs′} {r} does sig x bound n sc sg =
         let l = right sig x (n .few) sg in
         let u = lowerUnion sig bound (unionAsSet sig (x .left .value) (x .right .value)) (x .left .value) (x .right .value) (k .cs) in
@@ -302,9 +302,7 @@ module _ {gs : List ℕ} {k : Site} {mode : ℕ} (g : Moded gs k mode) where
   pub stays-asks : Known k (λ sig. PairAt sig (k .ws) (k .at))
   stays-asks = asks (λ sig x few sg. x)
 
-  pub stays-done : {s′ cs′ : List ℕ} {r : Acted} → (mode ≡ 1 → ⊥) → (mode ≡ 2 → ⊥)
-      → Finishes k (λ sig. PairAt sig (k .ws) (k .at)) (λ sig bound y. lowerUnion sig bound none (y .left .value) (y .right .value) (k .cs))
-      (λ sig y. 1 + (y .left .size + y .right .size)) s′ cs′ r → Answers gs k s′ cs′ r
+  pub stays-done : {s′ cs′ : List ℕ} {r : Acted} → (mode ≡ 1 → ⊥) → (mode ≡ 2 → ⊥) → pairs.Answers k s′ cs′ r → Answers gs k s′ cs′ r
   stays-done {s′} {cs′} {r} one two does sig x bound n sc sg =
       subst (λ (o : Option AsSet). Does k sig (lowerUnion sig bound o (x .left .value) (x .right .value) (k .cs)) (1 + (x .left .size + x .right .size)) s′ cs′ r)
       (sym (stays sig (x .left .value) (x .right .value) mode (g .is sig x (n .few) sg) one two)) (does sig x bound n sc)
