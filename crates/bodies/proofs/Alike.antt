@@ -49,7 +49,8 @@ module _ {l : List ℕ} {p q : ℕ} (a : TabAt l p) (b : TabAt l q) where
           let m : getD l p 0 % limit16 ≡ getD l q 0 % limit16 = omega (arith, a .some, b .some, ca, cb, n) in
           absurd (k (whole-word (getD l p 0) (a .low) (a .high) ∙ ap₂ headWord (w .0) m ∙ sym (whole-word (getD l q 0) (b .low) (b .high))))
 
-  pub heads-same : {n : ℕ} → getD l p 0 ≡ getD l q 0 → n ≡ getD l p 0 % limit16 - 1 → sameTerms (part l (p + 1) n) (part l (q + 1) n) ≡ alike (tabAt l p) (tabAt l q)
+  pub heads-same : {n : ℕ} → getD l p 0 ≡ getD l q 0 → n ≡ getD l p 0 % limit16 - 1
+      → sameTerms (part l (p + 1) n) (part l (q + 1) n) ≡ alike (tabAt l p) (tabAt l q)
   unfolding tabAt
   heads-same {n} e en =
       let n₁ : n ≡ countOf (getD l p 0) - 1 = en ∙ ap (λ (k : ℕ). k - 1) (sym (count-low (getD l p 0) (a .low))) in

@@ -94,10 +94,24 @@ module _ (l : List ℕ) (p n : ℕ) where
 -- ---- after a step elsewhere
 
 pub atoms-before : {xs : List Atom} {l m : List ℕ} {p n a e : ℕ} → Only l m a e → AtomsAt xs l p n → p + n ≤ a → AtomsAt xs m p n
-atoms-before o s h = record { fits = s .fits; bare = s .bare; size = s .size; at = at-before o (s .at) (omega (arith, s .size)); within = omega (arith, o .size, s .within) }
+atoms-before o s h =
+    record {
+      fits = s .fits;
+      bare = s .bare;
+      size = s .size;
+      at = at-before o (s .at) (omega (arith, s .size));
+      within = omega (arith, o .size, s .within);
+    }
 
 pub tabs-before : {ts : List Tab} {l m : List ℕ} {p n a e : ℕ} → Only l m a e → TabsAt ts l p n → p + n ≤ a → TabsAt ts m p n
-tabs-before o s h = record { fits = s .fits; bare = s .bare; size = s .size; at = at-before o (s .at) (omega (arith, s .size)); within = omega (arith, o .size, s .within) }
+tabs-before o s h =
+    record {
+      fits = s .fits;
+      bare = s .bare;
+      size = s .size;
+      at = at-before o (s .at) (omega (arith, s .size));
+      within = omega (arith, o .size, s .within);
+    }
 
 pub tabs-after : {ts : List Tab} {l m : List ℕ} {p n a e : ℕ} → Only l m a e → TabsAt ts l p n → e ≤ p → TabsAt ts m p n
 tabs-after o s h = record { fits = s .fits; bare = s .bare; size = s .size; at = at-after o (s .at) h; within = omega (arith, o .size, s .within) }
@@ -198,8 +212,8 @@ record Cut {A : Type 0} (ws : A → List ℕ) (x : A) (xs : List A) (l : List �
   pub behind : (q : ℕ) → q ≡ p + length (ws x) → At (wordsOf ws xs) l q
   pub within : (q m : ℕ) → q ≡ p + length (ws x) → m ≡ n - length (ws x) → q + m ≤ length l
 
-cut : {A : Type 0} (ws : A → List ℕ) (x : A) (xs : List A) (l : List ℕ) (p n : ℕ) → n ≡ length (wordsOf ws (x ∷ xs)) → At (wordsOf ws (x ∷ xs)) l p → p + n ≤ length l
-    → Cut ws x xs l p n
+cut : {A : Type 0} (ws : A → List ℕ) (x : A) (xs : List A) (l : List ℕ) (p n : ℕ) → n ≡ length (wordsOf ws (x ∷ xs)) → At (wordsOf ws (x ∷ xs)) l p
+    → p + n ≤ length l → Cut ws x xs l p n
 cut ws x xs l p n e s h =
     let size : n ≡ length (ws x) + length (wordsOf ws xs) = e ∙ length-append (ws x) (wordsOf ws xs) in
     record {

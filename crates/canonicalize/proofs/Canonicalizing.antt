@@ -19,9 +19,10 @@ use Rattle.meaning.specs.Weight.{weight}
 use Rattle.bodies.specs.Standing.{AtomsAt, Bare, TabsAt, atomsIn}
 use Rattle.bodies.proofs.Standing.{First, atoms-ahead, atoms-before, atoms-is, atoms-join, atoms-read, first-atom, tabs-before, tabs-join}
 use Rattle.canonicalize.specs.declared.Canonical.{Canonical}
-use Rattle.canonicalize.specs.Canonicalize.{CanonicalAt, CanonicalizeAsks, FrontAsks, Fronted, Leads, ReplaceAsks, Replaced, ResolveAsks, Resolved, bindingWords}
+use Rattle.canonicalize.specs.Canonicalize.{CanonicalAt, CanonicalizeAsks, FrontAsks, Fronted, Leads}
+use Rattle.canonicalize.specs.Canonicalize.{ReplaceAsks, Replaced, ResolveAsks, Resolved, bindingWords}
 use Rattle.canonicalize.specs.Spans.{Built, Spanned}
-use Rattle.canonicalize.proofs.Replacing.{bindings-append, no-equality}
+use Rattle.canonicalize.proofs.Replacing.{bindings-append, eqn-met}
 use Rattle.canonicalize.proofs.SpanLaws.{spanned-tail}
 use Rattle.canonicalize.proofs.SpansBuilt.{built-only}
 
@@ -56,8 +57,7 @@ module _ {l : List ℕ} {at n : ℕ} (c : AtomsAt (atomsIn l at n) l at n) where
       t = first-atom (w .todo) l (at + i) (n - i) (w .others) (omega arith)
 
       go : (x : Atom) → t .atom ≡ x → Leading l at n (i + 3)
-      go (tab u) q =
-          absurd (no-equality (u .head) (suc (length (u .ins))) (sym (at-first (subst (λ (x : Atom). At (atomWords x) l (at + i)) q (t .stands))) ∙ e))
+      go (tab u) q = absurd (subst (λ (x : Atom). IsEqn x) q (eqn-met (t .atom) (t .stands) e))
       go (eqn p a b) q =
           let three : length (atomWords (t .atom)) ≡ 3 = ap (λ (x : Atom). length (atomWords x)) q in
           let one : AtomsAt (eqn p a b ∷ []) l (at + i) 3 =
@@ -74,7 +74,8 @@ module _ {l : List ℕ} {at n : ℕ} (c : AtomsAt (atomsIn l at n) l at n) where
             equalities = all-append IsEqn (w .eqs) (eqn p a b ∷ []) (w .equalities) (tt, tt);
             passed = atoms-join (w .eqs) (eqn p a b ∷ []) l at i (at + i) 3 (w .passed) one refl;
             others = t .after (at + (i + 3)) (n - (i + 3)) (omega arith) (omega arith);
-            whole = w .whole ∙ ap (λ (us : List Atom). w .eqs ++ us) (t .is ∙ ap (λ (x : Atom). x ∷ t .rest) q) ∙ sym (append-assoc (w .eqs) (eqn p a b ∷ []) (t .rest));
+            whole = w .whole ∙ ap (λ (us : List Atom). w .eqs ++ us) (t .is ∙ ap (λ (x : Atom). x ∷ t .rest) q)
+                ∙ sym (append-assoc (w .eqs) (eqn p a b ∷ []) (t .rest));
             inside = omega (arith, t .inside, three);
           }
 
@@ -167,7 +168,9 @@ module _ {l : List ℕ} {at n to d table buckets e : ℕ} (g : Led l at n to d t
 
     module _ {m₂ : List ℕ} {r : ℕ} (k : Replaced s m m₂ (at + e) (n - e) (t .binds) table buckets r) where
       is : atomsIn m₂ (at + e) (n - e) ≡ replaceAll s (f .rest) [] .atoms
-      is = atoms-is m₂ (at + e) (n - e) (replaceAll s (atomsIn m (at + e) (n - e)) [] .atoms) (k .atoms) ∙ ap (λ (us : List Atom). replaceAll s us [] .atoms) rest-is
+      is =
+          atoms-is m₂ (at + e) (n - e) (replaceAll s (atomsIn m (at + e) (n - e)) [] .atoms) (k .atoms)
+          ∙ ap (λ (us : List Atom). replaceAll s us [] .atoms) rest-is
 
       count : r + 3 * length (canonicalize s (f .rest) [] .repls) ≡ t .binds
       count = subst (λ (us : List Atom). r + 3 * length (replaceAll s us [] .repls) ≡ t .binds) rest-is (k .count)
@@ -185,7 +188,8 @@ module _ {l : List ℕ} {at n to d table buckets e : ℕ} (g : Led l at n to d t
           }
 
       -- what the resolving writes is what becomes of the rest
-      rest-written : {m₃ : List ℕ} {w : ℕ} → Resolved s m₂ m₃ (at + e) (n - e) (to + t .words) w → TabsAt (canonicalize s (f .rest) [] .tabs) m₃ (to + t .words) w
+      rest-written : {m₃ : List ℕ} {w : ℕ} → Resolved s m₂ m₃ (at + e) (n - e) (to + t .words) w
+          → TabsAt (canonicalize s (f .rest) [] .tabs) m₃ (to + t .words) w
       rest-written {m₃} {w} y = subst (λ (us : List Atom). TabsAt (resolve s us) m₃ (to + t .words) w) is (y .tabs)
 
       -- the written words end before the bindings
@@ -202,7 +206,8 @@ module _ {l : List ℕ} {at n to d table buckets e : ℕ} (g : Led l at n to d t
           let first : TabsAt (f .written) m₂ to (t .words) = kept-between (f .tabs) in
           let both : TabsAt (f .written ++ canonicalize s (f .rest) [] .tabs) m₃ to (t .words + w) =
           tabs-join (f .written) (canonicalize s (f .rest) [] .tabs) m₃ to (t .words) (to + t .words) w (tabs-before (y .only) first (omega arith)) more refl in
-          let new : At (bindingWords (canonicalize s (f .rest) [] .repls)) m₂ r = subst (λ (us : List Atom). At (bindingWords (replaceAll s us [] .repls)) m₂ r) rest-is (k .binds) in
+          let new : At (bindingWords (canonicalize s (f .rest) [] .repls)) m₂ r =
+          subst (λ (us : List Atom). At (bindingWords (replaceAll s us [] .repls)) m₂ r) rest-is (k .binds) in
           let old : At (bindingWords (f .rs)) m₂ (t .binds) = at-after o₂ (f .binds) (omega arith) in
           let all : At (bindingWords (canonicalize s (f .rest) [] .repls ++ f .rs)) m₂ r =
           subst (λ (ws : List ℕ). At ws m₂ r) (sym (bindings-append (canonicalize s (f .rest) [] .repls) (f .rs)))

@@ -8,13 +8,12 @@ use Prim.Native.Nat.{_*_, _+_, _-_, _^_, _<_, _≤_, suc, ℕ}
 use native.Mathlib.Omega.{arith}
 use lib.ListN.{length, length-map}
 use borrow.Author.Tests.{eq-eqb}
-use Rattle.octets.proofs.Places.{at-after, at-first, at-left, at-nil, at-right, at-splice, only-same, only-splice, only-then, only-wide}
+use Rattle.octets.proofs.Places.{at-after, at-first, at-left, at-nil, at-right, only-same, only-splice, only-then, only-wide}
 use Rattle.octets.specs.Regions.{At, Only, splice}
 use Rattle.rules.specs.Canonicalize.{Replacement, canonicalize, firstReplacement, orElse, replaceAtom, replaceTerm, resolve, resolveEq}
 use Rattle.rules.specs.Flat.{Atom, Tab, atomWords, eqn, tab, tabWords, wordsOf}
 use Rattle.rules.specs.Signature.{Sig, sameTerm}
 use Rattle.rules.specs.Words.{limit12}
-use Rattle.meaning.proofs.Encodable.{resolve-encodable}
 use Rattle.meaning.proofs.Lists.{map-append}
 use Rattle.meaning.proofs.MergePass.{IsEqn}
 use Rattle.meaning.proofs.Passes.{canonicalize-repls}
@@ -24,14 +23,14 @@ use Rattle.meaning.specs.Meaning.{All}
 use Rattle.meaning.specs.Sweep.{asks}
 use Rattle.meaning.specs.Weight.{headsWeight, live, unlike, weight}
 use Rattle.bodies.specs.Standing.{AtomsAt, TabsAt, atomsIn}
-use Rattle.bodies.proofs.Standing.{atoms-before, atoms-join, bare-resolve, no-tabs, tabs-before, tabs-join}
+use Rattle.bodies.proofs.Standing.{atoms-before, atoms-join, no-tabs, tabs-before, tabs-join}
 use Rattle.canonicalize.specs.declared.Canonical.{Canonical}
 use Rattle.canonicalize.specs.Canonicalize.{FrontAsks, FrontOne, FrontOneAsks, FrontStep, Fronted, ResolveOneAsks, StepAsks, Stepped}
 use Rattle.canonicalize.specs.Canonicalize.{askAt, bindingWords, placeAfter, resolveAt}
 use Rattle.canonicalize.specs.Spans.{Spanned}
 use Rattle.canonicalize.proofs.Fronts.{asked-same-terms, canonicalize-asked, canonicalize-still}
 use Rattle.canonicalize.proofs.Replacing.{ask-is, made}
-use Rattle.canonicalize.proofs.Resolving.{resolve-atom}
+use Rattle.canonicalize.proofs.Resolving.{resolve-atom, resolved-there}
 use Rattle.canonicalize.proofs.SpanLaws.{spanned-before, spanned-tail}
 use Rattle.rules.specs.Canonicalize as canon
 
@@ -260,16 +259,7 @@ module _ {l : List ℕ} {at e k to d₀ table buckets : ℕ} (c : FrontAsks l at
         let end : to + (t .words + r .words) ≡ to + t .words + length new = omega (arith, q .0) in
         let o : Only m m₁ (to + t .words) (to + (t .words + r .words)) =
         only-splice m (to + t .words) new (to + (t .words + r .words)) end (omega (arith, front-one-asks .room)) in
-        let a : At (wordsOf tabWords one) m₁ (to + t .words) =
-        subst (λ (ws : List ℕ). At ws m₁ (to + t .words)) wrote (at-splice m (to + t .words) new (front-one-asks .room)) in
-        let tab-one : TabsAt one m₁ (to + t .words) (length new) =
-        record {
-          fits = resolve-encodable s v (first ∷ []) (tt, tt);
-          bare = bare-resolve s (first ∷ []) (next .bare, tt);
-          size = ap length wrote;
-          at = a;
-          within = omega (arith, o .size, front-one-asks .room);
-        } in
+        let tab-one = resolved-there s first (to + t .words) v tt tt (next .bare) (next .stands) (front-one-asks .room) in
         let still-is = canonicalize-still s (next .place) (next .a) (next .b) later [] n in
         subst (λ (z : List ℕ). Fronting s l z at e k to d₀ table buckets (i + 3) (after r)) (sym (q .2))
         (record {
@@ -279,7 +269,8 @@ module _ {l : List ℕ} {at e k to d₀ table buckets : ℕ} (c : FrontAsks l at
           rs = w .rs;
           equalities = next .equalities;
           left = omega (arith, long);
-          stand = atoms-before o (next .behind (at + (i + 3)) (e - (i + 3) + k) (omega arith) (omega (arith, long))) (omega (arith, c .clear, c .spanned .beyond, long));
+          stand = atoms-before o (next .behind (at + (i + 3)) (e - (i + 3) + k) (omega arith) (omega (arith, long)))
+              (omega (arith, c .clear, c .spanned .beyond, long));
           spanned = spanned-before o (spanned-tail (at + (i + 3)) (e - (i + 3) + k) (w .spanned) (omega arith) (omega (arith, long))) (omega (arith, c .clear));
           tabs = subst (λ (u : ℕ). TabsAt (w .written ++ one) m₁ to (t .words + u)) (sym (q .0))
               (tabs-join (w .written) one m₁ to (t .words) (to + t .words) (length new) (tabs-before o (w .tabs) (omega arith)) tab-one refl);
@@ -298,7 +289,8 @@ module _ {l : List ℕ} {at e k to d₀ table buckets : ℕ} (c : FrontAsks l at
 
     -- it asks for r, which is made behind it
     asked : {m₂ : List ℕ} (u : Canonical) (r : Replacement) → asks s first ≡ some r
-        → FrontStep (some r) s m m₂ (at + i) (e - i + k) (to + t .words) (t .binds) table buckets u → Fronting s l m₂ at e k to d₀ table buckets (i + 3) (after u)
+        → FrontStep (some r) s m m₂ (at + i) (e - i + k) (to + t .words) (t .binds) table buckets u
+        → Fronting s l m₂ at e k to d₀ table buckets (i + 3) (after u)
     asked {m₂} u r n q =
         let behind : AtomsAt later m (at + i + 3) (e - i + k - 3) = next .behind (at + i + 3) (e - i + k - 3) refl refl in
         let mk = made s (w .rs) (asked-var s first r n) behind (w .binds) (front-one-asks .binds) (q .2) in
@@ -308,7 +300,8 @@ module _ {l : List ℕ} {at e k to d₀ table buckets : ℕ} (c : FrontAsks l at
         let gone : unlike (sameTerm (replaceTerm r (next .a)) (replaceTerm r (next .b))) ≡ 0 =
         ap unlike (eq-eqb _ _ (asked-same-terms s (next .place) (next .a) (next .b) r n)) in
         let lighter : weight (map (replaceAtom r) later) + 4 ≤ weight (w .eqs ++ w .others) =
-        subst (λ (us : List Atom). weight (map (replaceAtom r) later) + 4 ≤ weight us) (sym all-is) (omega (arith, weight-replaced s (first ∷ later) r one, gone)) in
+        subst (λ (us : List Atom). weight (map (replaceAtom r) later) + 4 ≤ weight us) (sym all-is)
+        (omega (arith, weight-replaced s (first ∷ later) r one, gone)) in
         let asked-is = canonicalize-asked s (next .place) (next .a) (next .b) later [] r n ∙ canonicalize-repls s (map (replaceAtom r) later) (r ∷ []) in
         record {
           eqs = map (replaceAtom r) (next .es);

@@ -8,7 +8,8 @@ use Prim.Native.Nat.{suc, zero, ℕ}
 use native.Mathlib.Omega.{arith}
 use lib.ListN.{length, length-map}
 use borrow.Author.Tests.{eq-eqb, eqb-true, ne-eqb}
-use Rattle.rules.specs.Canonicalize.{Body, Replacement, canonicalize, firstReplacement, orElse, replaceAll, replaceAtom, replaceStep, replaceTerm, replaceUpTo, replacementOf, resolve, resolveEq}
+use Rattle.rules.specs.Canonicalize.{Body, Replacement, canonicalize, firstReplacement, orElse, replaceAll}
+use Rattle.rules.specs.Canonicalize.{replaceAtom, replaceStep, replaceTerm, replaceUpTo, replacementOf, resolve, resolveEq}
 use Rattle.rules.specs.Flat.{Atom, Tab, eqn}
 use Rattle.rules.specs.Signature.{Sig, isVar, sameTerm}
 use Rattle.meaning.proofs.CanonicalizeEnds.{asked-same, first-var, replace-all-enough}

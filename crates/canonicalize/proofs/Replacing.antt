@@ -16,6 +16,7 @@ use Rattle.rules.specs.Signature.{Sig, isVar, sameTerm}
 use Rattle.rules.specs.Words.{equalityWord, headWord}
 use Rattle.meaning.proofs.Encodable.{replaced-encodable}
 use Rattle.meaning.proofs.Lists.{all-right, length-words-append, map-append, words-append}
+use Rattle.meaning.proofs.MergePass.{IsEqn}
 use Rattle.meaning.proofs.Sweep.{Sweeping, asked-var, sweep-end, sweep-past, sweep-replaced, sweep-start}
 use Rattle.meaning.proofs.WordLaws.{length-replaced, replace-words, two-atom}
 use Rattle.meaning.specs.Meaning.{All}
@@ -41,7 +42,7 @@ asked-none (some r) t e y = absurd (false≢true (sym y ∙ ap (λ (u : Asked). 
 
 -- ---- an atom at a place
 
-pub no-equality : (h n : ℕ) → headWord h n ≡ equalityWord → ⊥
+no-equality : (h n : ℕ) → headWord h n ≡ equalityWord → ⊥
 no-equality h n e = omega arith
 
 pub ask-is : (s : Sig) (x : Atom) (l : List ℕ) (p : ℕ) → At (atomWords x) l p → askAt s l p ≡ asks s x
@@ -56,10 +57,14 @@ ask-is s (tab t) l p k =
     ap (λ (c : Bool). askFor c s (getD l (p + 1) 0) (getD l (p + 2) 0))
     (ap (λ (v : ℕ). eqb v equalityWord) (at-first k) ∙ ne-eqb w equalityWord (no-equality (t .head) (suc (length (t .ins)))))
 
--- the words of an equality are inside
-whole-equality : (x : Atom) (l : List ℕ) (p : ℕ) → At (atomWords x) l p → getD l p 0 ≡ equalityWord → p + 3 ≤ length l
-whole-equality (eqn r a b) l p s e = s .within
-whole-equality (tab t) l p s e = absurd (no-equality (t .head) (suc (length (t .ins))) (sym (at-first s) ∙ e))
+-- the first word tells an equality, and it has three
+pub eqn-met : (x : Atom) {l : List ℕ} {p : ℕ} → At (atomWords x) l p → getD l p 0 ≡ equalityWord → IsEqn x
+eqn-met (eqn r a b) s e = tt
+eqn-met (tab t) s e = absurd (no-equality (t .head) (suc (length (t .ins))) (sym (at-first s) ∙ e))
+
+pub eqn-size : (x : Atom) → IsEqn x → length (atomWords x) ≡ 3
+eqn-size (tab t) h = absurd h
+eqn-size (eqn p a b) h = refl
 
 -- ---- one replacement
 
@@ -89,7 +94,8 @@ made s {r} {xs} rs {m} {m₂} {p} {n} {d} {table} {buckets} v a b h em =
     let m₃ : List ℕ = splice m₁ table (em .spans) in
     let em₂ : m₂ ≡ splice m₃ (d - 3) bind = em .words ∙ ap (λ (x : List ℕ). splice (splice (splice m p x) table (em .spans)) (d - 3) bind) ws in
     let o₁ : Only m m₁ p (p + n) = only-splice m p (wordsOf atomWords ys) (p + n) (omega arith) (omega arith) in
-    let o₃ : Only m₁ m₃ table (table + 2 * buckets) = only-splice m₁ table (em .spans) (table + 2 * buckets) (omega (arith, em .size)) (omega (arith, o₁ .size)) in
+    let o₃ : Only m₁ m₃ table (table + 2 * buckets) =
+    only-splice m₁ table (em .spans) (table + 2 * buckets) (omega (arith, em .size)) (omega (arith, o₁ .size)) in
     let o₂ : Only m₃ (splice m₃ (d - 3) bind) (d - 3) d = only-splice m₃ (d - 3) bind d (omega arith) (omega (arith, o₁ .size, o₃ .size)) in
     let a₁ : At (wordsOf atomWords ys) m₁ p = at-splice m p (wordsOf atomWords ys) (omega arith) in
     let b₁ : At (bindingWords rs) (splice m₃ (d - 3) bind) d = at-after o₂ (at-after o₃ (at-after o₁ b (omega arith)) (omega arith)) (omega arith) in
@@ -104,7 +110,8 @@ made s {r} {xs} rs {m} {m₂} {p} {n} {d} {table} {buckets} v a b h em =
         within = omega (arith, o₂ .size, o₃ .size, o₁ .size, a .within);
       };
       binds = at-join b₂ b₁ (omega arith);
-      only = only-then (only-wide p d o₁ (omega arith) (omega arith)) (only-then (only-wide p d o₃ (omega arith) (omega arith)) (only-wide p d o₂ (omega arith) (omega arith)));
+      only = only-then (only-wide p d o₁ (omega arith) (omega arith))
+          (only-then (only-wide p d o₃ (omega arith) (omega arith)) (only-wide p d o₂ (omega arith) (omega arith)));
       between = λ us q z low high. let g : p + n ≤ q = omega (arith, before) in at-before o₂ (at-after o₃ (at-after o₁ z g) low) high;
       spanned = subst (λ (x : List ℕ). Spanned x p n table buckets) em₂ (em .spanned);
     })
@@ -131,7 +138,8 @@ asks-terms s {l} {p} q ea eb et =
 
 module _ (s : Sig) {l : List ℕ} {at n p d table buckets : ℕ} (c : StepAsks l at n p d table buckets) where
   asked-nothing : askAt s l p ≡ none → StepAnswers s l l at n p d table buckets d
-  asked-nothing e = (ap (λ (o : Option Replacement). placeAfter o d) (sym e), subst (λ (o : Option Replacement). Stepped o l l at n d table buckets) (sym e) refl)
+  asked-nothing e =
+      (ap (λ (o : Option Replacement). placeAfter o d) (sym e), subst (λ (o : Option Replacement). Stepped o l l at n d table buckets) (sym e) refl)
 
   -- no equality
   pub step-other : (getD l p 0 ≡ equalityWord → ⊥) → StepAnswers s l l at n p d table buckets d
@@ -144,7 +152,8 @@ module _ (s : Sig) {l : List ℕ} {at n p d table buckets : ℕ} (c : StepAsks l
 
   -- one whose replacement is made, which leaves m₁, and bound
   pub step-some : {t : Asked} {m₁ m : List ℕ} → t ≡ askedOf (askAt s l p) → t .yes ≡ true → span.Replacing l m₁ at n (t .old) (t .new) table buckets
-      → length m₁ ≡ length l → m ≡ splice m₁ (d - 3) (bindingWords (record { old = t .old; new = t .new } ∷ [])) → StepAnswers s l m at n p d table buckets (d - 3)
+      → length m₁ ≡ length l → m ≡ splice m₁ (d - 3) (bindingWords (record { old = t .old; new = t .new } ∷ []))
+      → StepAnswers s l m at n p d table buckets (d - 3)
   unfolding swap
   step-some {t} {m₁} {m} e y k size em =
       let r : Replacement = record { old = t .old; new = t .new } in
@@ -206,31 +215,37 @@ replacing-start {s} {l} {at} {n} {d₀} c =
     }
 
 module _ {s : Sig} {l m : List ℕ} {at n d₀ table buckets p d : ℕ} (w : Replacing s l m at n d₀ table buckets p d) where
-  sizes : n ≡ length (wordsOf atomWords (w .done)) + length (wordsOf atomWords (w .todo))
-  sizes = w .atoms .size ∙ length-words-append atomWords (w .done) (w .todo)
+  left : {ys : List Atom} → w .todo ≡ ys → n ≡ length (wordsOf atomWords (w .done)) + length (wordsOf atomWords ys)
+  left {ys} e =
+      w .atoms .size ∙ length-words-append atomWords (w .done) (w .todo)
+      ∙ ap (λ (zs : List Atom). length (wordsOf atomWords (w .done)) + length (wordsOf atomWords zs)) e
 
   pub next-atom : p < at + n → Next w
   next-atom h = go (w .todo) refl
     where
+      tail : At (wordsOf atomWords (w .todo)) m p
+      tail =
+          at-right (wordsOf atomWords (w .done)) p
+          (subst (λ (ws : List ℕ). At ws m at) (words-append atomWords (w .done) (w .todo)) (w .atoms .at)) (w .here)
+
       go : (ys : List Atom) → w .todo ≡ ys → Next w
-      go [] e = absurd (omega (arith, sizes, w .here, ap (λ (zs : List Atom). length (wordsOf atomWords zs)) e))
+      go [] e = absurd (omega (arith, left e, w .here))
       go (x ∷ xs) e =
           let f : Encodable x = all-right Encodable (w .done) (x ∷ xs) (subst (λ (ys : List Atom). All Encodable (w .done ++ ys)) e (w .atoms .fits)) .0 in
-          let tail : At (wordsOf atomWords (w .todo)) m p =
-          at-right (wordsOf atomWords (w .done)) p (subst (λ (ws : List ℕ). At ws m at) (words-append atomWords (w .done) (w .todo)) (w .atoms .at)) (w .here) in
           let k : At (atomWords x) m p = at-left (wordsOf atomWords xs) (subst (λ (ys : List Atom). At (wordsOf atomWords ys) m p) e tail) in
           let size : sizeAt m p ≡ length (atomWords x) = size-atom x f m p k in
+          let whole : getD m p 0 ≡ equalityWord → p + 3 ≤ length m = λ q. subst (λ (z : ℕ). p + z ≤ length m) (eqn-size x (eqn-met x k q)) (k .within) in
           record {
             atom = x;
             rest = xs;
             is = e;
             stands = k;
             size = size;
-            inside = omega (arith, sizes, w .here, ap (λ (zs : List Atom). length (wordsOf atomWords zs)) e, length-append (atomWords x) (wordsOf atomWords xs));
+            inside = omega (arith, left e, w .here, length-append (atomWords x) (wordsOf atomWords xs));
             some = omega (arith, two-atom x);
             asks = record {
               here = omega (arith, w .atoms .within);
-              whole = whole-equality x m p k;
+              whole = whole;
               spanned = w .spanned;
               room = omega (arith, w .room);
               top = omega (arith, w .binds .within);
@@ -242,8 +257,7 @@ module _ {s : Sig} {l m : List ℕ} {at n d₀ table buckets p d : ℕ} (w : Rep
     where
       go : (ys : List Atom) → w .todo ≡ ys → ys ≡ []
       go [] e = refl
-      go (x ∷ xs) e =
-          absurd (omega (arith, sizes, w .here, ap (λ (zs : List Atom). length (wordsOf atomWords zs)) e, length-append (atomWords x) (wordsOf atomWords xs), two-atom x))
+      go (x ∷ xs) e = absurd (omega (arith, left e, w .here, length-append (atomWords x) (wordsOf atomWords xs), two-atom x))
 
   module _ (t : Next w) {z : ℕ} (ez : z ≡ sizeAt m p) where
     abbrev x : Atom
@@ -307,9 +321,11 @@ module _ {s : Sig} {l m : List ℕ} {at n d₀ table buckets p d : ℕ} (w : Rep
         → Replacing s l m₂ at n d₀ table buckets (p + z) d₂
     replacing-next {m₂} {d₂} ed em =
         let q = ask-is s x m p (t .stands) in
-        go (asks s x) refl (ed ∙ ap (λ (o : Option Replacement). placeAfter o d) q) (subst (λ (o : Option Replacement). Stepped o m m₂ at n d table buckets) q em)
+        go (asks s x) refl (ed ∙ ap (λ (o : Option Replacement). placeAfter o d) q)
+        (subst (λ (o : Option Replacement). Stepped o m m₂ at n d table buckets) q em)
       where
-        go : (o : Option Replacement) → asks s x ≡ o → d₂ ≡ placeAfter o d → Stepped o m m₂ at n d table buckets → Replacing s l m₂ at n d₀ table buckets (p + z) d₂
+        go : (o : Option Replacement) → asks s x ≡ o → d₂ ≡ placeAfter o d → Stepped o m m₂ at n d table buckets
+            → Replacing s l m₂ at n d₀ table buckets (p + z) d₂
         go none e e₁ e₂ =
             subst (λ (v : List ℕ). Replacing s l v at n d₀ table buckets (p + z) d₂) (sym e₂)
             (subst (λ (k : ℕ). Replacing s l m at n d₀ table buckets (p + z) k) (sym e₁) (past e))
@@ -321,7 +337,8 @@ module _ {s : Sig} {l m : List ℕ} {at n d₀ table buckets p d : ℕ} (w : Rep
       let c : record { atoms = w .done; repls = w .rs } ≡ replaceAll s (atomsIn l at n) [] =
       sweep-end s (atomsIn l at n) [] (w .done) (w .rs) (subst (λ (ys : List Atom). Sweeping s (atomsIn l at n) [] (w .done) ys (w .rs)) e (w .sweep)) in
       record {
-        atoms = subst (λ (ys : List Atom). AtomsAt ys m at n) (ap (λ (ys : List Atom). w .done ++ ys) e ∙ append-nil (w .done) ∙ ap (λ (b : Body). b .atoms) c) (w .atoms);
+        atoms = subst (λ (ys : List Atom). AtomsAt ys m at n)
+            (ap (λ (ys : List Atom). w .done ++ ys) e ∙ append-nil (w .done) ∙ ap (λ (b : Body). b .atoms) c) (w .atoms);
         binds = subst (λ (b : Body). At (bindingWords (b .repls)) m d) c (w .binds);
         count = subst (λ (b : Body). d + 3 * length (b .repls) ≡ d₀) c (w .count);
         only = w .only;

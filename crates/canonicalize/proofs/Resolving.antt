@@ -14,9 +14,11 @@ use Rattle.rules.specs.Words.{limit12}
 use Rattle.meaning.proofs.Encodable.{resolve-encodable}
 use Rattle.meaning.proofs.Lists.{length-words-append}
 use Rattle.meaning.proofs.MergePass.{IsEqn}
-use Rattle.bodies.specs.Standing.{AtomsAt, TabsAt, atomsIn}
+use Rattle.meaning.specs.ReadBack.{Encodable}
+use Rattle.bodies.specs.Standing.{AtomsAt, Bare, TabsAt, atomsIn}
 use Rattle.bodies.proofs.Standing.{First, atoms-ahead, atoms-before, atoms-is, atoms-read, bare-resolve, first-atom, no-tabs, none-left, tabs-before, tabs-join}
 use Rattle.canonicalize.specs.Canonicalize.{ResolveAsks, ResolveOneAsks, Resolved, othersIn, resolveAt, resolveTerms, untilEqn}
+use Rattle.canonicalize.proofs.Replacing.{eqn-size}
 use Rattle.canonicalize.proofs.Runs.{StartsEqn, from-starts, fromEqn, run-inside, run-rest, run-tabs, until-resolve}
 
 -- ---- one equality
@@ -33,9 +35,19 @@ resolve-atom s l p (eqn r a b) h k = sym (resolve-pair s l p (sym (at-word 1 k (
     go true = refl
     go false = refl
 
-eqn-size : (x : Atom) → IsEqn x → length (atomWords x) ≡ 3
-eqn-size (tab t) h = absurd h
-eqn-size (eqn p a b) h = refl
+-- what it becomes is written at q
+pub resolved-there : (s : Sig) (x : Atom) {m : List ℕ} {p : ℕ} (q : ℕ) → s .valueEq < limit12 → IsEqn x → Encodable x → Bare x → At (atomWords x) m p
+    → q + length (resolveAt s m p) ≤ length m → TabsAt (resolve s (x ∷ [])) (splice m q (resolveAt s m p)) q (length (resolveAt s m p))
+resolved-there s x {m} {p} q v is fits bare stands h =
+    let new : List ℕ = resolveAt s m p in
+    let wrote : new ≡ wordsOf tabWords (resolve s (x ∷ [])) = resolve-atom s m p x is stands in
+    record {
+      fits = resolve-encodable s v (x ∷ []) (fits, tt);
+      bare = bare-resolve s (x ∷ []) (bare, tt);
+      size = ap length wrote;
+      at = subst (λ (ws : List ℕ). At ws (splice m q new) q) wrote (at-splice m q new h);
+      within = omega (arith, only-splice m q new (q + length new) refl h .size);
+    }
 
 pub resolve-cons : (s : Sig) (x : Atom) (xs : List Atom) → resolve s (x ∷ xs) ≡ resolve s (x ∷ []) ++ resolve s xs
 resolve-cons s (tab t) xs = refl
@@ -128,8 +140,9 @@ module _ {s : Sig} {l : List ℕ} {from n to : ℕ} (c : ResolveAsks s l from n 
       pub resolving-run : {m₂ : List ℕ} → m₂ ≡ splice m (to + k) (part m (from + i) r) → Ran s l m₂ from n to (i + r) (k + r)
       resolving-run {m₂} em =
           let new : List ℕ = wordsOf tabWords run in
-          let o : Only m (splice m (to + k) new) (to + k) (to + (k + r)) = only-splice m (to + k) new (to + (k + r)) (omega (arith, g .size)) (omega (arith, g .room)) in
-          let behind : TabsAt run (splice m (to + k) new) (to + k) r =
+          let m₁ : List ℕ = splice m (to + k) new in
+          let o : Only m m₁ (to + k) (to + (k + r)) = only-splice m (to + k) new (to + (k + r)) (omega (arith, g .size)) (omega (arith, g .room)) in
+          let behind : TabsAt run m₁ (to + k) r =
           record {
             fits = g .stands .fits;
             bare = g .stands .bare;
@@ -143,8 +156,9 @@ module _ {s : Sig} {l : List ℕ} {from n to : ℕ} (c : ResolveAsks s l from n 
               written = w .written ++ run;
               todo = rest;
               same = w .same ∙ ap (λ (ts : List Tab). w .written ++ ts) (until-resolve s (w .todo)) ∙ sym (append-assoc (w .written) run (resolve s rest));
-              atoms = atoms-before o (run-rest (w .atoms) (g .size) (from + (i + r)) (n - (i + r)) (omega arith) (omega arith)) (omega (arith, g .inside, c .clear));
-              tabs = tabs-join (w .written) run (splice m (to + k) new) to k (to + k) r (tabs-before o (w .tabs) (omega arith)) behind refl;
+              atoms = atoms-before o (run-rest (w .atoms) (g .size) (from + (i + r)) (n - (i + r)) (omega arith) (omega arith))
+                  (omega (arith, g .inside, c .clear));
+              tabs = tabs-join (w .written) run m₁ to k (to + k) r (tabs-before o (w .tabs) (omega arith)) behind refl;
               only = only-then (only-wide to (to + (k + r)) (w .only) (omega arith) (omega arith)) (only-wide to (to + (k + r)) o (omega arith) (omega arith));
               inside = g .inside;
               room = omega (arith, w .room, run-sizes (g .size));
@@ -157,29 +171,29 @@ module _ {s : Sig} {l : List ℕ} {from n to : ℕ} (c : ResolveAsks s l from n 
     abbrev w : Resolving s l m from n to i k
     w = g .here
 
-    resolve-here : First (w .todo) m (from + i) (n - i)
-    resolve-here = first-atom (w .todo) m (from + i) (n - i) (w .atoms) (omega arith)
+    next : First (w .todo) m (from + i) (n - i)
+    next = first-atom (w .todo) m (from + i) (n - i) (w .atoms) (omega arith)
 
-    is-eqn : IsEqn (resolve-here .atom)
-    is-eqn = subst (λ (xs : List Atom). StartsEqn xs) (resolve-here .is) (g .first)
+    is-eqn : IsEqn (next .atom)
+    is-eqn = subst (λ (xs : List Atom). StartsEqn xs) (next .is) (g .first)
 
-    three : length (atomWords (resolve-here .atom)) ≡ 3
-    three = eqn-size (resolve-here .atom) is-eqn
+    three : length (atomWords (next .atom)) ≡ 3
+    three = eqn-size (next .atom) is-eqn
 
     equality-inside : i + 3 ≤ n
-    equality-inside = omega (arith, three, resolve-here .inside)
+    equality-inside = omega (arith, three, next .inside)
 
-    wrote : resolveAt s m (from + i) ≡ wordsOf tabWords (resolve s (resolve-here .atom ∷ []))
-    wrote = resolve-atom s m (from + i) (resolve-here .atom) is-eqn (resolve-here .stands)
+    wrote : resolveAt s m (from + i) ≡ wordsOf tabWords (resolve s (next .atom ∷ []))
+    wrote = resolve-atom s m (from + i) (next .atom) is-eqn (next .stands)
 
-    split : resolve s (w .todo) ≡ resolve s (resolve-here .atom ∷ []) ++ resolve s (resolve-here .rest)
-    split = ap (resolve s) (resolve-here .is) ∙ resolve-cons s (resolve-here .atom) (resolve-here .rest)
+    split : resolve s (w .todo) ≡ resolve s (next .atom ∷ []) ++ resolve s (next .rest)
+    split = ap (resolve s) (next .is) ∙ resolve-cons s (next .atom) (next .rest)
 
-    sizes : length (wordsOf tabWords (resolve s (w .todo))) ≡ length (resolveAt s m (from + i)) + length (wordsOf tabWords (resolve s (resolve-here .rest)))
+    sizes : length (wordsOf tabWords (resolve s (w .todo))) ≡ length (resolveAt s m (from + i)) + length (wordsOf tabWords (resolve s (next .rest)))
     sizes =
         ap (λ (ts : List Tab). length (wordsOf tabWords ts)) split
-        ∙ length-words-append tabWords (resolve s (resolve-here .atom ∷ [])) (resolve s (resolve-here .rest))
-        ∙ ap (λ (ws : List ℕ). length ws + length (wordsOf tabWords (resolve s (resolve-here .rest)))) (sym wrote)
+        ∙ length-words-append tabWords (resolve s (next .atom ∷ [])) (resolve s (next .rest))
+        ∙ ap (λ (ws : List ℕ). length ws + length (wordsOf tabWords (resolve s (next .rest)))) (sym wrote)
 
     pub resolve-one-asks : ResolveOneAsks s m (from + i) (to + k)
     resolve-one-asks = record { whole = omega (arith, equality-inside, w .atoms .within); room = omega (arith, w .room, sizes, c .room, w .only .size) }
@@ -189,25 +203,17 @@ module _ {s : Sig} {l : List ℕ} {from n to : ℕ} (c : ResolveAsks s l from n 
         → m₂ ≡ splice m (to + k) (resolveAt s m (from + i)) → Resolving s l m₂ from n to (i + 3) (k + z)
     resolving-next v {m₂} {z} ez em =
         let new : List ℕ = resolveAt s m (from + i) in
-        let one : List Tab = resolve s (resolve-here .atom ∷ []) in
+        let one : List Tab = resolve s (next .atom ∷ []) in
         let m₁ : List ℕ = splice m (to + k) new in
         let o : Only m m₁ (to + k) (to + (k + z)) = only-splice m (to + k) new (to + (k + z)) (omega arith) (omega (arith, resolve-one-asks .room)) in
-        let at : At (wordsOf tabWords one) m₁ (to + k) =
-        subst (λ (ws : List ℕ). At ws m₁ (to + k)) wrote (at-splice m (to + k) new (resolve-one-asks .room)) in
-        let behind : TabsAt one m₁ (to + k) (length new) =
-        record {
-          fits = resolve-encodable s v (resolve-here .atom ∷ []) (resolve-here .fits, tt);
-          bare = bare-resolve s (resolve-here .atom ∷ []) (resolve-here .bare, tt);
-          size = ap length wrote;
-          at = at;
-          within = omega (arith, o .size, resolve-one-asks .room);
-        } in
+        let behind = resolved-there s (next .atom) (to + k) v is-eqn (next .fits) (next .bare) (next .stands) (resolve-one-asks .room) in
         subst (λ (x : List ℕ). Resolving s l x from n to (i + 3) (k + z)) (sym em)
         (record {
           written = w .written ++ one;
-          todo = resolve-here .rest;
-          same = w .same ∙ ap (λ (ts : List Tab). w .written ++ ts) split ∙ sym (append-assoc (w .written) one (resolve s (resolve-here .rest)));
-          atoms = atoms-before o (resolve-here .after (from + (i + 3)) (n - (i + 3)) (omega (arith, three)) (omega (arith, three))) (omega (arith, equality-inside, c .clear));
+          todo = next .rest;
+          same = w .same ∙ ap (λ (ts : List Tab). w .written ++ ts) split ∙ sym (append-assoc (w .written) one (resolve s (next .rest)));
+          atoms = atoms-before o (next .after (from + (i + 3)) (n - (i + 3)) (omega (arith, three)) (omega (arith, three)))
+              (omega (arith, equality-inside, c .clear));
           tabs = subst (λ (q : ℕ). TabsAt (w .written ++ one) m₁ to (k + q)) (sym ez)
               (tabs-join (w .written) one m₁ to k (to + k) (length new) (tabs-before o (w .tabs) (omega arith)) behind refl);
           only = only-then (only-wide to (to + (k + z)) (w .only) (omega arith) (omega arith)) (only-wide to (to + (k + z)) o (omega arith) (omega arith));
@@ -219,6 +225,7 @@ pub resolving-end : {s : Sig} {l m : List ℕ} {from n to i k : ℕ} → Resolvi
 resolving-end {s} {l} {m} {from} {n} {to} {i} {k} w h =
     let e = none-left (w .todo) m (from + i) (n - i) (w .atoms) (omega arith) in
     record {
-      tabs = subst (λ (ts : List Tab). TabsAt ts m to k) (sym (w .same ∙ ap (λ (xs : List Atom). w .written ++ resolve s xs) e ∙ append-nil (w .written))) (w .tabs);
+      tabs = subst (λ (ts : List Tab). TabsAt ts m to k)
+          (sym (w .same ∙ ap (λ (xs : List Atom). w .written ++ resolve s xs) e ∙ append-nil (w .written))) (w .tabs);
       only = w .only;
     }

@@ -16,7 +16,7 @@ use Rattle.meaning.specs.ReadBack.{Encodable, EncodableTab}
 use Rattle.bodies.specs.Standing.{AtomsAt, Bare, BareTab, TabsAt, atomsIn, sizeAt}
 use Rattle.bodies.proofs.Standing.{First, atoms-ahead, first-atom, none-left}
 use Rattle.canonicalize.specs.Canonicalize.{othersIn, untilEqn}
-use Rattle.canonicalize.proofs.Replacing.{no-equality}
+use Rattle.canonicalize.proofs.Replacing.{eqn-met}
 
 -- ---- a run, and the atoms from the first equality on
 
@@ -127,14 +127,9 @@ module _ {l : List ℕ} {from n : ℕ} (c : AtomsAt (atomsIn l from n) l from n)
 
     -- an equality is met
     pub passing-met : getD l (from + i) 0 ≡ equalityWord → i ≡ othersIn l from n
-    passing-met e = go (passing-here .atom) refl
-      where
-        go : (x : Atom) → passing-here .atom ≡ x → i ≡ othersIn l from n
-        go (tab t) q =
-            absurd (no-equality (t .head) (suc (length (t .ins))) (sym (at-first (subst (λ (x : Atom). At (atomWords x) l (from + i)) q (passing-here .stands))) ∙ e))
-        go (eqn p a b) q =
-            let is : w .todo ≡ eqn p a b ∷ passing-here .rest = passing-here .is ∙ ap (λ (x : Atom). x ∷ passing-here .rest) q in
-            omega (arith, w .size, until-eqn (w .todo) (subst (λ (xs : List Atom). StartsEqn xs) (sym is) tt))
+    passing-met e =
+        let first = eqn-met (passing-here .atom) (passing-here .stands) e in
+        omega (arith, w .size, until-eqn (w .todo) (subst (λ (xs : List Atom). StartsEqn xs) (sym (passing-here .is)) first))
 
     -- another atom is met, of z words
     pub passing-next : (getD l (from + i) 0 ≡ equalityWord → ⊥) → {z : ℕ} → z ≡ sizeAt l (from + i) → Passing l from n (i + z)

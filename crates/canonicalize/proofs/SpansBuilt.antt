@@ -58,7 +58,8 @@ whole-built {l} {m} {at} {n} {table} c e =
         let b : bucketOf 1 (getD k i 0) ≡ 0 = omega (arith, bucket-in 1 (getD k i 0) (omega arith)) in
         let e₁ : table + bucketOf 1 (getD k i 0) ≡ table + 0 = omega arith in
         let e₂ : table + 1 + bucketOf 1 (getD k i 0) ≡ table + 1 = omega arith in
-        in-span (getD k i 0) refl (subst (λ (j : ℕ). getD k j 0 ≤ i) (sym e₁) (omega (arith, low))) (subst (λ (j : ℕ). i < getD k j 0) (sym e₂) (omega (arith, high)))
+        in-span (getD k i 0) refl
+        (subst (λ (j : ℕ). getD k j 0 ≤ i) (sym e₁) (omega (arith, low))) (subst (λ (j : ℕ). i < getD k j 0) (sym e₂) (omega (arith, high)))
 
     end : (b : ℕ) → b < 1 → getD k (table + 1 + b) 0 ≤ at + n
     end b x =
@@ -73,7 +74,8 @@ pub record Fallen (l : List ℕ) (p table count b : ℕ) : Type 0 where
   pub span : OneSpan l table count b
   pub fits : length l < 2 ^ 64
 
-pub fallen : {l : List ℕ} {p table count w b : ℕ} → WidenAsks l p table count → length l < 2 ^ 64 → w ≡ getD l p 0 → (b ≡ bucketOf count w) × (b < count) → Fallen l p table count b
+pub fallen : {l : List ℕ} {p table count w b : ℕ} → WidenAsks l p table count → length l < 2 ^ 64
+    → w ≡ getD l p 0 → (b ≡ bucketOf count w) × (b < count) → Fallen l p table count b
 fallen {count = count} c fits ew eb = record { is = eb .0 ∙ ap (bucketOf count) ew; span = record { inside = eb .1; room = c .room }; fits = fits }
 
 pub widen-is : {l m₁ m₂ : List ℕ} {p table count b first v : ℕ} → Fallen l p table count b → first ≡ getD l (table + b) 0 → v ≡ lesser first p

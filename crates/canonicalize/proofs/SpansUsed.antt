@@ -16,7 +16,8 @@ use Rattle.octets.specs.Regions.{Only, part, splice, swap}
 use Rattle.bodies.specs.Buckets.{bucketOf}
 use Rattle.bodies.proofs.BucketLaws.{bucket-in}
 use Rattle.canonicalize.specs.Spans.{InSpan, Replacing, Spanned, greater, lesser}
-use Rattle.canonicalize.proofs.SpanLaws.{OneSpan, greater-below, greater-most, high-here, in-span, lesser-least, low-here, only-spliced, wide-end, wide-high, wide-low, wide-only}
+use Rattle.canonicalize.proofs.SpanLaws.{OneSpan, greater-below, greater-most, in-span, lesser-least, only-spliced}
+use Rattle.canonicalize.proofs.SpanLaws.{high-here, low-here, wide-end, wide-high, wide-low, wide-only}
 
 -- ---- words of which each becomes another
 
@@ -298,22 +299,26 @@ seen {l} {at} {n} {table} {count} {c} {x} {y} {b₁} f {low} {high} el eh =
     }
 
 -- the replacement is made over it, which leaves m
-pub record Passed {l : List ℕ} {at n table count : ℕ} {c : Spanned l at n table count} {x y b₁ b₂ : ℕ} {f : Found c x y b₁ b₂} {low high : ℕ} (g : Seen f low high) (m : List ℕ) : Type 0 where
+pub record Passed {l : List ℕ} {at n table count : ℕ} {c : Spanned l at n table count} {x y b₁ b₂ : ℕ} {f : Found c x y b₁ b₂} {low high : ℕ}
+    (g : Seen f low high) (m : List ℕ) : Type 0 where
   pub all : m ≡ everywhere c x y
   pub inside : table + b₂ + count < length m
   pub fits : length m < 2 ^ 64
 
-module _ {l : List ℕ} {at n table count : ℕ} {c : Spanned l at n table count} {x y b₁ b₂ : ℕ} {f : Found c x y b₁ b₂} {low high : ℕ} (g : Seen f low high) where
-  pub passed : {from : ℕ} {m : List ℕ} → from ≡ greater at low → m ≡ splice l from (map (swap x y) (part l from (high - from))) → Passed g m
-  passed {from} {m} ef em =
-      let is : m ≡ everywhere c x y = em ∙ ap (λ (j : ℕ). along c x y j high) ef ∙ (λ i. along c x y (greater at (g .lowIs i)) (g .highIs i)) ∙ over-span c x y in
-      let size : length m ≡ length l = ap length is ∙ everywhere-only c x y .size in
-      record { all = is; inside = omega (arith, f); fits = omega (arith, f .fits) }
+pub passed : {l : List ℕ} {at n table count : ℕ} {c : Spanned l at n table count} {x y b₁ b₂ : ℕ} {f : Found c x y b₁ b₂} {low high : ℕ}
+    (g : Seen f low high) {from : ℕ} {m : List ℕ} → from ≡ greater at low → m ≡ splice l from (map (swap x y) (part l from (high - from))) → Passed g m
+passed {l} {at} {c = c} {x = x} {y = y} {f = f} {high = high} g {m = m} ef em =
+    let is : m ≡ everywhere c x y =
+    em ∙ ap (λ (j : ℕ). along c x y j high) ef ∙ (λ i. along c x y (greater at (g .lowIs i)) (g .highIs i)) ∙ over-span c x y in
+    let size : length m ≡ length l = ap length is ∙ everywhere-only c x y .size in
+    record { all = is; inside = omega (arith, f); fits = omega (arith, f .fits) }
 
+module _ {l : List ℕ} {at n table count : ℕ} {c : Spanned l at n table count} {x y b₁ b₂ : ℕ} {f : Found c x y b₁ b₂} {low high : ℕ}
+    {g : Seen f low high} {m : List ℕ} (k : Passed g m) where
   -- the words at both ends of y's span are put anew
-  pub replaced : {m m₂ m₃ : List ℕ} {first last u v : ℕ} → Passed g m → first ≡ getD m (table + b₂) 0 → last ≡ getD m (table + b₂ + count) 0
+  pub replaced : {m₂ m₃ : List ℕ} {first last u v : ℕ} → first ≡ getD m (table + b₂) 0 → last ≡ getD m (table + b₂ + count) 0
       → u ≡ lesser first low → v ≡ greater last high → m₂ ≡ set m (table + b₂) u → m₃ ≡ set m₂ (table + b₂ + count) v → Replacing l m₃ at n x y table count
-  replaced {m} {m₂} {m₃} {first} {last} {u} {v} k ef el eu ev em₂ em₃ =
+  replaced {m₂} {m₃} {first} {last} {u} {v} ef el eu ev em₂ em₃ =
       subst (λ (z : List ℕ). Replacing l z at n x y table count) (sym is) (taken-good c x y)
     where
       low-value : u ≡ lesser (getD m (table + b₂) 0) low

@@ -37,7 +37,8 @@ returns c = leads (start (c .before .before) .pre) (c .before .before .before .l
 
 -- ---- an equality is met
 
-at-equality : (c : tie.Else1 Inv-loop μ-loop) → let a = start (c .before .before) .args in Leading (words (a .s .now)) (a .at) (a .n) (c .before .before .before .loop .i + 3)
+at-equality : (c : tie.Else1 Inv-loop μ-loop)
+    → let a = start (c .before .before) .args in Leading (words (a .s .now)) (a .at) (a .n) (c .before .before .before .loop .i + 3)
 at-equality c =
     let t = c .before .before in
     leading-next (start t .pre) (t .before .loop .inv) (t .loop-test .taken) (sym (c .before .get .ensures .is) ∙ c .if1 .left)

@@ -64,7 +64,8 @@ loop-less c = let t = at-atom (size-turn c) in omega (arith, c .size .ensures, t
 loop-again : tie.Need-loop-again Inv-loop μ-loop
 loop-again c =
     let t = size-turn c in
-    passing-next (start t .pre) (t .before .loop .inv) (t .loop-test .taken) (λ e. c .before .if1 .left (c .before .before .get .ensures .is ∙ e)) (c .size .ensures)
+    let g = c .before .before .get .ensures .is in
+    passing-next (start t .pre) (t .before .loop .inv) (t .loop-test .taken) (λ e. c .before .if1 .left (g ∙ e)) (c .size .ensures)
 
 -- ---- nothing is left
 

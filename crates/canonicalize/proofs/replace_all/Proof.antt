@@ -61,7 +61,8 @@ loop-again : tie.Need-loop-again Inv-loop μ-loop
 loop-again c =
     let r = c .before .before in
     let w = turn r .before .loop .inv in
-    (r .replace-step .kept .0 ∙ w .0, replacing-next (w .1) (at-next (turn r)) (r .before .before .size .ensures) (r .replace-step .ensures .0) (r .replace-step .ensures .1))
+    let k = r .replace-step .ensures in
+    (r .replace-step .kept .0 ∙ w .0, replacing-next (w .1) (at-next (turn r)) (r .before .before .size .ensures) (k .0) (k .1))
 
 -- ---- none is left
 

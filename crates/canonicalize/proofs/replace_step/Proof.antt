@@ -59,8 +59,8 @@ asked-start c = start (asked-else c .before)
 
 at-asked : (c : tie.After-replacement-of) → let a = asked-start c .args in c .replacement-of .result ≡ askedOf (askAt (sig (a .q)) (words (a .s .now)) (a .p))
 at-asked c =
-    let g = c .before in
-    asks-terms (sig (asked-start c .args .q)) (at-equality (asked-else c)) (g .before .before .get2 .ensures .is) (g .get3 .ensures .is) (c .replacement-of .ensures)
+    let x = c .before .before .before .get2 .ensures .is in
+    asks-terms (sig (asked-start c .args .q)) (at-equality (asked-else c)) x (c .before .get3 .ensures .is) (c .replacement-of .ensures)
 
 -- ---- nothing is asked
 
@@ -102,8 +102,8 @@ returns-3 : tie.Need-returns-3
 returns-3 c =
     let r = c .before .before .before .before .before .before in
     let k = replace-asked r in
-    step-some (sig (asked-start k .args .q)) (asked-start k .pre .1) (at-asked k) (not-false _ (r .before .before .if2 .left)) (r .replace .ensures) (size-kept r)
-    (c .before .before .put-three .ensures .1)
+    step-some (sig (asked-start k .args .q)) (asked-start k .pre .1) (at-asked k) (not-false _ (r .before .before .if2 .left))
+    (r .replace .ensures) (size-kept r) (c .before .before .put-three .ensures .1)
 
 pub replace-step-spec : {M : Type 1} → statement M
 replace-step-spec =

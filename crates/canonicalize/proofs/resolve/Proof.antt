@@ -9,7 +9,8 @@ use Rattle.octets.proofs.Words.{length-words}
 use Rattle.octets.specs.Regions.{beyond}
 use Rattle.octets.specs.Words.{words}
 use Rattle.bodies.specs.Terms.{sig}
-use Rattle.canonicalize.proofs.Resolving.{Bounds, Ran, Resolving, Run, bounds, others-here, resolve-one-asks, resolving-end, resolving-next, resolving-run, resolving-start, run-next}
+use Rattle.canonicalize.proofs.Resolving.{Bounds, Ran, Resolving, Run, bounds, others-here, resolve-one-asks, run-next}
+use Rattle.canonicalize.proofs.Resolving.{resolving-end, resolving-next, resolving-run, resolving-start}
 use Rattle.canonicalize.proofs.resolve.Statement.{statement}
 use Rattle.canonicalize.proofs.resolve.Tie as tie
 
@@ -99,7 +100,8 @@ returns c = resolving-end (at-carry (c .before .before .before) .here) (omega ar
 abbrev else-carry : tie.Else1 Inv-loop μ-loop → Carry
 else-carry c = c .before .before .before
 
-at-more : (c : tie.Else1 Inv-loop μ-loop) → turn (else-carry c) .before .loop .i + else-carry c .before .before .others .result < start (turn (else-carry c)) .args .n
+at-more : (c : tie.Else1 Inv-loop μ-loop)
+    → let k = else-carry c in turn k .before .loop .i + k .before .before .others .result < start (turn k) .args .n
 at-more c = omega (arith, at-carried (else-carry c) .inside, c .if1 .left)
 
 add-resolve-one : tie.Need-add-resolve-one Inv-loop μ-loop

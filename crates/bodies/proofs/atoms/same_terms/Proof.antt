@@ -1,6 +1,6 @@
 -- Terms are compared in pairs: where a pair differs the rows do, and where none is left they agree. Assumes nothing.
 use mathlib.Core.Path.{_∙_, refl, sym}
-use Prim.Native.Nat.{_+_, _-_}
+use Prim.Native.Nat.{_-_}
 use native.Mathlib.Omega.{arith}
 use borrow.Author.Needs.{needs}
 use borrow.Author.Tests.{eqb-false, eqb-true, not-false, not-true}

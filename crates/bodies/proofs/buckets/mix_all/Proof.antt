@@ -1,8 +1,7 @@
 -- Mixing a row of words into a key: after i turns the first i are mixed, in their order. Assumes nothing.
 use mathlib.Core.Path.{_∙_, _≡_, ap, sym}
-use Prim.Native.Nat.{_+_, _-_, _<_, _≤_, ℕ}
+use Prim.Native.Nat.{_-_, _≤_, ℕ}
 use native.Mathlib.Omega.{arith}
-use lib.ListN.{length}
 use borrow.Author.Needs.{needs}
 use Rattle.octets.proofs.Words.{length-words}
 use Rattle.octets.specs.Regions.{part}

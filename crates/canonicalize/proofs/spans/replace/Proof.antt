@@ -87,6 +87,9 @@ get3-between c = c .before .before .before .before
 abbrev least-between : tie.After-least → tie.After-replace-between
 least-between c = get3-between (c .before .before .before .before)
 
+abbrev put-between : tie.After-put → tie.After-replace-between
+put-between c = least-between (c .before)
+
 abbrev greatest-put : tie.After-greatest → tie.After-put
 greatest-put c = c .before .before .before .before
 
@@ -106,7 +109,7 @@ put-requires : tie.Need-put-requires
 put-requires c κs = omega (arith, at-between (least-between c))
 
 add-put : tie.Need-add-put
-add-put c = omega (arith, at-between (least-between (c .before .before .before .before)))
+add-put c = omega (arith, at-between (put-between (c .before .before .before)))
 
 greatest-requires : tie.Need-greatest-requires
 greatest-requires c κs = search needs
@@ -114,7 +117,8 @@ greatest-requires c κs = search needs
 put-requires-2 : tie.Need-put-requires-2
 put-requires-2 c κs =
     let p = greatest-put c in
-    omega (arith, at-between (least-between (p .before)), length-words-kept (p .put .last .0) (least-between (p .before) .replace-between .last .0) (p .put .kept .0))
+    let b = put-between p in
+    omega (arith, at-between b, length-words-kept (p .put .last .0) (b .replace-between .last .0) (p .put .kept .0))
 
 same-length-2 : tie.Need-same-length-2
 same-length-2 c = search needs
@@ -124,7 +128,7 @@ returns-2 c =
     let g = c .before .before .before in
     let p = greatest-put g in
     let e = p .before .before .before in
-    replaced (at-span (least-between (p .before) .before .before .before)) (at-between (least-between (p .before))) (e .before .before .get3 .ensures .is) (e .get4 .ensures .is)
+    replaced (at-between (put-between p)) (e .before .before .get3 .ensures .is) (e .get4 .ensures .is)
     (p .before .least .ensures) (g .greatest .ensures) (p .put .ensures) (c .before .before .put2 .ensures)
 
 pub replace-spec : {M : Type 1} → statement M
