@@ -1,10 +1,10 @@
 -- The steps of `canonicalize` make the whole: equalities in front, all replacements in what is left, and what becomes of it. Assumes nothing.
 use mathlib.Core.List.{List, [], _++_, _∷_, append-assoc}
 use mathlib.Core.Path.{_∙_, _≡_, ap, ap₂, refl, subst, sym}
-use Prim.Native.Nat.{_*_, _+_, _-_, _^_, _<_, _≤_, suc, ℕ}
+use Prim.Native.Nat.{_*_, _+_, _-_, _^_, _<_, _≤_, ℕ}
 use native.Mathlib.Omega.{arith}
 use lib.ListN.{getD, length, length-append}
-use Rattle.octets.proofs.Places.{at-after, at-first, at-join, at-nil, only-then, only-wide}
+use Rattle.octets.proofs.Places.{at-after, at-join, at-nil, only-then, only-wide}
 use Rattle.octets.specs.Regions.{At, Only}
 use Rattle.rules.specs.Canonicalize.{Replacement, canonicalize, replaceAll, resolve}
 use Rattle.rules.specs.Flat.{Atom, Tab, atomWords, eqn, tab, tabWords, wordsOf}

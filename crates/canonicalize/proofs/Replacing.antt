@@ -80,41 +80,75 @@ pub record Made (r : Replacement) (xs : List Atom) (rs : List Replacement) (m m�
   pub between : (ws : List ℕ) (q : ℕ) → At ws m q → table + 2 * buckets ≤ q → q + length ws ≤ d - 3 → At ws m₂ q
   pub spanned : Spanned m₂ p n table buckets
 
-pub made : (s : Sig) {r : Replacement} {xs : List Atom} (rs : List Replacement) {m m₂ : List ℕ} {p n d table buckets : ℕ} → isVar s (r .old) ≡ true
-    → AtomsAt xs m p n → At (bindingWords rs) m d → table + 2 * buckets + 3 ≤ d → Swept r m m₂ p n d table buckets → Made r xs rs m m₂ p n d table buckets
-made s {r} {xs} rs {m} {m₂} {p} {n} {d} {table} {buckets} v a b h em =
-    let ys : List Atom = map (replaceAtom r) xs in
-    let bind : List ℕ = bindingWords (r ∷ []) in
-    let ws : map (replaceTerm r) (part m p n) ≡ wordsOf atomWords ys =
-    ap (map (replaceTerm r)) (ap (part m p) (a .size) ∙ a .at .words) ∙ replace-words s r v xs (a .fits) in
-    let n₁ : length (wordsOf atomWords ys) ≡ n = length-replaced r xs ∙ sym (a .size) in
-    let before : p + n ≤ table = em .spanned .beyond in
-    let top : d ≤ length m = omega (arith, b .within) in
-    let m₁ : List ℕ = splice m p (wordsOf atomWords ys) in
-    let m₃ : List ℕ = splice m₁ table (em .spans) in
-    let em₂ : m₂ ≡ splice m₃ (d - 3) bind = em .words ∙ ap (λ (x : List ℕ). splice (splice (splice m p x) table (em .spans)) (d - 3) bind) ws in
-    let o₁ : Only m m₁ p (p + n) = only-splice m p (wordsOf atomWords ys) (p + n) (omega arith) (omega arith) in
-    let o₃ : Only m₁ m₃ table (table + 2 * buckets) =
-    only-splice m₁ table (em .spans) (table + 2 * buckets) (omega (arith, em .size)) (omega (arith, o₁ .size)) in
-    let o₂ : Only m₃ (splice m₃ (d - 3) bind) (d - 3) d = only-splice m₃ (d - 3) bind d (omega arith) (omega (arith, o₁ .size, o₃ .size)) in
-    let a₁ : At (wordsOf atomWords ys) m₁ p = at-splice m p (wordsOf atomWords ys) (omega arith) in
-    let b₁ : At (bindingWords rs) (splice m₃ (d - 3) bind) d = at-after o₂ (at-after o₃ (at-after o₁ b (omega arith)) (omega arith)) (omega arith) in
-    let b₂ : At bind (splice m₃ (d - 3) bind) (d - 3) = at-splice m₃ (d - 3) bind (omega (arith, o₁ .size, o₃ .size)) in
-    subst (λ (x : List ℕ). Made r xs rs m x p n d table buckets) (sym em₂)
-    (record {
-      atoms = record {
-        fits = replaced-encodable r xs (a .fits);
-        bare = bare-replaced r xs (a .bare);
-        size = sym n₁;
-        at = at-before o₂ (at-before o₃ a₁ (omega arith)) (omega arith);
-        within = omega (arith, o₂ .size, o₃ .size, o₁ .size, a .within);
-      };
-      binds = at-join b₂ b₁ (omega arith);
-      only = only-then (only-wide p d o₁ (omega arith) (omega arith))
-          (only-then (only-wide p d o₃ (omega arith) (omega arith)) (only-wide p d o₂ (omega arith) (omega arith)));
-      between = λ us q z low high. let g : p + n ≤ q = omega (arith, before) in at-before o₂ (at-after o₃ (at-after o₁ z g) low) high;
-      spanned = subst (λ (x : List ℕ). Spanned x p n table buckets) em₂ (em .spanned);
-    })
+module _ (s : Sig) {r : Replacement} {xs : List Atom} (rs : List Replacement) {m m₂ : List ℕ} {p n d table buckets : ℕ} (v : isVar s (r .old) ≡ true)
+    (a : AtomsAt xs m p n) (b : At (bindingWords rs) m d) (h : table + 2 * buckets + 3 ≤ d) (w : Swept r m m₂ p n d table buckets) where
+  -- three rows are written, in this order: the atoms anew, the table, the binding
+  abbrev ys : List Atom
+  ys = map (replaceAtom r) xs
+
+  abbrev bind : List ℕ
+  bind = bindingWords (r ∷ [])
+
+  abbrev anew : List ℕ
+  anew = splice m p (wordsOf atomWords ys)
+
+  abbrev tabled : List ℕ
+  tabled = splice anew table (w .spans)
+
+  abbrev bound : List ℕ
+  bound = splice tabled (d - 3) bind
+
+  clear : p + n ≤ table
+  clear = w .spanned .beyond
+
+  size : length (wordsOf atomWords ys) ≡ n
+  size = length-replaced r xs ∙ sym (a .size)
+
+  anew-only : Only m anew p (p + n)
+  anew-only = only-splice m p (wordsOf atomWords ys) (p + n) (omega (arith, size)) (omega (arith, clear, b .within))
+
+  tabled-only : Only anew tabled table (table + 2 * buckets)
+  tabled-only = only-splice anew table (w .spans) (table + 2 * buckets) (omega (arith, w .size)) (omega (arith, anew-only .size, b .within))
+
+  bound-only : Only tabled bound (d - 3) d
+  bound-only = only-splice tabled (d - 3) bind d (omega arith) (omega (arith, anew-only .size, tabled-only .size, b .within))
+
+  bound-is : m₂ ≡ bound
+  bound-is =
+      let replaced : map (replaceTerm r) (part m p n) ≡ wordsOf atomWords ys =
+      ap (map (replaceTerm r)) (ap (part m p) (a .size) ∙ a .at .words) ∙ replace-words s r v xs (a .fits) in
+      w .words ∙ ap (λ (x : List ℕ). splice (splice (splice m p x) table (w .spans)) (d - 3) bind) replaced
+
+  atoms-there : At (wordsOf atomWords ys) bound p
+  atoms-there =
+      at-before bound-only
+      (at-before tabled-only (at-splice m p (wordsOf atomWords ys) (omega (arith, size, a .within))) (omega (arith, size, clear)))
+      (omega (arith, size, clear))
+
+  binds-there : At (bindingWords (r ∷ rs)) bound (d - 3)
+  binds-there =
+      let new : At bind bound (d - 3) = at-splice tabled (d - 3) bind (omega (arith, anew-only .size, tabled-only .size, b .within)) in
+      let old : At (bindingWords rs) tabled d = at-after tabled-only (at-after anew-only b (omega (arith, clear))) (omega arith) in
+      at-join new (at-after bound-only old (omega arith)) (omega arith)
+
+  pub made : Made r xs rs m m₂ p n d table buckets
+  made =
+      subst (λ (x : List ℕ). Made r xs rs m x p n d table buckets) (sym bound-is)
+      (record {
+        atoms = record {
+          fits = replaced-encodable r xs (a .fits);
+          bare = bare-replaced r xs (a .bare);
+          size = sym size;
+          at = atoms-there;
+          within = omega (arith, bound-only .size, tabled-only .size, anew-only .size, a .within);
+        };
+        binds = binds-there;
+        only = only-then (only-wide p d anew-only (omega arith) (omega (arith, clear)))
+            (only-then (only-wide p d tabled-only (omega (arith, clear)) (omega arith)) (only-wide p d bound-only (omega (arith, clear)) (omega arith)));
+        between = λ us q z low high. let g : p + n ≤ q = omega (arith, clear) in
+            at-before bound-only (at-after tabled-only (at-after anew-only z g) low) high;
+        spanned = subst (λ (x : List ℕ). Spanned x p n table buckets) bound-is (w .spanned);
+      })
 
 -- ---- `replace_step`: the atom at p is tried
 

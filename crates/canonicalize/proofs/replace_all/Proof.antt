@@ -1,4 +1,4 @@
--- Making all replacements: no atom that was passed asks again, so one sweep, in which each atom is tried where it stands, makes as many as `replaceAll`.
+-- Making all replacements: no atom that was passed asks again, so one sweep, in which each atom is tried where it stands, makes those of `replaceAll`.
 -- Assumes nothing.
 use mathlib.Core.Path.{_∙_, _≡_, refl}
 use Prim.Native.Nat.{_+_, _-_}

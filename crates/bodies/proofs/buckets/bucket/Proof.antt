@@ -1,4 +1,4 @@
--- A word's bucket is the upper half of its key times the count: a key is below 2^32, so that is below the count. Assumes nothing.
+-- A word's bucket is the upper half of the product of its key and the count: a key is below 2^32, so that half is below the count. Assumes nothing.
 use mathlib.Core.Path.{_∙_, _≡_, ap, refl, subst, sym}
 use Prim.Native.Nat.{ℕ, _*_, _/_, _<_}
 use native.Mathlib.Nat.{mul-lt-mul-of-pos-right}

@@ -1,4 +1,4 @@
--- Mixing a word into a key is the definition's own sum, which fits 64 bits before the rest is taken. Assumes nothing.
+-- Mixing a word into a key is the definition's own sum, which fits 64 bits before the remainder is taken. Assumes nothing.
 use mathlib.Core.Path.{refl}
 use borrow.Author.Needs.{needs}
 use Rattle.bodies.specs.Buckets.{mix}

@@ -1,4 +1,4 @@
--- Below the names that are no globals there is no variable, and from them on every term is one: so the one test decides. Assumes nothing.
+-- Below the first name that is no global there is no variable, and from it on every term is one: so the one test decides. Assumes nothing.
 use mathlib.Core.Path.{sym}
 use borrow.Author.Needs.{needs}
 use Rattle.bodies.proofs.Variables.{high-var, low-no-var}
