@@ -1,5 +1,5 @@
 -- Flattening a call and a row of arguments: the one proof of their cycle. The depth falls at each call's arguments. What is known at a place of the
--- code is said once, as a record of `Arguments` or `Calls`, and the needs behind that place cite it. Assumes nothing.
+-- code is said once, as a record of `Arguments`, `Exprs` or `Calls`, and the needs behind that place cite it. Assumes nothing.
 use Prim.Native.Nat.{ℕ, _+_, _*_, _-_, _^_, _<_}
 use mathlib.Core.Path.{_≡_, refl, _∙_}
 use native.Mathlib.Omega.{arith}
@@ -10,8 +10,8 @@ use Rattle.walks.specs.declared.Walk.{Walk}
 use Rattle.walks.proofs.Turns.{Turn}
 use Rattle.query.proofs.Spots.{Spot, Held, onward}
 use Rattle.query.proofs.Arguments.{here, Row, row-start, row-turn, row-done, row-stop, row-next}
-use Rattle.query.proofs.Calls.{leaf-answer, Begun, begun, none-left, Named, Fronted, around-room, leaves-answer}
-use Rattle.query.proofs.Calls.{args-known, args-room, Argued, args-refused, atom-asks, call-answer}
+use Rattle.query.proofs.Exprs.{leaf-answer, Begun, begun, none-left, Named}
+use Rattle.query.proofs.Calls.{Fronted, around-room, leaves-answer, args-known, args-room, Argued, args-refused, atom-asks, call-answer}
 use borrow.Author.Needs.{needs}
 use borrow.Fn.Kinds.{In, Out}
 use borrow.Fn.PlainCycle.{Measures, is, falls, and}

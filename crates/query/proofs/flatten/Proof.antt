@@ -6,7 +6,7 @@ use Rattle.octets.specs.Words.{words}
 use Rattle.octets.proofs.Words.{length-words}
 use Rattle.walks.proofs.Asks.{expr-inside}
 use Rattle.query.proofs.Spots.{Spot}
-use Rattle.query.proofs.Calls.{leaf-answer}
+use Rattle.query.proofs.Exprs.{leaf-answer}
 use borrow.Author.Needs.{needs}
 use Rattle.query.proofs.flatten.Statement.{statement}
 use Rattle.query.proofs.flatten.Tie as tie
