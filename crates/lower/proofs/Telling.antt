@@ -1,4 +1,5 @@
--- From the contract of `tulgarent_lower`, on the bytes that the program lends, to what its answer tells of `lowerAll`. Assumes nothing.
+-- From the contract of `tulgarent_lower`, on the bytes that the program lends, to what its answer tells of `lowerAll`. What is known of the bytes lent is
+-- a record, `Cut`. Assumes nothing.
 use mathlib.Core.Path.{_≡_, sym, ap, _∙_}
 use mathlib.Core.Bool.{Bool, true, false≢true}
 use mathlib.Core.List.{List, [], _∷_, _++_}
@@ -77,45 +78,100 @@ module _ (sb rb cb ob : List ℕ) (sc : ℕ) {r : Answer} {m d : List ℕ} (g : 
 
 -- ---- the program's call
 
--- there is a counter for each word of the signature
-pub signature-most : (ws : List ℕ) (n k : ℕ) → n ≤ maxLines → n ≤ length ws → k ≡ signatureLength (part ws 0 n) → k ≤ maxLines
-signature-most ws n k few all is = omega (arith, length-most (part ws 0 n) (omega (arith, length-part ws 0 n (omega arith))))
+-- the bytes of the words, of which `count` are lowered; the signature's length, and where the words are cut; the bytes of counters, output and scratch
+pub record Given : Type 0 where
+  pub given : List ℕ
+  pub count : ℕ
+  pub signature : ℕ
+  pub cut : ℕ
+  pub counters : List ℕ
+  pub output : List ℕ
+  pub scratch : List ℕ
 
--- n words of l; k is the signature's length, and the cut lies there or at the end
-module _ (l : List ℕ) (n k cut : ℕ) (cs ob : List ℕ) (sc : ℕ) (few : n ≤ maxLines) (all : n ≤ length (words l)) (is : k ≡ signatureLength (part (words l) 0 n)) (here : cut ≡ min k n)
-    (z : Zeros (4 * maxLines) cs) (room : length ob ≡ 4 * scratchWords) (work : sc ≡ 4 * scratchWords) where
+-- the cut lies behind the signature, or at the end if the words end before it
+pub record Cut (k : Given) : Type 0 where
+  pub all : k .count ≤ length (words (k .given))
+  pub is : k .signature ≡ signatureLength (part (words (k .given)) 0 (k .count))
+  pub here : k .cut ≡ min (k .signature) (k .count)
+  pub zeros : Zeros (4 * maxLines) (k .counters)
+  pub room : length (k .output) ≡ 4 * scratchWords
+  pub work : length (k .scratch) ≡ 4 * scratchWords
+  -- there is a counter for each word of the signature
+  pub most : k .signature ≤ maxLines
+  pub inside : k .cut ≤ k .count
+  pub bytes : 4 * k .count ≤ length (k .given)
+  pub counted : 4 * k .signature ≤ length (k .counters)
+
+pub cut-there : (k : Given) → (k .count ≤ maxLines) × (k .count ≤ length (words (k .given))) → k .signature ≡ signatureLength (part (words (k .given)) 0 (k .count))
+    → k .cut ≡ min (k .signature) (k .count) → Zeros (4 * maxLines) (k .counters)
+    → (length (k .output) ≡ 4 * scratchWords) × (length (k .scratch) ≡ 4 * scratchWords) → Cut k
+cut-there k counts is here zeros rooms =
+    let all = counts .1 in
+    let size = length-part (words (k .given)) 0 (k .count) (omega arith) in
+    let most : k .signature ≤ maxLines = omega (arith, counts .0, length-most (part (words (k .given)) 0 (k .count)) (omega (arith, counts .0))) in
+    record {
+      all = all;
+      is = is;
+      here = here;
+      zeros = zeros;
+      room = rooms .0;
+      work = rooms .1;
+      most = most;
+      inside = omega arith;
+      bytes = omega (arith, length-words (k .given));
+      counted = omega (arith, zeros .size);
+    }
+
+module _ {k : Given} (h : Cut k) where
   abbrev ws : List ℕ
-  ws = part (words l) 0 n
+  ws = part (words (k .given)) 0 (k .count)
 
   abbrev sb : List ℕ
-  sb = take (4 * cut) l
+  sb = take (4 * k .cut) (k .given)
 
   abbrev rb : List ℕ
-  rb = midOf (4 * cut) (4 * n - 4 * cut) l
+  rb = midOf (4 * k .cut) (4 * k .count - 4 * k .cut) (k .given)
 
   abbrev cb : List ℕ
-  cb = take (4 * k) cs
+  cb = take (4 * k .signature) (k .counters)
 
-  most : k ≤ maxLines
-  most = signature-most (words l) n k few all is
+  abbrev lengths : List ℕ
+  lengths = length sb ∷ length rb ∷ length cb ∷ length (k .output) ∷ length (k .scratch) ∷ []
 
-  whole : wholeWords (length sb ∷ length rb ∷ length cb ∷ length ob ∷ sc ∷ []) ≡ true
+  pub signature-lent : length sb ≡ 4 * k .cut
+  signature-lent = length-take-le (4 * k .cut) (k .given) (omega (arith, h .inside, h .bytes))
+
+  pub counters-lent : length cb ≡ 4 * k .signature
+  counters-lent = length-take-le (4 * k .signature) (k .counters) (h .counted)
+
+  whole : wholeWords lengths ≡ true
   whole =
-      let bytes = length-words l in
-      let a : length sb ≡ 4 * cut = length-take-le (4 * cut) l (omega arith) in
-      let b : length rb ≡ 4 * n - 4 * cut = mid-len (4 * cut) (4 * n) l (omega arith) in
-      let c : length cb ≡ 4 * k = length-take-le (4 * k) cs (omega (arith, most, z .size)) in
-      rw (eq-eqb (length sb % 4) 0 (omega arith), eq-eqb (length rb % 4) 0 (omega arith), eq-eqb (length cb % 4) 0 (omega arith), eq-eqb (length ob % 4) 0 (omega arith), eq-eqb (sc % 4) 0 (omega arith))
+      let a = signature-lent in
+      let b : length rb ≡ 4 * k .count - 4 * k .cut = mid-len (4 * k .cut) (4 * k .count) (k .given) (omega (arith, h .bytes)) in
+      let c = counters-lent in
+      let o = h .room in
+      let s = h .work in
+      rw (
+        eq-eqb (length sb % 4) 0 (omega arith),
+        eq-eqb (length rb % 4) 0 (omega arith),
+        eq-eqb (length cb % 4) 0 (omega arith),
+        eq-eqb (length (k .output) % 4) 0 (omega arith),
+        eq-eqb (length (k .scratch) % 4) 0 (omega arith),
+      )
 
-  comes : lowerRes sb rb cb ob sc ≡ lowerAll ws
+  comes : lowerRes sb rb cb (k .output) (length (k .scratch)) ≡ lowerAll ws
   comes =
-      let a : words sb ≡ take (signatureLength ws) ws = ap (λ (i : ℕ). words (take (4 * i) l)) here ∙ signature-cut l n k all ∙ ap (λ (i : ℕ). take i ws) is in
-      let b : words rb ≡ drop (signatureLength ws) ws = ap (λ (i : ℕ). words (midOf (4 * i) (4 * n - 4 * i) l)) here ∙ rule-cut l n k all ∙ ap (λ (i : ℕ). drop i ws) is in
-      let c : words cb ≡ replicate (signatureLength ws) 0 = zeros-words cs maxLines k z most ∙ ap (λ (i : ℕ). replicate i 0) is in
-      let d : length ob / 4 ≡ scratchWords = omega arith in
-      let e : sc / 4 ≡ scratchWords = omega arith in
-      ap (λ (t : Bool). _>>=_ (demand t ragged 0 (length sb ∷ length rb ∷ length cb ∷ length ob ∷ sc ∷ [])) (λ ns. lowerWords (words sb) (words rb) (words cb) (length ob / 4) (sc / 4))) whole
-      ∙ (λ i. lowerWords (a i) (b i) (c i) (d i) (e i))
+      let signature : words sb ≡ take (signatureLength ws) ws =
+      ap (λ (i : ℕ). words (take (4 * i) (k .given))) (h .here) ∙ signature-cut (k .given) (k .count) (k .signature) (h .all) ∙ ap (λ (i : ℕ). take i ws) (h .is) in
+      let rule : words rb ≡ drop (signatureLength ws) ws =
+      ap (λ (i : ℕ). words (midOf (4 * i) (4 * k .count - 4 * i) (k .given))) (h .here) ∙ rule-cut (k .given) (k .count) (k .signature) (h .all)
+      ∙ ap (λ (i : ℕ). drop i ws) (h .is) in
+      let counters : words cb ≡ replicate (signatureLength ws) 0 =
+      zeros-words (k .counters) maxLines (k .signature) (h .zeros) (h .most) ∙ ap (λ (i : ℕ). replicate i 0) (h .is) in
+      let room : length (k .output) / 4 ≡ scratchWords = omega (arith, h .room) in
+      let work : length (k .scratch) / 4 ≡ scratchWords = omega (arith, h .work) in
+      ap (λ (t : Bool). _>>=_ (demand t ragged 0 lengths) (λ ns. lowerWords (words sb) (words rb) (words cb) (length (k .output) / 4) (length (k .scratch) / 4))) whole
+      ∙ (λ i. lowerWords (signature i) (rule i) (counters i) (room i) (work i))
 
-  pub tells-all : {r : Answer} {m d : List ℕ} → GivesBoth (lower sb rb cb ob sc) r m d → Tells (lowerAll ws) r (words m)
-  tells-all g = tells sb rb cb ob sc g (lowerAll ws) comes
+  pub tells-all : {r : Answer} {m d : List ℕ} → GivesBoth (lower sb rb cb (k .output) (length (k .scratch))) r m d → Tells (lowerAll ws) r (words m)
+  tells-all g = tells sb rb cb (k .output) (length (k .scratch)) g (lowerAll ws) comes

@@ -1,4 +1,5 @@
--- The program's text, by how far it came: a line refused, a rule refused, a result. Assumes nothing.
+-- The program's text, by how far it came: a line refused, a rule refused, a result. What is known once a rule is lowered is a record, `Told`. Assumes
+-- nothing.
 use mathlib.Core.Path.{_≡_, refl, sym, ap, _∙_}
 use mathlib.Core.List.{List}
 use Prim.Native.Nat.{ℕ, _≤_}
@@ -19,51 +20,64 @@ use Rattle.lines.proofs.Texts.{wrote-same, printed-accepted}
 use Rattle.tulgarent.specs.declared.Answer.{Answer}
 use Rattle.lower.specs.Answers.{Tells}
 
--- the text is in place: n bytes of it turned l into m
-module _ {l m : List ℕ} {n : ℕ} (input : List ℕ) where
-  -- what is printed, once the lines are read
-  by-lines : (x : Res (List ℕ)) → readLines input ≡ x → Wrote l 0 (printed (_>>=_ x lowerAll)) m n → Wrote l 0 (program input) m n
-  unfolding program
-  by-lines x e w = wrote-same (sym (ap (λ (y : Res (List ℕ)). printed (_>>=_ y lowerAll)) e)) w
+-- what is printed, once the lines are read: n bytes of it turned l into m
+by-lines : {l m : List ℕ} {n : ℕ} (input : List ℕ) (x : Res (List ℕ)) → readLines input ≡ x → Wrote l 0 (printed (_>>=_ x lowerAll)) m n
+    → Wrote l 0 (program input) m n
+unfolding program
+by-lines input x e w = wrote-same (sym (ap (λ (y : Res (List ℕ)). printed (_>>=_ y lowerAll)) e)) w
 
-  module _ {before after : List ℕ} (r : Lines) (told : LinesRead input before after r) where
-    pub wrote-line : (r .refused ≡ 0 → ⊥) → Wrote l 0 (printed (refuse (r .refused) (r .place))) m n → Wrote l 0 (program input) m n
-    wrote-line h w = by-lines (refuse (r .refused) (r .place)) (line-refused told h) w
+pub wrote-line : {input before after : List ℕ} {r : Lines} → LinesRead input before after r → (r .refused ≡ 0 → ⊥) → {l m : List ℕ} {n : ℕ}
+    → Wrote l 0 (printed (refuse (r .refused) (r .place))) m n → Wrote l 0 (program input) m n
+wrote-line {input} {r = r} told h w = by-lines input (refuse (r .refused) (r .place)) (line-refused told h) w
 
-    module _ (fine : r .refused ≡ 0) (a : Answer) (output : List ℕ) (tells : Tells (lowerAll (part after 0 (r .count))) a output) where
-      -- what is printed, once the rule is lowered
-      by-lowering : (x : Res Result) → lowerAll (part after 0 (r .count)) ≡ x → Wrote l 0 (printed x) m n → Wrote l 0 (program input) m n
-      by-lowering x e w = by-lines (ok (part after 0 (r .count))) (words-read told fine) (wrote-same (ap printed (sym e)) w)
+-- ---- the lines are read as words, and the rule in them is lowered: the answer is a, and the words of its output are `output`
 
-      pub wrote-refusal : (a .number ≡ 0 → ⊥) → Wrote l 0 (printed (refuse (a .number) (a .place))) m n → Wrote l 0 (program input) m n
-      wrote-refusal h w = go (lowerAll (part after 0 (r .count))) refl tells
-        where
-          go : (x : Res Result) → lowerAll (part after 0 (r .count)) ≡ x → Tells x a output → Wrote l 0 (program input) m n
-          go (ok o) e t = absurd (h (t .fine))
-          go (refuse k p) e t = by-lowering (refuse k p) e (wrote-same (λ i. printed (refuse (t .number′ i) (t .place′ i))) w)
+pub record Told (input : List ℕ) (a : Answer) (output : List ℕ) : Type 0 where
+  pub given : List ℕ
+  pub read : readLines input ≡ ok given
+  pub tells : Tells (lowerAll given) a output
 
-      pub wrote-result : a .number ≡ 0 → Wrote l 0 (printed (accepted (part output 0 (a .words)) (a .replacements) (a .passes))) m n → Wrote l 0 (program input) m n
-      wrote-result good w = go (lowerAll (part after 0 (r .count))) refl tells
-        where
-          go : (x : Res Result) → lowerAll (part after 0 (r .count)) ≡ x → Tells x a output → Wrote l 0 (program input) m n
-          go (ok o) e t = by-lowering (ok o) e (wrote-same ((λ i. printed (accepted (t .words′ i) (t .replacements′ i) (t .passes′ i))) ∙ printed-accepted o) w)
-          go (refuse k p) e t = absurd (omega (arith, t .some, t .number′))
+pub told : {input before after : List ℕ} {r : Lines} → LinesRead input before after r → r .refused ≡ 0 → {a : Answer} {output : List ℕ}
+    → Tells (lowerAll (part after 0 (r .count))) a output → Told input a output
+told lines fine tells = record { given = _; read = words-read lines fine; tells = tells }
+
+module _ {input : List ℕ} {a : Answer} {output : List ℕ} (t : Told input a output) where
+  by-lowering : {l m : List ℕ} {n : ℕ} (x : Res Result) → lowerAll (t .given) ≡ x → Wrote l 0 (printed x) m n → Wrote l 0 (program input) m n
+  by-lowering x e w = by-lines input (ok (t .given)) (t .read) (wrote-same (ap printed (sym e)) w)
+
+  pub wrote-refusal : (a .number ≡ 0 → ⊥) → {l m : List ℕ} {n : ℕ} → Wrote l 0 (printed (refuse (a .number) (a .place))) m n → Wrote l 0 (program input) m n
+  wrote-refusal h {l} {m} {n} w = go (lowerAll (t .given)) refl (t .tells)
+    where
+      go : (x : Res Result) → lowerAll (t .given) ≡ x → Tells x a output → Wrote l 0 (program input) m n
+      go (ok o) e z = absurd (h (z .fine))
+      go (refuse k p) e z = by-lowering (refuse k p) e (wrote-same (λ i. printed (refuse (z .number′ i) (z .place′ i))) w)
+
+  pub wrote-result : a .number ≡ 0 → {l m : List ℕ} {n : ℕ} → Wrote l 0 (printed (accepted (part output 0 (a .words)) (a .replacements) (a .passes))) m n
+      → Wrote l 0 (program input) m n
+  wrote-result good {l} {m} {n} w = go (lowerAll (t .given)) refl (t .tells)
+    where
+      go : (x : Res Result) → lowerAll (t .given) ≡ x → Tells x a output → Wrote l 0 (program input) m n
+      go (ok o) e z = by-lowering (ok o) e (wrote-same ((λ i. printed (accepted (z .words′ i) (z .replacements′ i) (z .passes′ i))) ∙ printed-accepted o) w)
+      go (refuse k p) e z = absurd (omega (arith, z .some, z .number′))
+
+  -- an accepted answer's words are there
+  pub result-few : a .number ≡ 0 → a .words ≤ length output
+  result-few good = go (lowerAll (t .given)) (t .tells)
+    where
+      go : (x : Res Result) → Tells x a output → a .words ≤ length output
+      go (ok o) z = z .few
+      go (refuse k p) z = absurd (omega (arith, z .some, z .number′))
 
 -- what `main` reads is enough: its first bytes print what the whole input prints
 pub wrote-enough : {l m : List ℕ} {n : ℕ} (input : List ℕ) → Wrote l 0 (program (take inputBytes input)) m n → Wrote l 0 (program input) m n
 wrote-enough input w = wrote-same (program-enough input) w
 
--- an accepted answer's words are there
-pub result-few : (x : Res Result) (a : Answer) (output : List ℕ) → Tells x a output → a .number ≡ 0 → a .words ≤ length output
-result-few (ok o) a output t good = t .few
-result-few (refuse k p) a output t good = absurd (omega (arith, t .some, t .number′))
-
 -- what was written lies within the text
-pub counts-written : {l m xs : List ℕ} {r : ℕ} → Wrote l 0 xs m r → length m ≡ length l → Counts r m
-counts-written {l} {m} {xs} {r} w e =
+pub with-count : {l m xs : List ℕ} {r : ℕ} → Wrote l 0 xs m r → length m ≡ length l → Wrote l 0 xs m r × Counts r m
+with-count {l} {m} {xs} {r} w e =
     let front : take r m ≡ xs = ap (take r) (w .bytes) ∙ take-splice-all l 0 xs r (omega arith) (w .end) in
     let size : r ≡ length (take r m) = omega (arith, w .end, ap length front) in
-    (bound r m size, size)
+    (w, (bound r m size, size))
   where
     bound : (r : ℕ) (m : List ℕ) → r ≡ length (take r m) → r ≤ length m
     bound r m e = omega (arith, length-take r m)

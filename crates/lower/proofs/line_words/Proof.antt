@@ -1,4 +1,4 @@
--- `lower::line_words` meets its contract: each byte of a repeated zero is zero. Assumes nothing.
+-- Each byte of a repeated zero is zero. Assumes nothing.
 use Prim.Native.Nat.{ℕ}
 use lib.ListN.{length-replicate, getD-replicate}
 use Rattle.lower.proofs.line_words.Statement.{statement}

@@ -1,4 +1,4 @@
--- `lower::main` meets its contract: the room that it lends is as large as `print_program` asks. Assumes nothing.
+-- The room that it lends is as large as `print_program` asks, and the counters in it are zero. Assumes nothing.
 use mathlib.Core.Path.{sym}
 use borrow.Author.Needs.{needs}
 use native.Mathlib.Omega.{arith}
@@ -51,11 +51,21 @@ slice-aggregate-print-program-5 c = search needs
 slice-aggregate-print-program-6 : tie.Need-slice-aggregate-print-program-6
 slice-aggregate-print-program-6 c = search needs
 
+-- back to where the last of the buffers is made
+abbrev buffers : tie.After-input2 → tie.After-large-buffer2
+buffers c = c .before .before .before
+
 print-program-requires : tie.Need-print-program-requires
 print-program-requires c κs =
-    let given = c .before .before .before .before .before .before .before .before .before .before .before .before .line-words in
-    let text = c .before .before .before .before .before .before .before .before .before .before .before .before .before .text-room in
-    (omega (arith, text .ensures), ((omega (arith, length-words (given .result), given .ensures .size), c .before .before .before .before .before .before .before .before .before .before .before .line-words2 .ensures), (sym (c .before .before .before .before .before .before .before .before .before .before .large-buffer .ensures), sym (c .before .before .before .before .before .before .before .before .before .large-buffer2 .ensures))))
+    let b = buffers (c .before .before .before .before .before .before) in
+    let n = b .before .before in
+    let words = n .before .line-words in (
+      omega (arith, n .before .before .text-room .ensures),
+      (
+        (omega (arith, length-words (words .result), words .ensures .size), n .line-words2 .ensures),
+        (sym (b .before .large-buffer .ensures), sym (b .large-buffer2 .ensures)),
+      ),
+    )
 
 array-share-prefix-text : tie.Need-array-share-prefix-text
 array-share-prefix-text c = search needs

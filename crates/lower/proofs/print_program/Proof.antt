@@ -1,16 +1,28 @@
--- `lower::print_program` meets its contract: a line refused, a rule refused, or a result is what `program` prints. Assumes nothing.
+-- The program prints a line that is refused, a rule that is refused, or a result, and each is what `program` prints of the bytes read. Assumes nothing.
+use Prim.Native.Nat.{_*_, _≤_}
+use mathlib.Core.Path.{_≡_}
+use lib.ListN.{length}
 use borrow.Author.Needs.{needs}
 use native.Mathlib.Omega.{arith}
 use Rattle.octets.specs.Words.{words}
-use Rattle.octets.specs.Regions.{part}
-use Rattle.octets.proofs.Words.{length-words}
-use Rattle.rules.specs.Program.{lowerAll}
-use Rattle.lower.proofs.Whole.{wrote-line, wrote-refusal, wrote-result, result-few, counts-written}
+use Rattle.octets.proofs.Words.{length-words, length-words-kept}
+use Rattle.lower.proofs.Whole.{wrote-line, Told, told, wrote-refusal, wrote-result, result-few, with-count}
 use Rattle.lower.proofs.print_program.Statement.{statement}
 use Rattle.lower.proofs.print_program.Tie as tie
 
+-- ---- the lines are read
+
+abbrev start : tie.After-read-lines → tie.Start
+start c = let k = c .before .before .before .before in k .before .before .before .before
+
+-- the words given are as many as there were
+given-kept : (c : tie.After-read-lines) → length (words (c .read-lines .last .1 .0)) ≡ length (words (start c .args .given .now))
+given-kept c = length-words-kept _ _ (c .read-lines .kept .1 .0)
+
 read-lines-requires : tie.Need-read-lines-requires
 read-lines-requires c κs = search needs
+
+-- ---- a line is refused
 
 cast-print-refused : tie.Need-cast-print-refused
 cast-print-refused c = search needs
@@ -26,15 +38,38 @@ same-length-2 c = search needs
 
 returns : tie.Need-returns
 returns c =
-    let lines = c .before .before .before .before .before .before .before .before .before .read-lines in
-    let wrote = wrote-line (c .before .before .before .before .before .before .before .before .before .before .before .before .before .before .before .before .before .args .input .now) (lines .result) (lines .ensures) (c .before .before .before .before .before .if1 .taken) (c .before .before .print-refused .ensures) in
-    (wrote, counts-written wrote (c .before .before .print-refused .kept .0))
+    let p = c .before .before in
+    let t = p .before .before .before in
+    let lines = t .before .before .before .before .read-lines in
+    with-count (wrote-line (lines .ensures) (t .if1 .taken) (p .print-refused .ensures)) (p .print-refused .kept .0)
+
+-- ---- the rule in them is lowered
+
+abbrev else-lines : tie.Else1 → tie.After-read-lines
+else-lines c = c .before .before .before .before
 
 lower-words-requires : tie.Need-lower-words-requires
 lower-words-requires c κs =
-    let lines = c .before .before .before .before .before .before .before .before .read-lines in
-    let asks = c .before .before .before .before .before .before .before .before .before .before .before .before .before .before .before .before .pre in
-    ((lines .ensures .few, omega (arith, lines .ensures .few, asks .1 .0 .0, lines .kept .1 .0, length-words (c .before .before .before .before .before .before .before .before .before .before .before .before .before .before .before .before .args .given .now), length-words (lines .last .1 .0))), (asks .1 .0 .1, asks .1 .1))
+    let e = else-lines (c .before .before .before .before) in
+    let lines = e .read-lines in
+    let asks = start e .pre in
+    ((lines .ensures .few, omega (arith, lines .ensures .few, asks .1 .0 .0, given-kept e)), (asks .1 .0 .1, asks .1 .1))
+
+abbrev lower-else : tie.After-lower-words → tie.Else1
+lower-else c = c .before .before .before .before .before
+
+at-lower : (c : tie.After-lower-words)
+    → let w = c .lower-words in Told (start (else-lines (lower-else c)) .args .input .now) (w .result) (words (w .last .1 .1 .1 .0))
+at-lower c = let e = lower-else c in told (else-lines e .read-lines .ensures) (e .if1 .left) (c .lower-words .ensures)
+
+output-kept : (c : tie.After-lower-words) → 4 * length (words (c .lower-words .last .1 .1 .1 .0)) ≤ length (start (else-lines (lower-else c)) .args .output .now)
+output-kept c = omega (arith, length-words (c .lower-words .last .1 .1 .1 .0), c .lower-words .kept .1 .1 .1 .0)
+
+-- the answer is known, and the three slices are back
+abbrev back : tie.After-struct-known3 → tie.After-lower-words
+back c = let s = c .before .before .before in s .before .before .before .before
+
+-- ---- it is refused
 
 print-refused-requires-2 : tie.Need-print-refused-requires-2
 print-refused-requires-2 c κs = search needs
@@ -56,18 +91,19 @@ same-length-7 c = search needs
 
 returns-2 : tie.Need-returns-2
 returns-2 c =
-    let lines = c .before .before .before .before .before .before .before .before .before .before .before .before .before .before .before .before .before .before .before .before .before .read-lines in
-    let lowered = c .before .before .before .before .before .before .before .before .before .before .before .before .lower-words in
-    let wrote = wrote-refusal (c .before .before .before .before .before .before .before .before .before .before .before .before .before .before .before .before .before .before .before .before .before .before .before .before .before .before .before .before .before .args .input .now) (lines .result) (lines .ensures) (c .before .before .before .before .before .before .before .before .before .before .before .before .before .before .before .before .before .if1 .left) (lowered .result) (words (lowered .last .1 .1 .1 .0)) (lowered .ensures) (c .before .before .before .before .if2 .taken) (c .before .before .print-refused2 .ensures) in
-    (wrote, counts-written wrote (c .before .before .print-refused2 .kept .0))
+    let p = c .before .before in
+    let t = p .before .before in
+    with-count (wrote-refusal (at-lower (back (t .before))) (t .if2 .taken) (p .print-refused2 .ensures)) (p .print-refused2 .kept .0)
+
+-- ---- it is accepted
 
 print-ok-requires : tie.Need-print-ok-requires
 print-ok-requires c κs =
-    let lines = c .before .before .before .before .before .before .before .before .before .before .before .before .before .before .before .before .before .before .before .read-lines in
-    let lowered = c .before .before .before .before .before .before .before .before .before .before .lower-words in
-    let asks = c .before .before .before .before .before .before .before .before .before .before .before .before .before .before .before .before .before .before .before .before .before .before .before .before .before .before .before .pre in
-    let few = result-few (lowerAll (part (words (lines .last .1 .0)) 0 (lines .result .count))) (lowered .result) (words (lowered .last .1 .1 .1 .0)) (lowered .ensures) (c .before .before .if2 .left) in
-    (omega (arith, asks .0, asks .1 .1 .0, few, lowered .kept .1 .1 .1 .0, length-words (lowered .last .1 .1 .1 .0)), few)
+    let e = c .before .before in
+    let w = back (e .before) in
+    let asks = start (else-lines (lower-else w)) .pre in
+    let few = result-few (at-lower w) (e .if2 .left) in
+    (omega (arith, asks .0, asks .1 .1 .0, few, output-kept w), few)
 
 same-length-8 : tie.Need-same-length-8
 same-length-8 c = search needs
@@ -86,10 +122,9 @@ same-length-12 c = search needs
 
 returns-3 : tie.Need-returns-3
 returns-3 c =
-    let lines = c .before .before .before .before .before .before .before .before .before .before .before .before .before .before .before .before .before .before .before .before .before .before .read-lines in
-    let lowered = c .before .before .before .before .before .before .before .before .before .before .before .before .before .lower-words in
-    let wrote = wrote-result (c .before .before .before .before .before .before .before .before .before .before .before .before .before .before .before .before .before .before .before .before .before .before .before .before .before .before .before .before .before .before .args .input .now) (lines .result) (lines .ensures) (c .before .before .before .before .before .before .before .before .before .before .before .before .before .before .before .before .before .before .if1 .left) (lowered .result) (words (lowered .last .1 .1 .1 .0)) (lowered .ensures) (c .before .before .before .before .before .if2 .left) (c .before .before .print-ok .ensures) in
-    (wrote, counts-written wrote (c .before .before .print-ok .kept .0))
+    let p = c .before .before in
+    let e = p .before .before .before in
+    with-count (wrote-result (at-lower (back (e .before))) (e .if2 .left) (p .print-ok .ensures)) (p .print-ok .kept .0)
 
 pub print-program-spec : {M : Type 1} → statement M
 print-program-spec =
