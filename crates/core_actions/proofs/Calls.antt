@@ -8,10 +8,9 @@ use native.Mathlib.Omega.{arith}
 use lib.ListN.{length, getD}
 use Rattle.octets.specs.Regions.{splice, part}
 use Rattle.octets.proofs.Splice.{length-part}
-use Rattle.rules.specs.Words.{literalBase, headBase, freshBase, headWord, actionWord, headOf, countOf}
+use Rattle.rules.specs.Words.{literalBase, freshBase, headWord, actionWord, headOf, countOf}
 use Rattle.rules.specs.Refusals.{Res, ok, _>>=_, unbound, usedUp}
 use Rattle.rules.specs.Signature.{Sig}
-use Rattle.rules.specs.Written.{Expr}
 use Rattle.rules.specs.ToQuery.{Fresh, fresh}
 use Rattle.rules.specs.ToCoreActions.{readable}
 use Rattle.walks.specs.Log.{Taken}
