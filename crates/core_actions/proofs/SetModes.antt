@@ -10,7 +10,7 @@ use borrow.Author.Tests.{eq-eqb, ne-eqb, ltb-true, ltb-false, le-leb, lt-leb}
 use Rattle.rules.specs.Words.{limit12, maxDepth, nameBase, literalBase, headBase, signatureBase, headOf}
 use Rattle.rules.specs.Signature.{Sig, heads, isConstructor, isName}
 use Rattle.rules.specs.Written.{Expr, Exprs, leaf, call}
-use Rattle.walks.specs.Steps.{Under}
+use Rattle.walks.specs.Steps.{Under, ExprAt}
 use Rattle.walks.proofs.Read.{leaf-cases, call-cases}
 use Rattle.walks.proofs.Asks.{expr-inside}
 use Rattle.core_actions.specs.Acts.{PairAt, Signed, setMode}
@@ -29,88 +29,43 @@ kind-off true true n = refl
 kind-off true false n = refl
 kind-off false b n = refl
 
+-- the flag is off; a call on the left is no constructor's; a leaf on the left is no name
 mode-off : (sig : Sig) (a b : Expr) → sig .flag ≡ false → 0 ≡ setMode sig a b
 mode-off sig (leaf p w) (leaf q v) off = refl
 mode-off sig (leaf p w) (call q h es) off = sym (rw off (flag-off (isName w) (isConstructor sig h) 2))
 mode-off sig (call q h es) (leaf p w) off = sym (rw off (flag-off (isName w) (isConstructor sig h) 1))
 mode-off sig (call p h es) (call q g fs) off = refl
 
-module _ (sig : Sig) (ws : List ℕ) (few : heads sig ≤ limit12) (at : ℕ) (x : PairAt sig ws at) (w : ℕ) (is : w ≡ getD ws (at + 1) 0) where
-  abbrev Mode : ℕ → Type 0
-  Mode r = r ≡ setMode sig (x .left .value) (x .right .value)
+mode-plain : (sig : Sig) (p h : ℕ) (es : Exprs) (b : Expr) → isConstructor sig h ≡ false → 0 ≡ setMode sig (call p h es) b
+mode-plain sig p h es (leaf q v) no′ = sym (rw no′ (kind-off (isName v) (sig .flag) 1))
+mode-plain sig p h es (call q g fs) no′ = refl
 
-  -- the left side is a call
-  module _ (low : w < literalBase) where
-    left-high : headBase ≤ w
-    left-high = call-cases sig ws few (λ t k. headBase ≤ w) maxDepth (at + 1) w (x .left) is low (λ es deep high h. high)
+mode-nameless : (sig : Sig) (p w : ℕ) (b : Expr) → w < nameBase → 0 ≡ setMode sig (leaf p w) b
+mode-nameless sig p w (leaf q v) small = refl
+mode-nameless sig p w (call q h es) small = sym (rw (lt-leb nameBase w small))
 
-    left-head : headOf w < heads sig
-    left-head = call-cases sig ws few (λ t k. headOf w < heads sig) maxDepth (at + 1) w (x .left) is low (λ es deep high h. h)
+-- ---- a side is what its first word says
 
-    left-no : isConstructor sig (headOf w) ≡ false → Mode 0
-    left-no no′ = call-cases sig ws few (λ t k. 0 ≡ setMode sig t (x .right .value)) maxDepth (at + 1) w (x .left) is low (λ es deep high h. go (es .value) (x .right .value))
+module _ (sig : Sig) (ws : List ℕ) (few : heads sig ≤ limit12) (at : ℕ) (x : ExprAt sig ws maxDepth at) (w : ℕ) (is : w ≡ getD ws at 0) where
+  call-word : w < literalBase → (headBase ≤ w) × (headOf w < heads sig)
+  call-word low = call-cases sig ws few (λ t k. (headBase ≤ w) × (headOf w < heads sig)) maxDepth at w x is low (λ es deep high h. (high, h))
+
+  leaf-size : literalBase ≤ w → x .size ≡ 1
+  leaf-size high = leaf-cases sig ws few (λ t k. k ≡ 1) maxDepth at w x is high (λ i o. refl)
+
+  module _ (P : Expr → Type 0) where
+    side-call : w < literalBase → ((es : Exprs) → P (call at (headOf w) es)) → P (x .value)
+    side-call low f = call-cases sig ws few (λ t k. P t) maxDepth at w x is low (λ es deep high h. f (es .value))
+
+    side-leaf : literalBase ≤ w → P (leaf at w) → P (x .value)
+    side-leaf high p = leaf-cases sig ws few (λ t k. P t) maxDepth at w x is high (λ i o. p)
+
+    side : ((es : Exprs) → P (call at (headOf w) es)) → P (leaf at w) → P (x .value)
+    side f p = go (ltb w literalBase) refl
       where
-        go : (es : Exprs) (b : Expr) → 0 ≡ setMode sig (call (at + 1) (headOf w) es) b
-        go es (leaf p v) = sym (rw no′ (kind-off (isName v) (sig .flag) 1))
-        go es (call p h fs) = refl
-
-    module _ (v : ℕ) (isv : v ≡ getD ws (at + 1 + x .left .size) 0) where
-      -- what follows is no name
-      left-low : v < nameBase → Mode 0
-      left-low small = call-cases sig ws few (λ t k. 0 ≡ setMode sig t (x .right .value)) maxDepth (at + 1) w (x .left) is low (λ es deep high h. right (es .value) (ltb v literalBase) refl)
-        where
-          right : (es : Exprs) (b : Bool) → ltb v literalBase ≡ b → 0 ≡ setMode sig (call (at + 1) (headOf w) es) (x .right .value)
-          right es true t =
-              call-cases sig ws few (λ t k. 0 ≡ setMode sig (call (at + 1) (headOf w) es) t) maxDepth (at + 1 + x .left .size) v (x .right) isv (ltb-true v literalBase t) (λ fs deep high h. refl)
-          right es false t =
-              leaf-cases sig ws few (λ t k. 0 ≡ setMode sig (call (at + 1) (headOf w) es) t) maxDepth (at + 1 + x .left .size) v (x .right) isv (ltb-false v literalBase t)
-              (λ i o. sym (rw (lt-leb nameBase v small)))
-
-      left-set : sig .flag ≡ true → isConstructor sig (headOf w) ≡ true → nameBase ≤ v → Mode 1
-      left-set on yes′ name =
-          call-cases sig ws few (λ t k. 1 ≡ setMode sig t (x .right .value)) maxDepth (at + 1) w (x .left) is low
-          (λ es deep high h. leaf-cases sig ws few (λ t k. 1 ≡ setMode sig (call (at + 1) (headOf w) (es .value)) t) maxDepth (at + 1 + x .left .size) v (x .right) isv (omega arith)
-          (λ i o. sym (rw (le-leb nameBase v name, on, yes′))))
-
-  -- the left side is a leaf
-  module _ (high : literalBase ≤ w) where
-    right-at : at + 1 + x .left .size ≡ at + 2
-    right-at = leaf-cases sig ws few (λ t k. at + 1 + k ≡ at + 2) maxDepth (at + 1) w (x .left) is high (λ i o. omega arith)
-
-    right-low : w < nameBase → Mode 0
-    right-low small = leaf-cases sig ws few (λ t k. 0 ≡ setMode sig t (x .right .value)) maxDepth (at + 1) w (x .left) is high (λ i o. go (x .right .value))
-      where
-        go : (b : Expr) → 0 ≡ setMode sig (leaf (at + 1) w) b
-        go (leaf p v) = refl
-        go (call p h es) = sym (rw (lt-leb nameBase w small))
-
-    module _ (v : ℕ) (isv : v ≡ getD ws (at + 2) 0) where
-      there : v ≡ getD ws (at + 1 + x .left .size) 0
-      there = isv ∙ ap (λ (i : ℕ). getD ws i 0) (sym right-at)
-
-      right-leaf : literalBase ≤ v → Mode 0
-      right-leaf big =
-          leaf-cases sig ws few (λ t k. 0 ≡ setMode sig t (x .right .value)) maxDepth (at + 1) w (x .left) is high
-          (λ i o. leaf-cases sig ws few (λ t k. 0 ≡ setMode sig (leaf (at + 1) w) t) maxDepth (at + 1 + x .left .size) v (x .right) there big (λ j u. refl))
-
-      module _ (small : v < literalBase) where
-        right-high : headBase ≤ v
-        right-high = call-cases sig ws few (λ t k. headBase ≤ v) maxDepth (at + 1 + x .left .size) v (x .right) there small (λ es deep high h. high)
-
-        right-head : headOf v < heads sig
-        right-head = call-cases sig ws few (λ t k. headOf v < heads sig) maxDepth (at + 1 + x .left .size) v (x .right) there small (λ es deep high h. h)
-
-        right-no : isConstructor sig (headOf v) ≡ false → Mode 0
-        right-no no′ =
-            leaf-cases sig ws few (λ t k. 0 ≡ setMode sig t (x .right .value)) maxDepth (at + 1) w (x .left) is high
-            (λ i o. call-cases sig ws few (λ t k. 0 ≡ setMode sig (leaf (at + 1) w) t) maxDepth (at + 1 + x .left .size) v (x .right) there small
-            (λ es deep high h. sym (rw no′ (kind-off (isName w) (sig .flag) 2))))
-
-        right-set : sig .flag ≡ true → isConstructor sig (headOf v) ≡ true → nameBase ≤ w → Mode 2
-        right-set on yes′ name =
-            leaf-cases sig ws few (λ t k. 2 ≡ setMode sig t (x .right .value)) maxDepth (at + 1) w (x .left) is high
-            (λ i o. call-cases sig ws few (λ t k. 2 ≡ setMode sig (leaf (at + 1) w) t) maxDepth (at + 1 + x .left .size) v (x .right) there small
-            (λ es deep high h. sym (rw (le-leb nameBase w name, on, yes′))))
+        go : (b : Bool) → ltb w literalBase ≡ b → P (x .value)
+        go true t = side-call (ltb-true w literalBase t) f
+        go false t = side-leaf (ltb-false w literalBase t) p
 
 -- ---- how the words tell: what is known before the first is read
 
@@ -143,16 +98,19 @@ module _ {gs ws : List ℕ} {at : ℕ} {g : Begun gs ws at} {w : ℕ} (f : Flagg
 
   -- a call
   module _ (low : w < literalBase) where
-    head-of : (sig : Sig) (x : PairAt sig ws at) → heads sig ≤ limit12 → headOf w < heads sig
-    head-of sig x few = left-head sig ws few at x w (f .is) low
+    head-of : (sig : Sig) (x : PairAt sig ws at) → heads sig ≤ limit12 → (headBase ≤ w) × (headOf w < heads sig)
+    head-of sig x few = call-word sig ws few (at + 1) (x .left) w (f .is) low
 
     pub left-asks : (headBase ≤ w) × (4 + headOf w < length gs)
     left-asks =
         let q = g .known in
-        (left-high (q .sig) ws (q .known .1) at (q .known .0) w (f .is) low, omega (arith, head-of (q .sig) (q .known .0) (q .known .1), q .known .2 .inside))
+        let h = head-of (q .sig) (q .known .0) (q .known .1) in
+        (h .0, omega (arith, h .1, q .known .2 .inside))
 
     pub left-plain : {b : Bool} → Kind gs w b → b ≡ false → Modes gs ws at 0
-    left-plain kind no′ sig x few sg = left-no sig ws few at x w (f .is) low (sg .kinds (headOf w) (head-of sig x few) ∙ sym kind ∙ no′)
+    left-plain kind no′ sig x few sg =
+        let plain = sg .kinds (headOf w) (head-of sig x few .1) ∙ sym kind ∙ no′ in
+        side-call sig ws few (at + 1) (x .left) w (f .is) (λ t. 0 ≡ setMode sig t (x .right .value)) low (λ es. mode-plain sig (at + 1) (headOf w) es (x .right .value) plain)
 
     -- and behind it, at p, a right side that begins with v
     module _ {p v : ℕ} (passed : Passed ws (at + 1) p) (isv : v ≡ getD ws p 0) where
@@ -160,11 +118,17 @@ module _ {gs ws : List ℕ} {at : ℕ} {g : Begun gs ws at} {w : ℕ} (f : Flagg
       right-word sig x few = isv ∙ ap (λ (i : ℕ). getD ws i 0) (passed sig (x .left) few)
 
       pub left-nameless : v < nameBase → Modes gs ws at 0
-      left-nameless small sig x few sg = left-low sig ws few at x w (f .is) low v (right-word sig x few) small
+      left-nameless small sig x few sg =
+          side-call sig ws few (at + 1) (x .left) w (f .is) (λ t. 0 ≡ setMode sig t (x .right .value)) low
+          (λ es. side sig ws few (at + 1 + x .left .size) (x .right) v (right-word sig x few) (λ t. 0 ≡ setMode sig (call (at + 1) (headOf w) es) t) (λ fs. refl)
+          (sym (rw (lt-leb nameBase v small))))
 
       pub left-becomes : {b : Bool} → Kind gs w b → b ≡ true → nameBase ≤ v → Modes gs ws at 1
       left-becomes kind yes′ name sig x few sg =
-          left-set sig ws few at x w (f .is) low v (right-word sig x few) (flagged sig sg) (sg .kinds (headOf w) (head-of sig x few) ∙ sym kind ∙ yes′) name
+          let constructs = sg .kinds (headOf w) (head-of sig x few .1) ∙ sym kind ∙ yes′ in
+          side-call sig ws few (at + 1) (x .left) w (f .is) (λ t. 1 ≡ setMode sig t (x .right .value)) low
+          (λ es. side-leaf sig ws few (at + 1 + x .left .size) (x .right) v (right-word sig x few) (λ t. 1 ≡ setMode sig (call (at + 1) (headOf w) es) t) (omega arith)
+          (sym (rw (le-leb nameBase v name, flagged sig sg, constructs))))
 
     pub passed-inside : {p : ℕ} → Passed ws (at + 1) p → p < length ws
     passed-inside passed =
@@ -175,34 +139,52 @@ module _ {gs ws : List ℕ} {at : ℕ} {g : Begun gs ws at} {w : ℕ} (f : Flagg
   -- a leaf
   module _ (high : literalBase ≤ w) where
     pub leaf-nameless : w < nameBase → Modes gs ws at 0
-    leaf-nameless small sig x few sg = right-low sig ws few at x w (f .is) high small
+    leaf-nameless small sig x few sg =
+        side-leaf sig ws few (at + 1) (x .left) w (f .is) (λ t. 0 ≡ setMode sig t (x .right .value)) high (mode-nameless sig (at + 1) w (x .right .value) small)
+
+    behind : (sig : Sig) (x : PairAt sig ws at) → heads sig ≤ limit12 → at + 1 + x .left .size ≡ at + 2
+    behind sig x few = omega (arith, leaf-size sig ws few (at + 1) (x .left) w (f .is) high)
 
     pub right-inside : at + 2 < length ws
     right-inside =
         let q = g .known in
         let x = q .known .0 in
-        omega (arith, expr-inside (q .sig) ws maxDepth (at + 1 + x .left .size) (x .right), right-at (q .sig) ws (q .known .1) at x w (f .is) high)
+        omega (arith, expr-inside (q .sig) ws maxDepth (at + 1 + x .left .size) (x .right), behind (q .sig) x (q .known .1))
 
     -- and behind it a right side that begins with v
     module _ {v : ℕ} (isv : v ≡ getD ws (at + 2) 0) where
+      word-behind : (sig : Sig) (x : PairAt sig ws at) → heads sig ≤ limit12 → v ≡ getD ws (at + 1 + x .left .size) 0
+      word-behind sig x few = isv ∙ ap (λ (i : ℕ). getD ws i 0) (sym (behind sig x few))
+
       pub leaf-leaf : literalBase ≤ v → Modes gs ws at 0
-      leaf-leaf big sig x few sg = right-leaf sig ws few at x w (f .is) high v isv big
+      leaf-leaf big sig x few sg =
+          side-leaf sig ws few (at + 1) (x .left) w (f .is) (λ t. 0 ≡ setMode sig t (x .right .value)) high
+          (side-leaf sig ws few (at + 1 + x .left .size) (x .right) v (word-behind sig x few) (λ t. 0 ≡ setMode sig (leaf (at + 1) w) t) big refl)
 
       module _ (small : v < literalBase) where
-        head-behind : (sig : Sig) (x : PairAt sig ws at) → heads sig ≤ limit12 → headOf v < heads sig
-        head-behind sig x few = right-head sig ws few at x w (f .is) high v isv small
+        head-behind : (sig : Sig) (x : PairAt sig ws at) → heads sig ≤ limit12 → (headBase ≤ v) × (headOf v < heads sig)
+        head-behind sig x few = call-word sig ws few (at + 1 + x .left .size) (x .right) v (word-behind sig x few) small
 
         pub right-asks : (headBase ≤ v) × (4 + headOf v < length gs)
         right-asks =
-            let q = g .known in (
-              right-high (q .sig) ws (q .known .1) at (q .known .0) w (f .is) high v isv small,
-              omega (arith, head-behind (q .sig) (q .known .0) (q .known .1), q .known .2 .inside),
-            )
+            let q = g .known in
+            let h = head-behind (q .sig) (q .known .0) (q .known .1) in
+            (h .0, omega (arith, h .1, q .known .2 .inside))
+
+        -- then the definition has but a test
+        tested : (n : ℕ) (sig : Sig) (x : PairAt sig ws at) → heads sig ≤ limit12 → n ≡ cond (isName w && sig .flag && isConstructor sig (headOf v)) 2 0
+            → n ≡ setMode sig (x .left .value) (x .right .value)
+        tested n sig x few e =
+            side-leaf sig ws few (at + 1) (x .left) w (f .is) (λ t. n ≡ setMode sig t (x .right .value)) high
+            (side-call sig ws few (at + 1 + x .left .size) (x .right) v (word-behind sig x few) (λ t. n ≡ setMode sig (leaf (at + 1) w) t) small (λ es. e))
 
         module _ {b : Bool} (kind : Kind gs v b) where
           pub right-plain : b ≡ false → Modes gs ws at 0
-          right-plain no′ sig x few sg = right-no sig ws few at x w (f .is) high v isv small (sg .kinds (headOf v) (head-behind sig x few) ∙ sym kind ∙ no′)
+          right-plain no′ sig x few sg =
+              let plain = sg .kinds (headOf v) (head-behind sig x few .1) ∙ sym kind ∙ no′ in
+              tested 0 sig x few (sym (rw plain (kind-off (isName w) (sig .flag) 2)))
 
           pub right-becomes : b ≡ true → nameBase ≤ w → Modes gs ws at 2
           right-becomes yes′ name sig x few sg =
-              right-set sig ws few at x w (f .is) high v isv small (flagged sig sg) (sg .kinds (headOf v) (head-behind sig x few) ∙ sym kind ∙ yes′) name
+              let constructs = sg .kinds (headOf v) (head-behind sig x few .1) ∙ sym kind ∙ yes′ in
+              tested 2 sig x few (sym (rw (le-leb nameBase w name, flagged sig sg, constructs)))
