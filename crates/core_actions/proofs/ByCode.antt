@@ -16,9 +16,8 @@ use Rattle.core_actions.specs.Lowered.{donePiece}
 use Rattle.core_actions.specs.Acts.{ActionAt, LetAt, ChangeAt, PairAt, changed, Gave}
 use Rattle.core_actions.specs.declared.actions.Acted.{Acted}
 use Rattle.core_actions.proofs.Sites.{Site, Known, RoomAt, ScopeRoomAt, Every, WalkedAt}
-use Rattle.core_actions.proofs.Does.{KnownSigned, Does, DoesAction}
+use Rattle.core_actions.proofs.Does.{KnownSigned, Does, DoesAction, second, Changes}
 use Rattle.core_actions.proofs.Lets as lets
-use Rattle.core_actions.proofs.Changes as changes
 use Rattle.core_actions.proofs.UnionAsSet as unions
 use Rattle.core_actions.proofs.Pieces.{done-change, done-set-row, SameBound, same-change, same-set}
 use Rattle.core_actions.proofs.Acting.{acts-same}
@@ -63,7 +62,7 @@ module _ {gs : List ℕ} {k : Site} {w : ℕ} (g : Coded gs k w) where
 
   -- the kind 3 word's head
   abbrev head : ℕ
-  head = headOf (getD (k .ws) (k .at + 1) 0)
+  head = headOf (second k)
 
   module _ {s′ cs′ : List ℕ} {r : Acted} where
     row-does : (sig : Sig) (bound : List ℕ) (x : Res Done) (more code : ℕ) (y : ChangeAt sig (k .ws) more (k .at)) → Scoped sig bound (k .s) (k .scope) → r .names ≡ 0
@@ -76,7 +75,7 @@ module _ {gs : List ℕ} {k : Site} {w : ℕ} (g : Coded gs k w) where
         (subst (λ (p : Res Piece). WalkedAt k 0 (Gave r) p (2 + y .exprs .size) (k .at) s′ cs′ (r .walk)) (sym is)
         (subst (λ (u : ℕ). WalkedAt k 0 (Gave r) (changed sig bound u more (k .at + 1) head (y .exprs .value) (k .cs)) (2 + y .exprs .size) (k .at) s′ cs′ (r .walk)) e walk))
 
-    pub set-done : w - actionBase ≡ 2 → changes.Answers k w 1 s′ cs′ r → DoesAction k gs s′ cs′ r
+    pub set-done : w - actionBase ≡ 2 → Changes k w 1 s′ cs′ r → DoesAction k gs s′ cs′ r
     set-done e does sig x bound n sc sg =
         set-cases sig (k .ws) (k .at) x (Ends k sig bound s′ cs′ r) (word 2 e)
         (λ y es v row. row-does sig bound (lowerSet sig bound (k .at + 1) head es v (k .cs)) 1 (actionWord 2) y sc (does .0)
@@ -85,7 +84,7 @@ module _ {gs : List ℕ} {k : Site} {w : ℕ} (g : Coded gs k w) where
         (does .1 sig y bound n sc))
 
     change-does : (C : ℕ → List ℕ → CoreAction) (code : ℕ) → ((h : ℕ) (ts : List ℕ) → actionWords (C h ts) ≡ code ∷ headWord h (length ts) ∷ ts)
-        → getD (k .ws) (k .at) 0 ≡ code → changes.Answers k w 0 s′ cs′ r
+        → getD (k .ws) (k .at) 0 ≡ code → Changes k w 0 s′ cs′ r
         → Every k (λ sig. ChangeAt sig (k .ws) 0 (k .at))
         (λ sig y bound. Does k sig (lowerChange sig bound C (k .at + 1) head (y .exprs .value) (k .cs)) (2 + y .exprs .size) s′ cs′ r)
     change-does C code is e does sig y bound n sc =
@@ -93,12 +92,12 @@ module _ {gs : List ℕ} {k : Site} {w : ℕ} (g : Coded gs k w) where
         (same-change sig bound C (k .at + 1) head (y .exprs .value) (k .cs)) (g .is ∙ e)
         (done-change sig bound C code is (k .at + 1) head (y .exprs .value) (k .cs)) (does .1 sig y bound n sc)
 
-    pub delete-done : w - actionBase ≡ 3 → changes.Answers k w 0 s′ cs′ r → DoesAction k gs s′ cs′ r
+    pub delete-done : w - actionBase ≡ 3 → Changes k w 0 s′ cs′ r → DoesAction k gs s′ cs′ r
     delete-done e does sig x bound n sc sg =
         delete-cases sig (k .ws) (k .at) x (Ends k sig bound s′ cs′ r) (word 3 e)
         (λ y. change-does Delete (actionWord 3) (λ h ts. refl) (word 3 e) does sig y bound n sc)
 
-    pub subsume-done : w - actionBase ≡ 4 → changes.Answers k w 0 s′ cs′ r → DoesAction k gs s′ cs′ r
+    pub subsume-done : w - actionBase ≡ 4 → Changes k w 0 s′ cs′ r → DoesAction k gs s′ cs′ r
     subsume-done e does sig x bound n sc sg =
         subsume-cases sig (k .ws) (k .at) x (Ends k sig bound s′ cs′ r) (word 4 e)
         (λ y. change-does Subsume (actionWord 4) (λ h ts. refl) (word 4 e) does sig y bound n sc)
@@ -132,7 +131,7 @@ module _ {gs : List ℕ} {k : Site} {w : ℕ} (g : Coded gs k w) where
   panic-asks e = let q = g .known in panic-cases (q .sig) (k .ws) (k .at) (q .known .0) (λ y n. k .at + 1 < length (k .ws)) (word 6 e) (λ i. i)
 
   pub panic-done : {s′ cs′ : List ℕ} {r : Acted} → w - actionBase ≡ 6
-      → ((sig : Sig) (bound : List ℕ) → Scoped sig bound (k .s) (k .scope) → Does k sig (lowerAction sig bound (panic′ (getD (k .ws) (k .at + 1) 0)) (k .cs)) 2 s′ cs′ r)
+      → ((sig : Sig) (bound : List ℕ) → Scoped sig bound (k .s) (k .scope) → Does k sig (lowerAction sig bound (panic′ (second k)) (k .cs)) 2 s′ cs′ r)
       → DoesAction k gs s′ cs′ r
   panic-done {s′} {cs′} {r} e does sig x bound n sc sg =
       panic-cases sig (k .ws) (k .at) x (Ends k sig bound s′ cs′ r) (word 6 e) (λ i. does sig bound sc)

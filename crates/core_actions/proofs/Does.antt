@@ -1,15 +1,18 @@
 -- What the contracts of the walks over actions say, in names: what is known under a signature whose words are given, and what is done at a site.
 -- Assumes nothing.
+use mathlib.Core.Path.{_≡_}
 use mathlib.Core.List.{List}
-use Prim.Native.Nat.{ℕ}
+use Prim.Native.Nat.{ℕ, _+_}
+use lib.ListN.{getD}
+use Rattle.rules.specs.Words.{headOf}
 use Rattle.rules.specs.Refusals.{Res}
 use Rattle.rules.specs.Signature.{Sig}
 use Rattle.rules.specs.ToCoreActions.{Done, lowerAction}
 use Rattle.walks.specs.Steps.{Under, Counted}
 use Rattle.core_actions.specs.Scopes.{Scoped, Names}
-use Rattle.core_actions.specs.Acts.{ActionAt, Acts, Signed}
+use Rattle.core_actions.specs.Acts.{ActionAt, ChangeAt, changed, Gave, Acts, Signed}
 use Rattle.core_actions.specs.declared.actions.Acted.{Acted}
-use Rattle.core_actions.proofs.Sites.{Site}
+use Rattle.core_actions.proofs.Sites.{Site, Every, WalkedAt}
 
 module _ (k : Site) where
   -- a signature under which X stands there, and which the words gs say
@@ -27,3 +30,14 @@ module _ (k : Site) where
   -- what the contract of `lower_action` says of an answer
   abbrev pub DoesAction : (gs s′ cs′ : List ℕ) → Acted → Type 0
   DoesAction gs s′ cs′ r = EverySigned gs (λ sig. ActionAt sig (k .ws) (k .at)) (λ sig x bound. Does sig (lowerAction sig bound (x .value) (k .cs)) (x .size) s′ cs′ r)
+
+  -- the word behind the action's word: the name that is let, the kind 3 word of a change
+  abbrev pub second : ℕ
+  second = getD (k .ws) (k .at + 1) 0
+
+  -- what the contract of `lower_change` says of an answer: of the row's expressions `more` are not counted by its kind 3 word
+  abbrev pub Changes : (code more : ℕ) → List ℕ → List ℕ → Acted → Type 0
+  Changes code more s′ cs′ r =
+      (r .names ≡ 0)
+      × Every k (λ sig. ChangeAt sig (k .ws) more (k .at))
+      (λ sig x bound. WalkedAt k 0 (Gave r) (changed sig bound code more (k .at + 1) (headOf second) (x .exprs .value) (k .cs)) (2 + x .exprs .size) (k .at) s′ cs′ (r .walk))

@@ -19,8 +19,7 @@ use Rattle.walks.proofs.Read.{moved, leaf-cases, call-cases}
 use Rattle.core_actions.specs.Acts.{ChangeAt, PairAt, NameCallAt, Signed, setMode, changed, Gave}
 use Rattle.core_actions.specs.declared.actions.Acted.{Acted}
 use Rattle.core_actions.proofs.Sites.{Site, Known, RoomAt, ScopeRoomAt, WalkedAt}
-use Rattle.core_actions.proofs.Does.{KnownSigned, EverySigned, Does}
-use Rattle.core_actions.proofs.Changes as changes
+use Rattle.core_actions.proofs.Does.{KnownSigned, EverySigned, Does, Changes}
 use Rattle.core_actions.proofs.NameSets as name-sets
 use Rattle.core_actions.proofs.Pairs as pairs
 use Rattle.core_actions.proofs.Acting.{acts-same}
@@ -273,7 +272,7 @@ module _ {gs : List ℕ} {k : Site} {mode : ℕ} (g : Moded gs k mode) where
     pub left-asks : Known k (λ sig. ChangeAt sig (k .ws) 1 (k .at))
     left-asks = asks (λ sig x few sg. left sig x few sg .change)
 
-    pub left-done : {s′ cs′ : List ℕ} {r : Acted} → changes.Answers k (actionWord 2) 1 s′ cs′ r → Answers gs k s′ cs′ r
+    pub left-done : {s′ cs′ : List ℕ} {r : Acted} → Changes k (actionWord 2) 1 s′ cs′ r → Answers gs k s′ cs′ r
     left-done {s′} {cs′} {r} does sig x bound n sc sg =
         let l = left sig x (n .few) sg in
         let u = lowerUnion sig bound (unionAsSet sig (x .left .value) (x .right .value)) (x .left .value) (x .right .value) (k .cs) in
