@@ -41,8 +41,10 @@ groups-same (g ∷ gs) (h ∷ hs) a b e =
     let left : g .left ≡ h .left = ap (λ (xs : List ℕ). getD xs 0 0) f in
     let long : length (g .rights) ≡ length (h .rights) = ap (λ (xs : List ℕ). getD xs 1 0) f in
     let rest : g .rights ++ us ≡ h .rights ++ vs = ap (drop 2) f in
-    let rights : g .rights ≡ h .rights = sym (take-at (g .rights) us (length (g .rights)) refl) ∙ ap₂ take long rest ∙ take-at (h .rights) vs (length (h .rights)) refl in
-    let others : us ≡ vs = sym (drop-at (g .rights) us (length (g .rights)) refl) ∙ ap₂ drop long rest ∙ drop-at (h .rights) vs (length (h .rights)) refl in
+    let rights : g .rights ≡ h .rights =
+    sym (take-at (g .rights) us (length (g .rights)) refl) ∙ ap₂ take long rest ∙ take-at (h .rights) vs (length (h .rights)) refl in
+    let others : us ≡ vs =
+    sym (drop-at (g .rights) us (length (g .rights)) refl) ∙ ap₂ drop long rest ∙ drop-at (h .rights) vs (length (h .rights)) refl in
     let tails = groups-same gs hs (a .1) (b .1) others in
     λ j. record { left = left j; rights = rights j } ∷ tails j
 
@@ -65,8 +67,8 @@ pub record NextGroup (gs : List Group) (m : List ℕ) (p n : ℕ) : Type 0 where
   pub few : All Few others
   pub many : length (allEqns gs) ≡ length (group .rights) + length (allEqns others)
 
-pub next-group : (gs : List Group) {m : List ℕ} {p n : ℕ} → All Some gs → All Few gs → At (wordsOf groupWords gs) m p → n ≡ length (wordsOf groupWords gs) → 0 < n
-    → NextGroup gs m p n
+pub next-group : (gs : List Group) {m : List ℕ} {p n : ℕ} → All Some gs → All Few gs → At (wordsOf groupWords gs) m p
+    → n ≡ length (wordsOf groupWords gs) → 0 < n → NextGroup gs m p n
 next-group [] s f a e h = absurd (omega arith)
 next-group (g ∷ gs) {m} {p} {n} s f a e h =
     let us : List ℕ = g .rights in

@@ -43,7 +43,8 @@ all-joined c small z =
 
 -- ---- what is written by a splice stands there
 
-tabs-put : {ts : List Tab} {l m m₂ : List ℕ} {p q n : ℕ} → TabsAt ts l p n → m₂ ≡ splice m q (part l p n) → q + n ≤ length m → TabsAt ts m₂ q n × Only m m₂ q (q + n)
+tabs-put : {ts : List Tab} {l m m₂ : List ℕ} {p q n : ℕ} → TabsAt ts l p n → m₂ ≡ splice m q (part l p n) → q + n ≤ length m
+    → TabsAt ts m₂ q n × Only m m₂ q (q + n)
 tabs-put {ts} {l} {m} {m₂} {p} {q} {n} z e h =
     let ws : part l p n ≡ wordsOf tabWords ts = ap (part l p) (z .size) ∙ z .at .words in
     let is : splice m q (wordsOf tabWords ts) ≡ m₂ = ap (splice m q) (sym ws) ∙ sym e in
@@ -56,7 +57,8 @@ tabs-put {ts} {l} {m} {m₂} {p} {q} {n} z e h =
 module _ {s : Sig} {l m : List ℕ} {at e : ℕ} {area : Area} {t : Canonical} (a : AllJoined s l m at e area t) where
   -- what the contract says of an answer
   abbrev Answers : List ℕ → Canonical → Type 0
-  Answers m′ r = (gs : List Group) → GroupsAt gs l at e → CanonicalAt s (allEqns gs ++ map tab (tabsIn l (area .body) (area .k))) l m′ at (area .body) (area .d) r
+  Answers m′ r = (gs : List Group) → GroupsAt gs l at e
+      → CanonicalAt s (allEqns gs ++ map tab (tabsIn l (area .body) (area .k))) l m′ at (area .body) (area .d) r
 
   -- the atoms us of n words and the bindings stand in m′
   answer : {m′ : List ℕ} {n : ℕ} {gs : List Group} (j : JoinedOf s gs l m at area t) (us : List Tab) → j .written ++ j .ts ≡ us → TabsAt us m′ (area .body) n
@@ -87,6 +89,7 @@ module _ {s : Sig} {l m : List ℕ} {at e : ℕ} {area : Area} {t : Canonical} (
       let both : TabsAt (j .written ++ j .ts) m₂ (area .to) (t .words + area .k) =
       tabs-join (j .written) (j .ts) m₂ (area .to) (t .words) mid (area .k) (tabs-before (put .1) (j .tabs) (omega arith)) (put .0) refl in
       let back = tabs-put both e₃ (omega (arith, put .1 .size, a)) in
+      let there : Only m m₂ at (area .d) = only-wide at (area .d) (put .1) (omega (arith, a)) (omega (arith, a, j .places)) in
+      let here : Only m₂ m₃ at (area .d) = only-wide at (area .d) (back .1) (omega (arith, a)) (omega (arith, a, j .places)) in
       answer j (j .written ++ j .ts) refl (back .0) (at-after (back .1) (at-after (put .1) (j .binds) (omega (arith, a))) (omega (arith, a)))
-      (only-then (j .only)
-      (only-then (only-wide at (area .d) (put .1) (omega (arith, a)) (omega (arith, a, j .places))) (only-wide at (area .d) (back .1) (omega (arith, a)) (omega (arith, a, j .places)))))
+      (only-then (j .only) (only-then there here))

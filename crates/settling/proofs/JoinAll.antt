@@ -22,7 +22,8 @@ use Rattle.merging.specs.RemoveDupVars.{Group, Some, allEqns, eqnsOf, groupWord
 use Rattle.settling.specs.declared.joining.Area.{Area}
 use Rattle.settling.specs.declared.joining.Joined.{Joined}
 use Rattle.settling.specs.Joining.{AgainAsks, JoinGroupAsks, JoinedAll, JoinedGroup, JoinedOf, equalTo, replacedAtoms, replacedWords}
-use Rattle.settling.proofs.Replaced.{Few, GroupsHeld, groups-held, replaced-append, replaced-atoms, replaced-long, replaced-many, replaced-tabs, replacedGroups, replacedTabs, tabs-moved}
+use Rattle.settling.proofs.Replaced.{Few, GroupsHeld, groups-held, replaced-append, replaced-atoms, replaced-long, replaced-many}
+use Rattle.settling.proofs.Replaced.{replaced-tabs, replacedGroups, replacedTabs, tabs-moved}
 use Rattle.settling.proofs.GroupWords.{NextGroup, groups-told, next-group, no-group-left}
 use Rattle.settling.proofs.JoinGroup.{free}
 use Rattle.rules.specs.Canonicalize as canon
@@ -69,7 +70,8 @@ pub record Joining (s : Sig) (l m : List ℕ) (at e : ℕ) (area : Area) (i : �
 
 -- ---- none of them
 
-pub joining-start : {s : Sig} {l : List ℕ} {at e : ℕ} {area : Area} → AgainAsks l at e area → Joining s l l at e area 0 (record { words = 0; binds = area .d })
+pub joining-start : {s : Sig} {l : List ℕ} {at e : ℕ} {area : Area} → AgainAsks l at e area
+    → Joining s l l at e area 0 (record { words = 0; binds = area .d })
 joining-start {s} {l} {at} {e} {area} c =
     record {
       asks = c;
@@ -96,27 +98,27 @@ joining-start {s} {l} {at} {e} {area} c =
 
 -- ---- a turn: the next group stands in front
 
-pub record AllTurn {s : Sig} {l m : List ℕ} {at e : ℕ} {area : Area} {i : ℕ} {t : Canonical} (w : Joining s l m at e area i t) : Type 0 where
-  pub here : NextGroup (w .groups) m (at + i) (e - i)
-  pub inside : at + i + 2 ≤ length m
-  pub fits : length m < 2 ^ 64
+module _ {s : Sig} {l m : List ℕ} {at e : ℕ} {area : Area} {i : ℕ} {t : Canonical} (w : Joining s l m at e area i t) where
+  pub record AllTurn : Type 0 where
+    pub here : NextGroup (w .groups) m (at + i) (e - i)
+    pub inside : at + i + 2 ≤ length m
+    pub fits : length m < 2 ^ 64
 
-pub all-turn : {s : Sig} {l m : List ℕ} {at e : ℕ} {area : Area} {i : ℕ} {t : Canonical} (w : Joining s l m at e area i t) → i < e → length l < 2 ^ 64 → AllTurn w
-all-turn {at = at} {e = e} {i = i} w h small =
-    let g : NextGroup (w .groups) _ (at + i) (e - i) = next-group (w .groups) (w .some) (w .few) (w .stand) (omega (arith, w .size)) (omega arith) in
-    record { here = g; inside = omega (arith, g .inside, g .size); fits = omega (arith, w .only .size) }
+  pub all-turn : i < e → length l < 2 ^ 64 → AllTurn
+  all-turn h small =
+      let g : NextGroup (w .groups) m (at + i) (e - i) = next-group (w .groups) (w .some) (w .few) (w .stand) (omega (arith, w .size)) (omega arith) in
+      record { here = g; inside = omega (arith, g .inside, g .size); fits = omega (arith, w .only .size) }
 
 -- its left term and its count are read
-pub record GroupRead {s : Sig} {l m : List ℕ} {at e : ℕ} {area : Area} {i : ℕ} {t : Canonical} {w : Joining s l m at e area i t} (y : AllTurn w) (left count : ℕ)
-    : Type 0 where
-  pub is-left : left ≡ y .here .group .left
-  pub is-count : count ≡ length (y .here .group .rights)
-  pub asks : JoinGroupAsks m left (at + i + 2) count (e - i - 2) (free area (t .words) (t .binds))
-  pub more : i + (count + 2) ≤ e
-  pub fits : area .d < 2 ^ 64
-
 module _ {s : Sig} {l m : List ℕ} {at e : ℕ} {area : Area} {i : ℕ} {t : Canonical} {w : Joining s l m at e area i t} (y : AllTurn w) where
-  pub group-read : {left count : ℕ} → left ≡ getD m (at + i) 0 → count ≡ getD m (at + i + 1) 0 → GroupRead y left count
+  pub record GroupRead (left count : ℕ) : Type 0 where
+    pub is-left : left ≡ y .here .group .left
+    pub is-count : count ≡ length (y .here .group .rights)
+    pub asks : JoinGroupAsks m left (at + i + 2) count (e - i - 2) (free area (t .words) (t .binds))
+    pub more : i + (count + 2) ≤ e
+    pub fits : area .d < 2 ^ 64
+
+  pub group-read : {left count : ℕ} → left ≡ getD m (at + i) 0 → count ≡ getD m (at + i + 1) 0 → GroupRead left count
   group-read {left} {count} el ec =
       let g = y .here in
       let c = w .asks in
@@ -137,8 +139,9 @@ module _ {s : Sig} {l m : List ℕ} {at e : ℕ} {area : Area} {i : ℕ} {t : Ca
       }
 
 -- the group is joined, which leaves m₂: the others stand behind it, with its replacements made
-module _ {s : Sig} {l m : List ℕ} {at e : ℕ} {area : Area} {i : ℕ} {t : Canonical} {w : Joining s l m at e area i t} {y : AllTurn w} {left count : ℕ} (g : GroupRead y left count)
-    {m₂ : List ℕ} {r : Joined} (z : JoinedGroup s m m₂ left (at + i + 2) count (e - i - 2) (free area (t .words) (t .binds)) r) where
+module _ {s : Sig} {l m : List ℕ} {at e : ℕ} {area : Area} {i : ℕ} {t : Canonical} {w : Joining s l m at e area i t} {y : AllTurn w}
+    {left count : ℕ} (g : GroupRead y left count) {m₂ : List ℕ} {r : Joined}
+    (z : JoinedGroup s m m₂ left (at + i + 2) count (e - i - 2) (free area (t .words) (t .binds)) r) where
   abbrev others : List Group
   others = y .here .others
 
@@ -175,7 +178,8 @@ module _ {s : Sig} {l m : List ℕ} {at e : ℕ} {area : Area} {i : ℕ} {t : Ca
   split : allEqns (w .groups) ++ map tab (w .ts) ≡ equalTo left (part m (at + i + 2) count) ++ xs
   split =
       let h = y .here in
-      let eqns : equalTo left (part m (at + i + 2) count) ≡ eqnsOf (h .group) = ap₂ equalTo (g .is-left) (ap (part m (at + i + 2)) (g .is-count) ∙ h .rights) in
+      let eqns : equalTo left (part m (at + i + 2) count) ≡ eqnsOf (h .group) =
+      ap₂ equalTo (g .is-left) (ap (part m (at + i + 2)) (g .is-count) ∙ h .rights) in
       ap (λ (gs : List Group). allEqns gs ++ map tab (w .ts)) (h .is) ∙ append-assoc (eqnsOf (h .group)) (allEqns others) (map tab (w .ts))
       ∙ ap (λ (ys : List Atom). ys ++ xs) (sym eqns)
 
@@ -219,10 +223,12 @@ module _ {s : Sig} {l m : List ℕ} {at e : ℕ} {area : Area} {i : ℕ} {t : Ca
 
 -- ---- all of them: what is left is atoms alone
 
-pub joining-end : {s : Sig} {l m : List ℕ} {at e : ℕ} {area : Area} {i : ℕ} {t : Canonical} → Joining s l m at e area i t → e ≤ i → JoinedAll s l m at e area t
+pub joining-end : {s : Sig} {l m : List ℕ} {at e : ℕ} {area : Area} {i : ℕ} {t : Canonical} → Joining s l m at e area i t → e ≤ i
+    → JoinedAll s l m at e area t
 joining-end {s} {l} {m} {at} {e} {area} {i} {t} w h =
     let none : w .groups ≡ [] = no-group-left (w .groups) (w .some) (omega (arith, w .size)) in
-    let left : before s (w .groups) (w .ts) ≡ record { tabs = w .ts; repls = [] } = ap (λ (gs : List Group). before s gs (w .ts)) none ∙ canonicalize-heads s (w .ts) in
+    let left : before s (w .groups) (w .ts) ≡ record { tabs = w .ts; repls = [] } =
+    ap (λ (gs : List Group). before s gs (w .ts)) none ∙ canonicalize-heads s (w .ts) in
     let own : JoinedOf s (w .asks .groups) l m at area t =
     record {
       written = w .written;

@@ -1,80 +1,30 @@
 -- The equalities of a group, one by one: `Grouping` is what holds when some of them are passed. Assumes nothing.
-use mathlib.Core.Bool.{Bool, false, true}
 use mathlib.Core.List.{List, [], _++_, _∷_, append-assoc, append-nil, map}
 use mathlib.Core.Option.{Option, none, some}
 use mathlib.Core.Path.{_∙_, _≡_, ap, ap₂, refl, subst, sym}
 use Prim.Native.Nat.{_*_, _+_, _-_, _<_, _^_, _≤_, ℕ}
 use native.Mathlib.Omega.{arith}
 use lib.ListN.{getD, length, length-append, length-map}
-use Rattle.octets.proofs.Places.{at-after, at-before, at-first, at-join, at-nil, at-right, at-splice, only-same, only-splice, only-then, only-wide}
+use Rattle.octets.proofs.Places.{at-after, at-before, at-first, at-join, at-nil, at-right, only-same, only-then, only-wide}
 use Rattle.octets.proofs.Splice.{length-part}
 use Rattle.octets.specs.Regions.{At, Only, part, splice}
-use Rattle.rules.specs.Canonicalize.{Replacement, canonicalize, replaceTerm, resolve, resolveEq}
+use Rattle.rules.specs.Canonicalize.{Replacement, canonicalize, replaceTerm, resolve}
 use Rattle.rules.specs.Flat.{Atom, Tab, eqn, tabWords, wordsOf}
-use Rattle.rules.specs.Signature.{Sig, sameTerm}
+use Rattle.rules.specs.Signature.{Sig}
 use Rattle.rules.specs.Words.{limit12}
-use Rattle.meaning.proofs.Encodable.{resolve-encodable}
 use Rattle.meaning.proofs.Passes.{canonicalize-repls}
 use Rattle.meaning.proofs.Sweep.{asked-var}
+use Rattle.meaning.specs.Sweep.{asks}
 use Rattle.bodies.specs.Standing.{TabsAt}
-use Rattle.bodies.proofs.Standing.{bare-resolve, no-tabs, tabs-before, tabs-join}
-use Rattle.canonicalize.specs.Canonicalize.{bindingWords, resolveTerms}
+use Rattle.bodies.proofs.Standing.{no-tabs, tabs-before, tabs-join}
+use Rattle.canonicalize.specs.Canonicalize.{bindingWords}
 use Rattle.canonicalize.proofs.Fronts.{canonicalize-asked, canonicalize-still}
 use Rattle.settling.specs.declared.joining.Area.{Area}
 use Rattle.settling.specs.declared.joining.Joined.{Joined}
-use Rattle.settling.specs.Joining.{JoinGroupAsks, JoinOneAsks, JoinStep, JoinedGroup, JoinedOne, Vars, equalTo, joinAsk, joinWords, replacedAtoms, replacedWords}
-use Rattle.settling.proofs.JoinOne.{is-join-ask}
+use Rattle.settling.specs.Joining.{JoinGroupAsks, JoinOneAsks, JoinStep, JoinedGroup, Vars, equalTo, joinAsk, replacedAtoms, replacedWords}
+use Rattle.settling.proofs.JoinOne.{Stayed, Swapped, is-join-ask, join-short, stayed, swapped}
 use Rattle.settling.proofs.Replaced.{replaced-eqn, replaced-first, replaced-long, replacedTerm, tabs-moved}
 use Rattle.rules.specs.Canonicalize as canon
-
--- ---- one equality: its words
-
-resolve-words : (s : Sig) (a b : ℕ) → resolveTerms (sameTerm a b) s a b ≡ wordsOf tabWords (resolve s (eqn 0 a b ∷ []))
-resolve-words s a b = go (sameTerm a b)
-  where
-    go : (c : Bool) → resolveTerms c s a b ≡ wordsOf tabWords (resolveEq s c 0 a b [])
-    go true = refl
-    go false = refl
-
-join-short : (o : Option Replacement) (s : Sig) (a b : ℕ) → length (joinWords o s a b) ≤ 4
-join-short (some r) s a b = omega arith
-join-short none s a b = go (sameTerm a b)
-  where
-    go : (c : Bool) → length (resolveTerms c s a b) ≤ 4
-    go true = omega arith
-    go false = omega arith
-
--- a replacement made in the words as and in the words bs behind them, with its binding put before those at e
-record Swapped (m m₂ as′ bs : List ℕ) (q body e : ℕ) (r : Replacement) (rs : List Replacement) : Type 0 where
-  behind : At as′ m₂ q
-  atoms : At bs m₂ body
-  binds : At (bindingWords (r ∷ rs)) m₂ (e - 3)
-  only : Only m m₂ q e
-  between : (ws : List ℕ) (x : ℕ) → At ws m x → q + length as′ ≤ x → x + length ws ≤ body → At ws m₂ x
-
-swapped : {m m₂ as′ bs : List ℕ} {q body e : ℕ} (r : Replacement) (rs : List Replacement) → At (bindingWords rs) m e → q + length as′ ≤ body → body + length bs + 3 ≤ e
-    → m₂ ≡ splice (splice (splice m q as′) body bs) (e - 3) (bindingWords (r ∷ [])) → Swapped m m₂ as′ bs q body e r rs
-swapped {m} {m₂} {as′} {bs} {q} {body} {e} r rs z h k em =
-    let bind : List ℕ = bindingWords (r ∷ []) in
-    let top : e ≤ length m = omega (arith, z .within) in
-    let m₀ : List ℕ = splice m q as′ in
-    let m₁ : List ℕ = splice m₀ body bs in
-    let o₀ : Only m m₀ q (q + length as′) = only-splice m q as′ (q + length as′) refl (omega arith) in
-    let o₁ : Only m₀ m₁ body (body + length bs) = only-splice m₀ body bs (body + length bs) refl (omega (arith, o₀ .size)) in
-    let o₂ : Only m₁ (splice m₁ (e - 3) bind) (e - 3) e = only-splice m₁ (e - 3) bind e (omega arith) (omega (arith, o₀ .size, o₁ .size)) in
-    let a₀ : At as′ m₀ q = at-splice m q as′ (omega arith) in
-    let b₀ : At bs m₁ body = at-splice m₀ body bs (omega (arith, o₀ .size)) in
-    let old : At (bindingWords rs) (splice m₁ (e - 3) bind) e = at-after o₂ (at-after o₁ (at-after o₀ z (omega arith)) (omega arith)) (omega arith) in
-    let new : At bind (splice m₁ (e - 3) bind) (e - 3) = at-splice m₁ (e - 3) bind (omega (arith, o₀ .size, o₁ .size)) in
-    subst (λ (x : List ℕ). Swapped m x as′ bs q body e r rs) (sym em)
-    (record {
-      behind = at-before o₂ (at-before o₁ a₀ h) (omega arith);
-      atoms = at-before o₂ b₀ (omega arith);
-      binds = at-join new old (omega arith);
-      only = only-then (only-wide q e o₀ (omega arith) (omega arith))
-          (only-then (only-wide q e o₁ (omega arith) (omega arith)) (only-wide q e o₂ (omega arith) (omega arith)));
-      between = λ ws x u low high. let high₂ : x + length ws ≤ e - 3 = omega arith in at-before o₂ (at-before o₁ (at-after o₀ u low) high) high₂;
-    })
 
 -- ---- i of them passed
 
@@ -149,46 +99,56 @@ grouping-start {s} {l} {left} {p} {count} {n} {area} c =
     plus : (p : ℕ) → p ≡ p + 0
     plus p = omega arith
 
--- ---- one more
+-- ---- a turn: what it asks
 
-module _ {s : Sig} {l m : List ℕ} {left p count n : ℕ} {area : Area} {i : ℕ} {t : Joined} (w : Grouping s l m left p count n area i t) (h : i < count) where
-  -- what is left of the area
-  abbrev rest : Area
-  rest = free area (t .words) (t .binds)
+module _ {s : Sig} {l m : List ℕ} {left p count n : ℕ} {area : Area} {i : ℕ} {t : Joined} (w : Grouping s l m left p count n area i t) where
+  pub record GroupTurn : Type 0 where
+    pub one : JoinOneAsks s m (t .left) (p + i) (n - i - 1) (free area (t .words) (t .binds))
+    pub on : i < count
+    pub inside : i + 1 ≤ n
+    pub clear : area .to + t .words + 4 ≤ area .body
+    pub most : area .to + 4 * count ≤ area .body
+    pub fits : area .body < 2 ^ 64
 
-  abbrev Going : List ℕ → ℕ → Joined → Type 0
-  Going m₂ i₂ t₂ = Grouping s l m₂ left p count n area i₂ t₂
-
-  abbrev Step : Option Replacement → (a b : ℕ) → List ℕ → Joined → Type 0
-  Step o a b m₂ r = JoinStep o s m m₂ a b (p + i) (n - i - 1) rest r
-
-  low : area .body + area .k + 3 ≤ t .binds
-  low = omega (arith, w .few, w .places, w .asks .room)
-
-  clear : area .to + t .words + 4 ≤ area .body
-  clear = omega (arith, w .few, w .asks .room-to)
-
-  top : t .binds ≤ length m
-  top = omega (arith, w .binds .within)
-
-  join-one-asks : JoinOneAsks s m (t .left) (p + i) (n - i - 1) rest
-  join-one-asks =
+  pub group-turn : i < count → length l < 2 ^ 64 → GroupTurn
+  group-turn h small =
+      let c = w .asks in
+      let clear : area .to + t .words + 4 ≤ area .body = omega (arith, w .few, c .room-to) in
       record {
-        here = omega (arith, w .asks .inside, w .asks .here);
-        room = omega (arith, join-short (joinAsk s (t .left) (getD m (p + i) 0)) s (t .left) (getD m (p + i) 0), clear);
-        clear = omega (arith, clear);
-        binds = low;
-        top = top;
+        one =
+            record {
+              here = omega (arith, c .inside, c .here);
+              room = omega (arith, join-short (joinAsk s (t .left) (getD m (p + i) 0)) s (t .left) (getD m (p + i) 0));
+              clear = omega arith;
+              binds = omega (arith, w .few, w .places, c .room);
+              top = omega (arith, w .binds .within);
+            };
+        on = h;
+        inside = omega (arith, c .inside);
+        clear = clear;
+        most = c .room-to;
+        fits = omega (arith, c .room, c .top);
       }
 
-  -- the next one is that with u
-  module _ (u : ℕ) (us : List ℕ) (is : w .rights ≡ u ∷ us) where
-    abbrev a : ℕ
-    a = replacedTerm (w .rs) left
+-- ---- one more
 
+module _ {s : Sig} {l m : List ℕ} {left p count n : ℕ} {area : Area} {i : ℕ} {t : Joined} {w : Grouping s l m left p count n area i t} (y : GroupTurn w) where
+  -- what holds when one more is passed, and what the step over it ensures
+  abbrev pub Going : List ℕ → Joined → Type 0
+  Going m₂ r = Grouping s l m₂ left p count n area (i + 1) (added t r)
+
+  abbrev Step : Option Replacement → (a b : ℕ) → List ℕ → Joined → Type 0
+  Step o a b m₂ r = JoinStep o s m m₂ a b (p + i) (n - i - 1) (free area (t .words) (t .binds)) r
+
+  abbrev a : ℕ
+  a = replacedTerm (w .rs) left
+
+  -- the next one is that with u
+  module _ {u : ℕ} {us : List ℕ} (is : w .rights ≡ u ∷ us) where
     abbrev b : ℕ
     b = replacedTerm (w .rs) u
 
+    -- the words of groups behind it
     abbrev vs : List ℕ
     vs = replacedWords (w .rs) (us ++ behindOf l p count n)
 
@@ -200,11 +160,11 @@ module _ {s : Sig} {l m : List ℕ} {left p count n : ℕ} {area : Area} {i : �
     tail : (q : ℕ) → q ≡ p + i + 1 → At vs m q
     tail q e = at-right (b ∷ []) q here e
 
-    rest-long : length vs ≡ n - i - 1
-    rest-long =
-        let long : length (behindOf l p count n) ≡ n - count =
-        length-part l (p + count) (n - count) (omega (arith, w .asks .inside, w .asks .here, w .asks .room-to, w .asks .room, w .asks .top)) in
-        replaced-long (w .rs) (us ++ behindOf l p count n) ∙ length-append us (behindOf l p count n) ∙ omega (arith, long, w .passed, ap length is, w .asks .inside)
+    tail-long : length vs ≡ n - i - 1
+    tail-long =
+        let c = w .asks in
+        let long : length (behindOf l p count n) ≡ n - count = length-part l (p + count) (n - count) (omega (arith, c)) in
+        replaced-long (w .rs) (us ++ behindOf l p count n) ∙ length-append us (behindOf l p count n) ∙ omega (arith, long, w .passed, ap length is, c .inside)
 
     -- the equality in front of what is left
     front : (xs : List Atom) → replacedAtoms (w .rs) (equalTo left (w .rights) ++ xs) ≡ eqn 0 a b ∷ replacedAtoms (w .rs) (equalTo left us ++ xs)
@@ -212,29 +172,23 @@ module _ {s : Sig} {l m : List ℕ} {left p count n : ℕ} {area : Area} {i : �
         ap (λ (ws : List ℕ). replacedAtoms (w .rs) (equalTo left ws ++ xs)) is
         ∙ replaced-eqn (w .rs) left u (equalTo left us ++ xs)
 
-    module _ {m₂ : List ℕ} {r : Joined} where
-      -- it stays, and what becomes of it is written
-      still : s .valueEq < limit12 → joinAsk s a b ≡ none → Step none a b m₂ r → Going m₂ (i + 1) (added t r)
-      still v e z =
-          let new : List ℕ = resolveTerms (sameTerm a b) s a b in
-          let short : length new ≤ 4 = join-short none s a b in
-          let one : List Tab = resolve s (eqn 0 a b ∷ []) in
+    -- it stays, and what becomes of it is written
+    module _ {m₂ : List ℕ} {r : Joined} (v : s .valueEq < limit12) (e : joinAsk s a b ≡ none) (z : Step none a b m₂ r) where
+      abbrev one : List Tab
+      one = resolve s (eqn 0 a b ∷ [])
+
+      after-still : (xs : List Atom)
+          → let y = after s (w .rs) left us xs in after s (w .rs) left (w .rights) xs ≡ record { tabs = one ++ y .tabs; repls = y .repls }
+      after-still xs =
+          ap (λ (ys : List Atom). canonicalize s ys []) (front xs)
+          ∙ canonicalize-still s 0 a b (replacedAtoms (w .rs) (equalTo left us ++ xs)) [] (sym (is-join-ask s a b) ∙ e)
+
+      still : Going m₂ r
+      still =
           let from : ℕ = area .to + t .words in
-          let o : Only m m₂ from (from + r .words) =
-          subst (λ (x : List ℕ). Only m x from (from + r .words)) (sym (z .words))
-          (only-splice m from new (from + r .words) (omega (arith, z .size)) (omega (arith, z .size, clear, low, top))) in
-          let put : At new m₂ from = subst (λ (x : List ℕ). At new x from) (sym (z .words)) (at-splice m from new (omega (arith, clear, low, top))) in
-          let tab-one : TabsAt one m₂ from (r .words) =
-          record {
-            fits = resolve-encodable s v (eqn 0 a b ∷ []) (tt, tt);
-            bare = bare-resolve s (eqn 0 a b ∷ []) (refl, tt);
-            size = z .size ∙ ap length (resolve-words s a b);
-            at = subst (λ (ws : List ℕ). At ws m₂ from) (resolve-words s a b) put;
-            within = omega (arith, put .within, z .size);
-          } in
-          let is-still : (xs : List Atom) → after s (w .rs) left (w .rights) xs ≡ record { tabs = one ++ after s (w .rs) left us xs .tabs; repls = after s (w .rs) left us xs .repls } =
-          λ xs. ap (λ (ys : List Atom). canonicalize s ys []) (front xs)
-          ∙ canonicalize-still s 0 a b (replacedAtoms (w .rs) (equalTo left us ++ xs)) [] (sym (is-join-ask s a b) ∙ e) in
+          let x : Stayed s m m₂ a b from (r .words) = stayed v (z .size) (z .words) (omega (arith, y .clear, y .one .binds, y .one .top)) in
+          let short = x .short in
+          let only = x .only in
           record {
             asks = w .asks;
             rights = us;
@@ -243,43 +197,52 @@ module _ {s : Sig} {l m : List ℕ} {left p count n : ℕ} {area : Area} {i : �
             vars = w .vars;
             stays = z .stays;
             passed = omega (arith, w .passed, ap length is);
-            tabs = tabs-join (w .written) one m₂ (area .to) (t .words) from (r .words) (tabs-before o (w .tabs) (omega arith)) tab-one refl;
-            behind = at-before o (tail (p + (i + 1)) (omega arith)) (omega (arith, rest-long, w .asks .inside, w .asks .here));
-            atoms = at-after o (w .atoms) (omega (arith, z .size, clear));
-            binds = subst (λ (q : ℕ). At (bindingWords (w .rs)) m₂ q) (sym (z .place)) (at-after o (w .binds) (omega (arith, z .size, clear, low)));
+            tabs = tabs-join (w .written) one m₂ (area .to) (t .words) from (r .words) (tabs-before only (w .tabs) (omega arith)) (x .tabs) refl;
+            behind = at-before only (tail (p + (i + 1)) (omega arith)) (omega (arith, tail-long, w .asks .inside, w .asks .here));
+            atoms = at-after only (w .atoms) (omega (arith, y .clear));
+            binds = subst (λ (q : ℕ). At (bindingWords (w .rs)) m₂ q) (sym (z .place)) (at-after only (w .binds) (omega (arith, y .clear, y .one .binds)));
             places = omega (arith, w .places, z .place);
-            few = omega (arith, w .few, z .size);
-            between = λ ws q y near far. let far₂ : q + length ws ≤ from = omega arith in at-before o (w .between ws q y near far) far₂;
-            only = only-then (w .only) (only-wide p (area .d) o (omega (arith, w .asks .here)) (omega (arith, z .size, clear, low, w .places)));
+            few = omega (arith, w .few);
+            between = λ ws q h near far. let far₂ : q + length ws ≤ from = omega arith in at-before only (w .between ws q h near far) far₂;
+            only = only-then (w .only) (only-wide p (area .d) only (omega (arith, w .asks .here)) (omega (arith, y .clear, y .one .binds, w .places)));
             all-tabs = λ xs. w .all-tabs xs
-                ∙ ap (λ (y : canon.Canonical). w .written ++ y .tabs) (is-still xs)
+                ∙ ap (λ (y : canon.Canonical). w .written ++ y .tabs) (after-still xs)
                 ∙ sym (append-assoc (w .written) one (after s (w .rs) left us xs .tabs));
-            all-repls = λ xs. w .all-repls xs ∙ ap (λ (y : canon.Canonical). y .repls ++ w .rs) (is-still xs);
+            all-repls = λ xs. w .all-repls xs ∙ ap (λ (y : canon.Canonical). y .repls ++ w .rs) (after-still xs);
           }
 
-      -- it asks for a replacement, which is made and bound
-      asked : (x : Replacement) → joinAsk s a b ≡ some x → Step (some x) a b m₂ r → Going m₂ (i + 1) (added t r)
-      asked x e z =
-          let told = sym (is-join-ask s a b) ∙ e in
-          let as′ : List ℕ = map (replaceTerm x) vs in
-          let kept : List ℕ = replacedWords (w .rs) (part l (area .body) (area .k)) in
-          let ea : map (replaceTerm x) (part m (p + i + 1) (n - i - 1)) ≡ as′ =
-          ap (map (replaceTerm x)) (ap (part m (p + i + 1)) (sym rest-long) ∙ tail (p + i + 1) refl .words) in
-          let long : length kept ≡ area .k =
-          replaced-long (w .rs) (part l (area .body) (area .k)) ∙ length-part l (area .body) (area .k) (omega (arith, w .asks .room, w .asks .top)) in
-          let eb : map (replaceTerm x) (part m (area .body) (area .k)) ≡ map (replaceTerm x) kept =
-          ap (map (replaceTerm x)) (ap (part m (area .body)) (sym long) ∙ w .atoms .words) in
-          let la : length as′ ≡ n - i - 1 = length-map vs (replaceTerm x) ∙ rest-long in
-          let lb : length (map (replaceTerm x) kept) ≡ area .k = length-map kept (replaceTerm x) ∙ long in
-          let high : p + i + 1 + length as′ ≤ area .to = omega (arith, w .asks .inside, w .asks .here) in
-          let y : Swapped m m₂ as′ (map (replaceTerm x) kept) (p + i + 1) (area .body) (t .binds) x (w .rs) =
-          swapped x (w .rs) (w .binds) (omega (arith, clear)) (omega (arith, low))
-          (z .words ∙ ap₂ (λ (f g : List ℕ). splice (splice (splice m (p + i + 1) f) (area .body) g) (t .binds - 3) (bindingWords (x ∷ []))) ea eb) in
-          let is-asked : (xs : List Atom) → after s (w .rs) left (w .rights) xs
-          ≡ record { tabs = after s (x ∷ w .rs) left us xs .tabs; repls = after s (x ∷ w .rs) left us xs .repls ++ (x ∷ []) } =
-          λ xs. ap (λ (ys : List Atom). canonicalize s ys []) (front xs)
+    -- it asks for a replacement, which is made and bound
+    module _ {m₂ : List ℕ} {r : Joined} {x : Replacement} (e : joinAsk s a b ≡ some x) (z : Step (some x) a b m₂ r) where
+      told : asks s (eqn 0 a b) ≡ some x
+      told = sym (is-join-ask s a b) ∙ e
+
+      after-asked : (xs : List Atom)
+          → let y = after s (x ∷ w .rs) left us xs in after s (w .rs) left (w .rights) xs ≡ record { tabs = y .tabs; repls = y .repls ++ (x ∷ []) }
+      after-asked xs =
+          ap (λ (ys : List Atom). canonicalize s ys []) (front xs)
           ∙ canonicalize-asked s 0 a b (replacedAtoms (w .rs) (equalTo left us ++ xs)) [] x told
-          ∙ canonicalize-repls s (replacedAtoms (x ∷ w .rs) (equalTo left us ++ xs)) (x ∷ []) in
+          ∙ canonicalize-repls s (replacedAtoms (x ∷ w .rs) (equalTo left us ++ xs)) (x ∷ [])
+
+      -- the atoms, as they stand
+      abbrev kept : List ℕ
+      kept = replacedWords (w .rs) (part l (area .body) (area .k))
+
+      kept-long : length kept ≡ area .k
+      kept-long = replaced-long (w .rs) (part l (area .body) (area .k)) ∙ length-part l (area .body) (area .k) (omega (arith, w .asks .room, w .asks .top))
+
+      made : Swapped m m₂ (map (replaceTerm x) vs) (map (replaceTerm x) kept) (p + i + 1) (area .body) (t .binds) x (w .rs)
+      made =
+          let behind : part m (p + i + 1) (n - i - 1) ≡ vs = ap (part m (p + i + 1)) (sym tail-long) ∙ tail (p + i + 1) refl .words in
+          let atoms : part m (area .body) (area .k) ≡ kept = ap (part m (area .body)) (sym kept-long) ∙ w .atoms .words in
+          let both : List ℕ → List ℕ → List ℕ = λ f g. splice (splice m (p + i + 1) (map (replaceTerm x) f)) (area .body) (map (replaceTerm x) g) in
+          swapped x (w .rs) (w .binds) (omega (arith, length-map vs (replaceTerm x), tail-long, y .inside, y .one .here, y .clear))
+          (omega (arith, length-map kept (replaceTerm x), kept-long, y .one .binds))
+          (z .words ∙ ap₂ (λ (f g : List ℕ). splice (both f g) (t .binds - 3) (bindingWords (x ∷ []))) behind atoms)
+
+      asked : Going m₂ r
+      asked =
+          let long : length (map (replaceTerm x) vs) ≡ n - i - 1 = length-map vs (replaceTerm x) ∙ tail-long in
+          let near : p + i + 1 + length (map (replaceTerm x) vs) ≤ area .to = omega (arith, y .inside, w .asks .here) in
           record {
             asks = w .asks;
             rights = us;
@@ -289,59 +252,39 @@ module _ {s : Sig} {l m : List ℕ} {left p count n : ℕ} {area : Area} {i : �
             stays = z .stays;
             passed = omega (arith, w .passed, ap length is);
             tabs = subst (λ (q : ℕ). TabsAt (w .written) m₂ (area .to) q) (nothing (t .words) (r .words) (z .size))
-                (tabs-moved (w .tabs) (y .between (wordsOf tabWords (w .written)) (area .to) (w .tabs .at) high (omega (arith, w .tabs .size, clear))));
-            behind = subst (λ (q : ℕ). At as′ m₂ q) (omega arith) (y .behind);
-            atoms = y .atoms;
-            binds = subst (λ (q : ℕ). At (bindingWords (x ∷ w .rs)) m₂ q) (sym (z .place)) (y .binds);
-            places = omega (arith, w .places, z .place, low);
+                (tabs-moved (w .tabs) (made .between (wordsOf tabWords (w .written)) (area .to) (w .tabs .at) near (omega (arith, w .tabs .size, y .clear))));
+            behind = subst (λ (q : ℕ). At (map (replaceTerm x) vs) m₂ q) (omega arith) (made .behind);
+            atoms = made .atoms;
+            binds = subst (λ (q : ℕ). At (bindingWords (x ∷ w .rs)) m₂ q) (sym (z .place)) (made .binds);
+            places = omega (arith, w .places, z .place, y .one .binds);
             few = omega (arith, w .few, z .size);
-            between = λ ws q v near far.
-                let near₂ : p + i + 1 + length as′ ≤ q = omega (arith, w .asks .inside) in
-                let far₂ : q + length ws ≤ area .body = omega (arith, clear) in
-                y .between ws q (w .between ws q v near far) near₂ far₂;
-            only = only-then (w .only) (only-wide p (area .d) (y .only) (omega arith) (omega (arith, w .places)));
-            all-tabs = λ xs. w .all-tabs xs ∙ ap (λ (v : canon.Canonical). w .written ++ v .tabs) (is-asked xs);
-            all-repls = λ xs. w .all-repls xs ∙ ap (λ (v : canon.Canonical). v .repls ++ w .rs) (is-asked xs)
+            between = λ ws q h low high.
+                let low₂ : p + i + 1 + length (map (replaceTerm x) vs) ≤ q = omega (arith, y .inside) in
+                let high₂ : q + length ws ≤ area .body = omega (arith, y .clear) in
+                made .between ws q (w .between ws q h low high) low₂ high₂;
+            only = only-then (w .only) (only-wide p (area .d) (made .only) (omega arith) (omega (arith, w .places)));
+            all-tabs = λ xs. w .all-tabs xs ∙ ap (λ (y : canon.Canonical). w .written ++ y .tabs) (after-asked xs);
+            all-repls = λ xs. w .all-repls xs ∙ ap (λ (y : canon.Canonical). y .repls ++ w .rs) (after-asked xs)
                 ∙ append-assoc (after s (x ∷ w .rs) left us xs .repls) (x ∷ []) (w .rs);
           }
         where
           nothing : (a b : ℕ) → b ≡ 0 → a ≡ a + b
           nothing a b g = omega arith
 
-  -- a turn of the loop
-  pub grouping-next : {m₂ : List ℕ} {r : Joined} → s .valueEq < limit12 → JoinedOne s m m₂ (t .left) (p + i) (n - i - 1) rest r → Going m₂ (i + 1) (added t r)
+  pub grouping-next : {m₂ : List ℕ} {r : Joined} → s .valueEq < limit12
+      → Step (joinAsk s (t .left) (getD m (p + i) 0)) (t .left) (getD m (p + i) 0) m₂ r → Going m₂ r
   grouping-next {m₂} {r} v z = turn (w .rights) refl
     where
-      go : (u : ℕ) (us : List ℕ) (is : w .rights ≡ u ∷ us) (o : Option Replacement) → joinAsk s (a u us is) (b u us is) ≡ o
-          → Step o (a u us is) (b u us is) m₂ r → Going m₂ (i + 1) (added t r)
-      go u us is none e y = still u us is v e y
-      go u us is (some x) e y = asked u us is x e y
+      go : {u : ℕ} {us : List ℕ} (is : w .rights ≡ u ∷ us) (o : Option Replacement) → joinAsk s a (b is) ≡ o → Step o a (b is) m₂ r → Going m₂ r
+      go is none e z = still is v e z
+      go is (some x) e z = asked is e z
 
-      turn : (zs : List ℕ) → w .rights ≡ zs → Going m₂ (i + 1) (added t r)
-      turn [] e = absurd (omega (arith, w .passed, ap length e))
+      turn : (zs : List ℕ) → w .rights ≡ zs → Going m₂ r
+      turn [] e = absurd (omega (arith, w .passed, ap length e, y .on))
       turn (u ∷ us) is =
-          go u us is (joinAsk s (a u us is) (b u us is)) refl
-          (subst (λ (y : ℕ). Step (joinAsk s (a u us is) y) (a u us is) y m₂ r) (at-first (here u us is))
-          (subst (λ (x : ℕ). Step (joinAsk s x (getD m (p + i) 0)) x (getD m (p + i) 0) m₂ r) (w .stays) z))
-
--- what is asked in a turn
-pub record GroupTurn {s : Sig} {l m : List ℕ} {left p count n : ℕ} {area : Area} {i : ℕ} {t : Joined} (w : Grouping s l m left p count n area i t) : Type 0 where
-  pub on : i < count
-  pub one : JoinOneAsks s m (t .left) (p + i) (n - i - 1) (free area (t .words) (t .binds))
-  pub inside : i + 1 ≤ n
-  pub most : area .to + 4 * count ≤ area .body
-  pub fits : area .body < 2 ^ 64
-
-pub group-turn : {s : Sig} {l m : List ℕ} {left p count n : ℕ} {area : Area} {i : ℕ} {t : Joined} (w : Grouping s l m left p count n area i t) → i < count
-    → length l < 2 ^ 64 → GroupTurn w
-group-turn w h small =
-    record {
-      on = h;
-      one = join-one-asks w h;
-      inside = omega (arith, w .asks .inside);
-      most = w .asks .room-to;
-      fits = omega (arith, w .asks .room, w .asks .top);
-    }
+          go is (joinAsk s a (b is)) refl
+          (subst (λ (q : ℕ). Step (joinAsk s a q) a q m₂ r) (at-first (here is))
+          (subst (λ (q : ℕ). Step (joinAsk s q (getD m (p + i) 0)) q (getD m (p + i) 0) m₂ r) (w .stays) z))
 
 -- ---- all of them
 

@@ -1,4 +1,4 @@
--- Laws of settling on a scratch, in reading order: the equalities of a pass, canonicalized in front of what it kept; settling.
+-- Laws of settling on a scratch, in reading order: one equality of a pass, a group of them, all groups, and what they leave put in order; settling.
 pub mod JoinOne
 pub mod Replaced
 pub mod JoinGroup

@@ -86,7 +86,8 @@ module _ (s : Sig) (r : Replacement) (v : isVar s (r .old) ≡ true) where
   group-words : (left : ℕ) (ws : List ℕ) → length ws < unit → map (replaceTerm r) (groupFor left ws) ≡ groupFor (replaceTerm r left) (map (replaceTerm r) ws)
   group-words left [] h = refl
   group-words left (w ∷ ws) h =
-      ap (λ (k : ℕ). replaceTerm r left ∷ k ∷ replaceTerm r w ∷ map (replaceTerm r) ws) (count-stays (length (w ∷ ws)) h ∙ ap suc (sym (length-map ws (replaceTerm r))))
+      ap (λ (k : ℕ). replaceTerm r left ∷ k ∷ replaceTerm r w ∷ map (replaceTerm r) ws)
+      (count-stays (length (w ∷ ws)) h ∙ ap suc (sym (length-map ws (replaceTerm r))))
 
   groups-words : (gs : List Group) → All Few gs → map (replaceTerm r) (wordsOf groupWords gs) ≡ wordsOf groupWords (map (replaceGroup r) gs)
   groups-words [] h = refl
@@ -149,8 +150,8 @@ pub tabs-moved : {ts : List Tab} {l m : List ℕ} {p q n : ℕ} → TabsAt ts l 
 tabs-moved z a = record { fits = z .fits; bare = z .bare; size = z .size; at = a; within = omega (arith, z .size, a .within) }
 
 -- with all replacements made in their words
-pub replaced-tabs : (s : Sig) (rs : List Replacement) {ts : List Tab} {l m : List ℕ} {p n : ℕ} → Vars s rs → TabsAt ts l p n → At (replacedWords rs (part l p n)) m p
-    → TabsAt (replacedTabs rs ts) m p n
+pub replaced-tabs : (s : Sig) (rs : List Replacement) {ts : List Tab} {l m : List ℕ} {p n : ℕ} → Vars s rs → TabsAt ts l p n
+    → At (replacedWords rs (part l p n)) m p → TabsAt (replacedTabs rs ts) m p n
 replaced-tabs s rs {ts} {l} {m} {p} {n} v z a =
     let y = tabs-atoms ts l p n z in
     let h = tabs-held s rs ts v (y .fits) (y .bare) in

@@ -108,8 +108,8 @@ pub record Settling (s : Sig) (l m : List ℕ) (at n : ℕ) (c : Canonical) (k :
   pub light : 4 * length rs + tabsWeight ts ≤ 2 * n
   pub only : Only l m at (at + 8 * n + 3)
 
-pub settling-start : {s : Sig} {l m : List ℕ} {at n : ℕ} {r : Canonical} → Begun l at n → CanonicalAt s (atomsIn l at n) l m at (at + 4 * n + 1) (at + 8 * n + 3) r
-    → Settling s l m at n r 0
+pub settling-start : {s : Sig} {l m : List ℕ} {at n : ℕ} {r : Canonical} → Begun l at n
+    → CanonicalAt s (atomsIn l at n) l m at (at + 4 * n + 1) (at + 8 * n + 3) r → Settling s l m at n r 0
 settling-start {s} {l} {m} {at} {n} b z =
     let xs = canonicalize s (atomsIn l at n) [] in
     record {
@@ -216,7 +216,8 @@ module _ {s : Sig} {l m : List ℕ} {at n : ℕ} {r : Canonical} {k : ℕ} (w : 
 
     -- the last pass: what stands is settled, without places and with them
     pub settled : (g : Sig) (ys : List Atom) → s .globals ≡ g .globals → s .valueEq ≡ g .valueEq → BodyAt ys l at n → t .eqs ≡ 0
-        → SettledAt g ys l m₂ at n (record { at = body; words = t .kept; atoms = t .atoms; binds = r .binds; replacements = (end - r .binds) / 3; passes = k + 1 })
+        → SettledAt g ys l m₂ at n
+        (record { at = body; words = t .kept; atoms = t .atoms; binds = r .binds; replacements = (end - r .binds) / 3; passes = k + 1 })
     settled g ys eg ev y e =
         let none : es ≡ [] = groups-none [] (w .ts) (sym size-is ∙ e) in
         let is : unplacedSettled (settle g ys) ≡ record { tabs = ks; repls = w .rs; passes = suc k } =

@@ -46,13 +46,14 @@ abbrev pub leftAfter : Option Replacement → ℕ → ℕ
 leftAfter none left = left
 leftAfter (some r) left = replaceTerm r left
 
+-- one of these two terms that asks for o
 pub record JoinStep (o : Option Replacement) (s : Sig) (l m : List ℕ) (left right p n : ℕ) (area : Area) (r : Joined) : Type 0 where
   pub stays : r .left ≡ leftAfter o left
   pub size : r .words ≡ length (joinWords o s left right)
   pub place : r .binds ≡ placeAfter o (area .d)
   pub words : m ≡ joinAfter o s l left right p n area
 
--- the term at p is the right one
+-- one whose right term stands at p
 abbrev pub JoinedOne : Sig → (l m : List ℕ) → (left p n : ℕ) → Area → Joined → Type 0
 JoinedOne s l m left p n area r = JoinStep (joinAsk s left (getD l p 0)) s l m left (getD l p 0) p n area r
 

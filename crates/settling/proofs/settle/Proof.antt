@@ -1,5 +1,5 @@
--- After the first canonicalizing and after each pass that gave equalities `Settling` holds: the passes made so far, and those that are left from the atoms that
--- stand, are those of the definition. The pass that gives none ends it, and there are no more passes than atoms. Assumes nothing.
+-- Before each pass `Settling` holds: the passes made, and those that the atoms which stand still ask for, are those of the definition. The pass that gives no
+-- equality is the last one, and there are no more passes than atoms. Assumes nothing.
 use mathlib.Core.List.{List}
 use mathlib.Core.Path.{_∙_, _≡_, refl}
 use Prim.Native.Nat.{_+_, _-_, ℕ}
@@ -9,7 +9,8 @@ use borrow.Author.Needs.{needs}
 use Rattle.octets.proofs.Words.{length-words}
 use Rattle.octets.specs.Words.{words}
 use Rattle.bodies.specs.Terms.{sig}
-use Rattle.settling.proofs.Settling.{Begun, Settling, begun, few, first-asks, merge-asks, next-asks, settled, settled-none, settling-next, settling-start}
+use Rattle.settling.proofs.Settling.{Begun, begun, first-asks, settled-none}
+use Rattle.settling.proofs.Settling.{Settling, few, merge-asks, next-asks, settled, settling-next, settling-start}
 use Rattle.settling.proofs.settle.Statement.{statement}
 use Rattle.settling.proofs.settle.Tie as tie
 
@@ -80,7 +81,8 @@ At = tie.At-loop Inv-loop μ-loop
 abbrev else : At → Else
 else c = c .before .before .before .before .before
 
-at-loop : (c : At) → let a = else c .before .before .args in Settling (sig (a .q)) (words (a .s .now)) (words (c .loop .s)) (a .at) (a .n) (c .loop .c) (c .loop .passes)
+at-loop : (c : At)
+    → let a = else c .before .before .args in Settling (sig (a .q)) (words (a .s .now)) (words (c .loop .s)) (a .at) (a .n) (c .loop .c) (c .loop .passes)
 at-loop c = c .loop .inv .1 _ (settling-start (at-else (else c)) (c .before .before .before .canonicalize .ensures))
 
 merge-pass-requires : tie.Need-merge-pass-requires Inv-loop μ-loop

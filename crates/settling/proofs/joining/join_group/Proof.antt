@@ -1,14 +1,14 @@
 -- Each turn takes the next equality of the group: `Grouping` says that what is left of the group, with the replacements made so far, canonicalizes to the
 -- rest of what the whole group does. Assumes nothing.
 use mathlib.Core.Path.{_∙_, _≡_, refl}
-use Prim.Native.Nat.{_+_, _-_}
+use Prim.Native.Nat.{_-_}
 use native.Mathlib.Omega.{arith}
 use lib.ListN.{length}
 use borrow.Author.Needs.{needs}
 use Rattle.octets.proofs.Words.{length-words}
 use Rattle.octets.specs.Words.{words}
 use Rattle.bodies.specs.Terms.{sig}
-use Rattle.settling.proofs.JoinGroup.{GroupTurn, Grouping, added, group-turn, grouping-end, grouping-next, grouping-start}
+use Rattle.settling.proofs.JoinGroup.{Going, GroupTurn, Grouping, group-turn, grouping-end, grouping-next, grouping-start}
 use Rattle.settling.proofs.joining.join_group.Statement.{statement}
 use Rattle.settling.proofs.joining.join_group.Tie as tie
 
@@ -52,12 +52,8 @@ Joined-one = tie.After-join-one Inv-loop μ-loop
 abbrev turn : Joined-one → In
 turn c = c .before .before .before .before
 
-at-next : (c : Joined-one)
-    → let e = turn c .before .before .before in
-    let a = e .args in
-    let w = turn c .before .loop in
-    Grouping (sig (a .q)) (words (a .s .now)) (words (c .join-one .last .0)) (a .left) (a .p) (a .m) (a .n) (a .area) (w .i + 1) (added (w .t) (c .join-one .result))
-at-next c = let t = turn c in grouping-next (t .before .loop .inv .1) (t .loop-test .taken) (t .before .before .before .pre .0 .equals) (c .join-one .ensures)
+at-next : (c : Joined-one) → Going (at-turn (turn c)) (words (c .join-one .last .0)) (c .join-one .result)
+at-next c = grouping-next (at-turn (turn c)) (turn c .before .before .before .pre .0 .equals) (c .join-one .ensures)
 
 add-t13 : tie.Need-add-t13 Inv-loop μ-loop
 add-t13 c = let o = c .before .before .before .before in omega (arith, at-next o .few, at-turn (turn o))

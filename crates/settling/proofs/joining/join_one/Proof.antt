@@ -119,7 +119,8 @@ returns-2 c =
     let p = joined-put (c .before) in
     let r = put-replace p in
     let e = put-else p in
-    joined-asked (at-get (else-get e)) (at-else e) (replace-met r .replace-met .ensures) (r .replace .ensures) (p .put-three .ensures .1) (new-left (c .before))
+    joined-asked (at-get (else-get e)) (at-else e) (replace-met r .replace-met .ensures) (r .replace .ensures) (p .put-three .ensures .1)
+    (new-left (c .before))
 
 pub join-one-spec : {M : Type 1} → statement M
 join-one-spec =
