@@ -1,7 +1,7 @@
 -- Each turn joins the group in front: `Joining` says that the groups behind it and the atoms, with the replacements made so far, canonicalize to the rest of
 -- what all of them do. Assumes nothing.
 use mathlib.Core.Path.{_∙_, _≡_, refl}
-use Prim.Native.Nat.{_-_}
+use Prim.Native.Nat.{_+_, _-_, _<_, _^_}
 use native.Mathlib.Omega.{arith}
 use lib.ListN.{length}
 use borrow.Author.Needs.{needs}
@@ -78,27 +78,36 @@ join-group-requires c κs = let r = c .before .before .before in (turn r .before
 
 -- ---- it is joined
 
-abbrev read : tie.After-join-group Inv-loop μ-loop → Read
+abbrev Joined : Type 0
+Joined = tie.After-join-group Inv-loop μ-loop
+
+abbrev read : Joined → Read
 read c = c .before .before .before .before
+
+-- from where the turn ends
+abbrev joined : tie.After-struct-known4 Inv-loop μ-loop → Joined
+joined c = c .before .before .before .before
 
 add-t19 : tie.Need-add-t19 Inv-loop μ-loop
 add-t19 c =
-    let o = c .before .before .before .before in
-    let z = o .join-group .ensures in
-    omega (arith, z .tabs .within, z .only .size, at-turn (turn (read o)) .fits)
+    let z = joined c .join-group .ensures in
+    omega (arith, z .tabs .within, z .only .size, at-turn (turn (read (joined c))) .fits)
+
+more-fits : (c : Read) → turn c .before .loop .i + (c .get2 .result + 2) < 2 ^ 64
+more-fits c = omega (arith, at-read c .more, turn c .before .before .before .fits .e)
 
 add-i : tie.Need-add-i Inv-loop μ-loop
-add-i c = let r = read (c .before .before .before .before) in omega (arith, at-read r .more, turn r .before .before .before .fits .e)
+add-i c = omega (arith, more-fits (read (joined c)))
 
 add-i-2 : tie.Need-add-i-2 Inv-loop μ-loop
-add-i-2 c = let r = read (c .before .before .before .before) in omega (arith, at-read r .more, turn r .before .before .before .fits .e)
+add-i-2 c = omega (arith, more-fits (read (joined c)))
 
 loop-less : tie.Need-loop-less Inv-loop μ-loop
 loop-less c = search needs
 
 loop-again : tie.Need-loop-again Inv-loop μ-loop
 loop-again c =
-    let o = c .before .before .before .before in
+    let o = joined c in
     (o .join-group .kept .0 ∙ turn (read o) .before .loop .inv .0, joining-next (at-read (read o)) (o .join-group .ensures))
 
 -- ---- all of them are joined

@@ -46,17 +46,21 @@ join-one-requires c κs = let t = c .before .before .before in (t .before .befor
 
 -- ---- the equality is joined
 
-abbrev Joined-one : Type 0
-Joined-one = tie.After-join-one Inv-loop μ-loop
+abbrev Joined : Type 0
+Joined = tie.After-join-one Inv-loop μ-loop
 
-abbrev turn : Joined-one → In
+abbrev turn : Joined → In
 turn c = c .before .before .before .before
 
-at-next : (c : Joined-one) → Going (at-turn (turn c)) (words (c .join-one .last .0)) (c .join-one .result)
+-- from where the turn ends
+abbrev joined : tie.After-struct-known4 Inv-loop μ-loop → Joined
+joined c = c .before .before .before .before
+
+at-next : (c : Joined) → Going (at-turn (turn c)) (words (c .join-one .last .0)) (c .join-one .result)
 at-next c = grouping-next (at-turn (turn c)) (turn c .before .before .before .pre .0 .equals) (c .join-one .ensures)
 
 add-t13 : tie.Need-add-t13 Inv-loop μ-loop
-add-t13 c = let o = c .before .before .before .before in omega (arith, at-next o .few, at-turn (turn o))
+add-t13 c = omega (arith, at-next (joined c) .few, at-turn (turn (joined c)))
 
 add-i : tie.Need-add-i Inv-loop μ-loop
 add-i c = search needs
@@ -65,7 +69,7 @@ loop-less : tie.Need-loop-less Inv-loop μ-loop
 loop-less c = search needs
 
 loop-again : tie.Need-loop-again Inv-loop μ-loop
-loop-again c = let o = c .before .before .before .before in (o .join-one .kept .0 ∙ turn o .before .loop .inv .0, at-next o)
+loop-again c = let o = joined c in (o .join-one .kept .0 ∙ turn o .before .loop .inv .0, at-next o)
 
 -- ---- all of them are joined
 
