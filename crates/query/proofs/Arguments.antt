@@ -11,7 +11,7 @@ use Rattle.walks.proofs.Rows.{Going, going-start, Left, left-all, left-none, le
 use Rattle.walks.proofs.Turns.{Turn, turn}
 use Rattle.query.specs.Flattened.{flattened, flattenedAll}
 use Rattle.query.proofs.Pieces.{flattened-row}
-use Rattle.query.proofs.Spots.{Spot, onward, RoomAt, Held, KnownExprs, ExprAnswers, ExprsAnswers}
+use Rattle.query.proofs.Spots.{Spot, onward, RoomAt, Held, KnownExpr, KnownExprs, ExprAnswers, ExprsAnswers}
 
 -- a walk on its way, by the three places that the loop keeps
 abbrev pub here : ℕ → ℕ → ℕ → Walk
@@ -44,7 +44,8 @@ module _ {p : Spot} {d n left top : ℕ} {s1 cs1 : List ℕ} {w : Walk} (row : R
   -- where none are left, the row is walked
   pub row-done : left ≡ 0 → ExprsAnswers p d n s1 cs1 w
   row-done z sig x c =
-      left-none flattened flattenedAll flattened-row sig (p .ws) d n (p .at) (p .to) (p .sp) (p .lg) (p .s) (p .cs) x left top s1 cs1 w (row .rest sig x c) (row .going .fine) z
+      left-none flattened flattenedAll flattened-row sig (p .ws) d n (p .at) (p .to) (p .sp) (p .lg) (p .s) (p .cs) x
+      left top s1 cs1 w (row .rest sig x c) (row .going .fine) z
 
   -- while any are left, there is another turn
   pub row-turn : 0 < left → length cs1 ≡ length (p .cs) → length s1 ≡ length (p .s) → Turn (p .ws) d (p .at) left top (p .s) (p .cs) s1 cs1 w
@@ -52,12 +53,15 @@ module _ {p : Spot} {d n left top : ℕ} {s1 cs1 : List ℕ} {w : Walk} (row : R
       let q = row .known in
       turn left (row .rest (q .sig) (q .known .0) (q .known .1) .rest) some (row .going) (row .start) (q .known .1) hc hs
 
+  pub row-known : Turn (p .ws) d (p .at) left top (p .s) (p .cs) s1 cs1 w → KnownExpr (onward p s1 cs1 top w) d
+  row-known m = record { sig = m .sig; known = (m .expr, m .counted) }
+
   module _ (m : Turn (p .ws) d (p .at) left top (p .s) (p .cs) s1 cs1 w) (s2 cs2 : List ℕ) (a : Walk) (walk : ExprAnswers (onward p s1 cs1 top w) d s2 cs2 a) where
     -- an argument that is refused refuses the row
     pub row-stop : (a .refused ≡ 0 → ⊥) → ExprsAnswers p d n s2 cs2 a
     row-stop bad sig x c =
-        left-stop flattened flattenedAll flattened-row sig (p .ws) d n (p .at) (p .to) (p .sp) (p .lg) (p .s) (p .cs) x left top s1 cs1 w (row .rest sig x c) (m .some) (m .room) s2 cs2 a
-        (λ e. walk sig e (counted-kept c (m .counters))) bad
+        left-stop flattened flattenedAll flattened-row sig (p .ws) d n (p .at) (p .to) (p .sp) (p .lg) (p .s) (p .cs) x
+        left top s1 cs1 w (row .rest sig x c) (m .some) (m .room) s2 cs2 a (λ e. walk sig e (counted-kept c (m .counters))) bad
 
     -- and behind any other, whose term is pushed, one less is left
     pub row-next : (s3 : List ℕ) → a .refused ≡ 0 → s3 ≡ set s2 top (a .term) → Row p d n (left - 1) (top + 1) s3 cs2 (here (a .next) (a .to) (a .log))
@@ -65,8 +69,8 @@ module _ {p : Spot} {d n left top : ℕ} {s1 cs1 : List ℕ} {w : Walk} (row : R
         let q = row .known in
         let g =
         left-going flattened flattenedAll flattened-row (q .sig) (p .ws) d n (p .at) (p .to) (p .sp) (p .lg) (p .s) (p .cs) (q .known .0) left top s1 cs1 w
-        (row .rest (q .sig) (q .known .0) (q .known .1)) (m .some) (m .room) s2 cs2 a (λ e. walk (q .sig) e (counted-kept (q .known .1) (m .counters))) s3 (row .start) (row .going)
-        fine put in
+        (row .rest (q .sig) (q .known .0) (q .known .1)) (m .some) (m .room) s2 cs2 a (λ e. walk (q .sig) e (counted-kept (q .known .1) (m .counters)))
+        s3 (row .start) (row .going) fine put in
         record {
           start = row .start;
           held = row .held;
@@ -77,8 +81,8 @@ module _ {p : Spot} {d n left top : ℕ} {s1 cs1 : List ℕ} {w : Walk} (row : R
       where
         one-less : (sig : Sig) (x : ExprsAt sig (p .ws) d n (p .at)) → Counted sig (p .cs) → LeftOf p d n sig x (left - 1) (top + 1) s3 cs2 a
         one-less sig x c =
-            left-next flattened flattenedAll flattened-row sig (p .ws) d n (p .at) (p .to) (p .sp) (p .lg) (p .s) (p .cs) x left top s1 cs1 w (row .rest sig x c) (m .some) (m .room) s2 cs2 a
-            (λ e. walk sig e (counted-kept c (m .counters))) s3 fine put
+            left-next flattened flattenedAll flattened-row sig (p .ws) d n (p .at) (p .to) (p .sp) (p .lg) (p .s) (p .cs) x
+            left top s1 cs1 w (row .rest sig x c) (m .some) (m .room) s2 cs2 a (λ e. walk sig e (counted-kept c (m .counters))) s3 fine put
 
         placed : (sig : Sig) (x : ExprsAt sig (p .ws) d n (p .at)) → LeftOf p d n sig x (left - 1) (top + 1) s3 cs2 a
             → LeftOf p d n sig x (left - 1) (top + 1) s3 cs2 (here (a .next) (a .to) (a .log))

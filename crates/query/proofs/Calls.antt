@@ -38,12 +38,13 @@ module _ {p : Spot} {d w : ℕ} {g : Begun p d w} {v : ℕ} {s1 cs1 : List ℕ} 
       let hl = f .left in
       record {
         walk =
-            λ sig es c. leaves-walked sig (p .ws) (d - 1) (countOf w) k (p .at + 1) (p .to) (p .sp) (p .lg + 1) s1 cs1 sl es (inner-room o s1 refl) most (f .put) (f .bound) (c .few)
-            (omega arith) (f .run) all;
+            λ sig es c. leaves-walked sig (p .ws) (d - 1) (countOf w) k (p .at + 1) (p .to) (p .sp) (p .lg + 1) s1 cs1 sl es
+            (inner-room o s1 refl) most (f .put) (f .bound) (c .few) (omega arith) (f .run) all;
       }
 
   -- and the atom around them is the call's
-  pub leaves-answer : (s3 : List ℕ) (e : ℕ) → k ≡ countOf w → e ≡ p .to + countOf w + 2 → s3 ≡ splice sl (p .to) ((w + 1) ∷ (part sl (p .to + 1) (countOf w) ++ (v ∷ [])))
+  pub leaves-answer : (s3 : List ℕ) (e : ℕ) → k ≡ countOf w → e ≡ p .to + countOf w + 2
+      → s3 ≡ splice sl (p .to) ((w + 1) ∷ (part sl (p .to + 1) (countOf w) ++ (v ∷ [])))
       → ExprAnswers p d s3 cs1 (record { next = p .at + 1 + k; to = e; log = p .lg + 1; term = v; refused = 0 })
   leaves-answer s3 e all there put = walked-done (whole all) refl s3 e there (omega (arith, around-room)) put
 

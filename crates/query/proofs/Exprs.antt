@@ -13,7 +13,7 @@ use Rattle.rules.specs.Signature.{Sig}
 use Rattle.rules.specs.Written.{Exprs}
 use Rattle.rules.specs.ToQuery.{Fresh, fresh}
 use Rattle.walks.specs.Log.{Taken}
-use Rattle.walks.specs.Steps.{Piece, Walked, InAnswer, OnStack, Counted, ExprAt, ExprsAt}
+use Rattle.walks.specs.Steps.{Piece, Walked, InAnswer, OnStack, Counted, ExprsAt}
 use Rattle.walks.specs.declared.Walk.{Walk}
 use Rattle.walks.proofs.Asks.{room-in, CallFacts, call-facts}
 use Rattle.walks.proofs.Frames.{kept-none}
@@ -22,7 +22,7 @@ use Rattle.walks.proofs.Read.{leaf-cases, call-cases, exprs-many}
 use Rattle.walks.proofs.Words.{head-word}
 use Rattle.query.specs.Flattened.{flattened, flattenedAll}
 use Rattle.query.proofs.Pieces.{callPiece, flattened-leaf, flattened-call}
-use Rattle.query.proofs.Spots.{Spot, RoomAt, Held, KnownExpr, ExprAnswers}
+use Rattle.query.proofs.Spots.{Spot, RoomAt, Held, KnownExpr, ExprWalked, ExprAnswers}
 use Rattle.query.proofs.Direct.{AtomRoom, atom-room-in}
 
 -- a name or a literal is its own term
@@ -30,7 +30,7 @@ pub leaf-answer : (p : Spot) (d w : ℕ) → w ≡ getD (p .ws) (p .at) 0 → li
     → ExprAnswers p d (p .s) (p .cs) (record { next = p .at + 1; to = p .to; log = p .lg; term = w; refused = 0 })
 leaf-answer p d w is high sig x c =
     let r : Walk = record { next = p .at + 1; to = p .to; log = p .lg; term = w; refused = 0 } in
-    leaf-cases sig (p .ws) (c .few) (λ t k. Walked 1 (InAnswer (p .lg) r) (flattened t (p .cs)) k (p .at) (p .to) (p .sp) (p .lg) (p .s) (p .cs) (p .s) (p .cs) r) d (p .at) w x is high
+    leaf-cases sig (p .ws) (c .few) (λ t k. ExprWalked p (flattened t (p .cs)) k (p .s) (p .cs) r) d (p .at) w x is high
     (λ i old. rw (flattened-leaf (p .at) w (p .cs))
     (record {
       kept = kept-none (p .to) (p .to + 4 * 1) (p .sp) (p .sp + 1) (p .lg) (p .lg + 1) (p .s) (p .cs) (omega arith);
@@ -78,10 +78,10 @@ module _ {p : Spot} {d w : ℕ} (g : Begun p d w) where
   -- a walk of the call, by its arguments, is one of the expression
   answer : (s′ cs′ : List ℕ) (r : Walk)
       → ((sig : Sig) (es : ArgsAt sig) → Counted sig (p .cs) → headBase ≤ w
-      → Walked 1 (InAnswer (p .lg) r) (callResult (p .at) (headOf w) (es .value) (p .cs)) (1 + es .size) (p .at) (p .to) (p .sp) (p .lg) (p .s) (p .cs) s′ cs′ r)
+      → ExprWalked p (callResult (p .at) (headOf w) (es .value) (p .cs)) (1 + es .size) s′ cs′ r)
       → ExprAnswers p d s′ cs′ r
   answer s′ cs′ r walk sig x c =
-      call-cases sig (p .ws) (c .few) (λ t k. Walked 1 (InAnswer (p .lg) r) (flattened t (p .cs)) k (p .at) (p .to) (p .sp) (p .lg) (p .s) (p .cs) s′ cs′ r) d (p .at) w x (g .is) (g .low)
+      call-cases sig (p .ws) (c .few) (λ t k. ExprWalked p (flattened t (p .cs)) k s′ cs′ r) d (p .at) w x (g .is) (g .low)
       (λ es deep high h. rw (flattened-call (p .at) (headOf w) (es .value) (p .cs)) (walk sig es c high))
 
 -- ---- a variable is asked for, which gives v and leaves s1 and cs1
@@ -94,7 +94,8 @@ pub none-left : {p : Spot} {d w : ℕ} (g : Begun p d w) {v : ℕ} {s1 cs1 : Lis
     → ExprAnswers p d s1 cs1 (record { next = p .at; to = p .to; log = p .lg; term = 0; refused = usedUp })
 none-left {p} {d} {w} g {v} {s1} {cs1} asked z =
     answer g s1 cs1 (record { next = p .at; to = p .to; log = p .lg; term = 0; refused = usedUp })
-    (λ sig es c high. full-first (1 + es .size) (p .at) (p .to) (p .sp) (p .lg) (headOf w) v (p .to) (p .s) (p .cs) s1 cs1 (fresh (p .at) (headOf w) (p .cs)) _ (asked (p .at)) z)
+    (λ sig es c high. full-first (1 + es .size) (p .at) (p .to) (p .sp) (p .lg) (headOf w) v (p .to) (p .s) (p .cs) s1 cs1
+    (fresh (p .at) (headOf w) (p .cs)) _ (asked (p .at)) z)
 
 pub record Named {p : Spot} {d w : ℕ} (g : Begun p d w) (v : ℕ) (s1 cs1 : List ℕ) : Type 0 where
   pub asked : Asked p w v s1 cs1
@@ -114,9 +115,11 @@ module _ {p : Spot} {d w : ℕ} {g : Begun p d w} {v : ℕ} {s1 cs1 : List ℕ} 
 
 pub record Walked-on {p : Spot} {d w : ℕ} {g : Begun p d w} {v : ℕ} {s1 cs1 : List ℕ} (o : Named g v s1 cs1) (from : ℕ) (s2 cs2 : List ℕ) (a : Walk) : Type 0 where
   pub walk : (sig : Sig) (es : ExprsAt sig (p .ws) (d - 1) (countOf w) (p .at + 1)) → Counted sig (p .cs)
-      → Walked (countOf w) (OnStack from (countOf w) (p .lg + 1) s2 a) (flattenedAll (es .value) cs1) (es .size) (p .at + 1) (p .to) (p .sp) (p .lg + 1) s1 cs1 s2 cs2 a
+      → Walked (countOf w) (OnStack from (countOf w) (p .lg + 1) s2 a) (flattenedAll (es .value) cs1) (es .size)
+      (p .at + 1) (p .to) (p .sp) (p .lg + 1) s1 cs1 s2 cs2 a
 
-module _ {p : Spot} {d w : ℕ} {g : Begun p d w} {v : ℕ} {s1 cs1 : List ℕ} {o : Named g v s1 cs1} {from : ℕ} {s2 cs2 : List ℕ} {a : Walk} (m : Walked-on o from s2 cs2 a) where
+module _ {p : Spot} {d w : ℕ} {g : Begun p d w} {v : ℕ} {s1 cs1 : List ℕ} {o : Named g v s1 cs1} {from : ℕ} {s2 cs2 : List ℕ} {a : Walk}
+    (m : Walked-on o from s2 cs2 a) where
   rooms : (sig : Sig) (es : ArgsAt g sig)
       → (p .to + 4 * (1 + es .size) ≤ p .sp) × (p .sp + (1 + es .size) ≤ p .lg) × (p .lg + (1 + es .size) ≤ length (p .s))
   rooms sig es =
@@ -128,8 +131,9 @@ module _ {p : Spot} {d w : ℕ} {g : Begun p d w} {v : ℕ} {s1 cs1 : List ℕ} 
   pub walked-stop : (a .refused ≡ 0 → ⊥) → ExprAnswers p d s2 cs2 a
   walked-stop bad =
       answer g s2 cs2 a
-      (λ sig es c high. first-stop (es .size) (p .at) (p .to) (p .sp) (p .lg) v (p .s) (p .cs) s1 cs1 s2 cs2 a (rooms sig es .0) (rooms sig es .1) (rooms sig es .2) (o .counters)
-      (fresh (p .at) (headOf w) (p .cs)) (flattenedAll (es .value)) (callPiece (headOf w)) (o .asked (p .at)) (o .some) (m .walk sig es c) bad)
+      (λ sig es c high. first-stop (es .size) (p .at) (p .to) (p .sp) (p .lg) v (p .s) (p .cs) s1 cs1 s2 cs2 a
+      (rooms sig es .0) (rooms sig es .1) (rooms sig es .2) (o .counters) (fresh (p .at) (headOf w) (p .cs)) (flattenedAll (es .value)) (callPiece (headOf w))
+      (o .asked (p .at)) (o .some) (m .walk sig es c) bad)
 
   module _ (fine : a .refused ≡ 0) where
     -- what the call's own atom asks, whose arguments are on the stack
@@ -157,7 +161,8 @@ module _ {p : Spot} {d w : ℕ} {g : Begun p d w} {v : ℕ} {s1 cs1 : List ℕ} 
         r : Walk
         r = record { next = a .next; to = e; log = a .log; term = v; refused = 0 }
 
-        own : headBase ≤ w → (f : Fresh) (q : Piece) → v ≡ f .var → OnStack from n (p .lg + 1) s2 a q → Own (InAnswer (p .lg) r) q ys (q .next) (callPiece (headOf w) f q)
+        own : headBase ≤ w → (f : Fresh) (q : Piece) → v ≡ f .var → OnStack from n (p .lg + 1) s2 a q
+            → Own (InAnswer (p .lg) r) q ys (q .next) (callPiece (headOf w) f q)
         own high f q ev on =
             let hd : w + 1 ≡ headWord (headOf w) (suc (length (q .terms))) = omega (arith, head-word w high, on .size) in
             record {
@@ -167,9 +172,10 @@ module _ {p : Spot} {d w : ℕ} {g : Begun p d w} {v : ℕ} {s1 cs1 : List ℕ} 
             }
 
         done : (sig : Sig) (es : ArgsAt g sig) → Counted sig (p .cs) → headBase ≤ w
-            → Walked 1 (InAnswer (p .lg) r) (callResult (p .at) (headOf w) (es .value) (p .cs)) (1 + es .size) (p .at) (p .to) (p .sp) (p .lg) (p .s) (p .cs) s3 cs2 r
+            → ExprWalked p (callResult (p .at) (headOf w) (es .value) (p .cs)) (1 + es .size) s3 cs2 r
         done sig es c high =
             let lp = length-part s2 from n inside in
             let ly : length ys ≡ n + 2 = omega (arith, length-append (part s2 from n) (v ∷ [])) in
-            first-done (es .size) (p .at) (p .to) (p .sp) (p .lg) v (p .s) (p .cs) s1 cs1 s2 cs2 a (rooms sig es .0) (rooms sig es .1) (rooms sig es .2) (o .counters) 1 (InAnswer (p .lg) r) s3 ys e v
-            (fresh (p .at) (headOf w) (p .cs)) (flattenedAll (es .value)) (callPiece (headOf w)) (omega arith) (o .asked (p .at)) (o .some) (m .walk sig es c) fine put (omega arith) (own high)
+            first-done (es .size) (p .at) (p .to) (p .sp) (p .lg) v (p .s) (p .cs) s1 cs1 s2 cs2 a
+            (rooms sig es .0) (rooms sig es .1) (rooms sig es .2) (o .counters) 1 (InAnswer (p .lg) r) s3 ys e v (fresh (p .at) (headOf w) (p .cs)) (flattenedAll (es .value))
+            (callPiece (headOf w)) (omega arith) (o .asked (p .at)) (o .some) (m .walk sig es c) fine put (omega arith) (own high)

@@ -7,7 +7,7 @@ use lib.ListN.{length}
 use Rattle.rules.specs.Refusals.{ok, _>>=_}
 use Rattle.rules.specs.Signature.{Sig}
 use Rattle.rules.specs.Written.{Fact, readFact, readRow}
-use Rattle.walks.specs.Steps.{both, Walked, NoTerms, Counted}
+use Rattle.walks.specs.Steps.{both, NoTerms, Counted}
 use Rattle.walks.specs.declared.Walk.{Walk}
 use Rattle.walks.proofs.Steps.{went, stop, none-walked, walk-then}
 use Rattle.walks.proofs.Read.{moved, row-cases, no-row-cases}
@@ -16,11 +16,11 @@ use Rattle.walks.proofs.Asks.{counted-kept}
 use Rattle.query.specs.Flattened.{flattenedFact, query, FactAt, FactsAt}
 use Rattle.query.proofs.Pieces.{query-none, query-more}
 use Rattle.query.proofs.Facts.{fact-on}
-use Rattle.query.proofs.Spots.{Spot, onward, RoomAt, KnownFact, KnownFacts, FactAnswers, FactsAnswers}
+use Rattle.query.proofs.Spots.{Spot, onward, RoomAt, KnownFact, KnownFacts, FactWalked, FactAnswers, FactsAnswers}
 
 -- the walk of `size` words as the facts fs from the spot p on
 abbrev WalkedFrom : Spot → List Fact → ℕ → List ℕ → List ℕ → Walk → Type 0
-WalkedFrom p fs size s′ cs′ r = Walked 0 NoTerms (query fs (p .cs)) size (p .at) (p .to) (p .sp) (p .lg) (p .s) (p .cs) s′ cs′ r
+WalkedFrom p fs size s′ cs′ r = FactWalked p (query fs (p .cs)) size s′ cs′ r
 
 -- of the n facts x `left` are left where the walk w has come to, and walking them makes the whole
 pub record Left (p : Spot) (n : ℕ) (sig : Sig) (x : FactsAt sig (p .ws) n (p .at)) (left : ℕ) (s1 cs1 : List ℕ) (w : Walk) : Type 0 where
@@ -67,7 +67,8 @@ module _ {p : Spot} {n left : ℕ} {s1 cs1 : List ℕ} {w : Walk} (row : Row p n
     pub row-asks : KnownFact (onward p s1 cs1 (p .sp) w) × RoomAt (onward p s1 cs1 (p .sp) w)
     row-asks =
         let q = row .known in
-        let f = by-first (q .sig) (p .ws) (λ fs k. FactAt (q .sig) (p .ws) (w .next)) left (w .next) (row .rest (q .sig) (q .known .0) (q .known .1) .rest) some (λ f fs. f) in
+        let f = by-first (q .sig) (p .ws) (λ fs k. FactAt (q .sig) (p .ws) (w .next)) left (w .next)
+        (row .rest (q .sig) (q .known .0) (q .known .1) .rest) some (λ f fs. f) in
         (record { sig = q .sig; known = (f, counted-kept (q .known .1) (row .going .kept .heads)) }, next-room)
 
     module _ (s2 cs2 : List ℕ) (a : Walk) (walk : FactAnswers (onward p s1 cs1 (p .sp) w) s2 cs2 a) where
@@ -79,7 +80,8 @@ module _ {p : Spot} {n left : ℕ} {s1 cs1 : List ℕ} {w : Walk} (row : Row p n
           l .whole s2 cs2 a
           (by-first sig (p .ws) (λ fs k. WalkedFrom (onward p s1 cs1 (p .sp) w) fs k s2 cs2 a) left (w .next) (l .rest) some
           (λ f fs. rw (query-more (f .value) (fs .value) cs1)
-          (stop (f .size + fs .size) (w .next) (flattenedFact (f .value) cs1) (λ q. _>>=_ (query (fs .value) (q .next)) (λ u. ok (both q u))) (walk sig f c1) bad (omega arith))))
+          (stop (f .size + fs .size) (w .next) (flattenedFact (f .value) cs1) (λ q. _>>=_ (query (fs .value) (q .next)) (λ u. ok (both q u)))
+          (walk sig f c1) bad (omega arith))))
 
       -- and behind any other, one less is left
       pub row-next : a .refused ≡ 0 → Row p n (left - 1) s2 cs2 a

@@ -24,7 +24,7 @@ use Rattle.walks.proofs.Read.{moved, expr-at}
 use Rattle.walks.proofs.Asks.{counted-kept, There, right-there}
 use Rattle.query.specs.Flattened.{flattened, flattenedFact, FactAt}
 use Rattle.query.proofs.Pieces.{silent, equated, flattened-holds, flattened-equal}
-use Rattle.query.proofs.Spots.{Spot, onward, RoomAt, Held, KnownFact, KnownExpr, ExprAnswers, FactAnswers}
+use Rattle.query.proofs.Spots.{Spot, onward, RoomAt, Held, KnownFact, KnownExpr, ExprAnswers, FactWalked, FactAnswers}
 
 -- ---- what the first word of a fact tells
 
@@ -131,7 +131,7 @@ module _ {p : Spot} {w : ℕ} (g : Begun p w) where
 
     pub holds-answer : (s1 cs1 : List ℕ) (r : Walk) → ExprAnswers p maxDepth s1 cs1 r → FactAnswers p s1 cs1 r
     holds-answer s1 cs1 r walk sig x c =
-        holds-cases sig (p .ws) (λ f k. Walked 0 NoTerms (flattenedFact f (p .cs)) k (p .at) (p .to) (p .sp) (p .lg) (p .s) (p .cs) s1 cs1 r) (p .at) w x (g .is) ne
+        holds-cases sig (p .ws) (λ f k. FactWalked p (flattenedFact f (p .cs)) k s1 cs1 r) (p .at) w x (g .is) ne
         (λ e. rw (flattened-holds (e .value) (p .cs)) (with-terms (flattened (e .value) (p .cs)) silent (walk sig e c) (omega arith) (λ q. (refl, refl)) (λ q t. refl)))
 
   -- it is an equality's: the left side stands behind it
@@ -173,20 +173,20 @@ module _ {p : Spot} {w : ℕ} {g : Begun p w} {s1 cs1 : List ℕ} {l : Walk} (m 
   -- a walk of the sides is one of the fact
   answer : (s′ cs′ : List ℕ) (r : Walk)
       → ((sig : Sig) (a : Left sig) (b : Right sig a) → Counted sig (p .cs)
-      → Walked 0 NoTerms (equality (a .value) (b .value) (p .cs)) (1 + (a .size + b .size)) (p .at) (p .to) (p .sp) (p .lg) (p .s) (p .cs) s′ cs′ r)
+      → FactWalked p (equality (a .value) (b .value) (p .cs)) (1 + (a .size + b .size)) s′ cs′ r)
       → FactAnswers p s′ cs′ r
   answer s′ cs′ r walk sig x c =
-      by-sides (λ f k. Walked 0 NoTerms (flattenedFact f (p .cs)) k (p .at) (p .to) (p .sp) (p .lg) (p .s) (p .cs) s′ cs′ r) sig x
+      by-sides (λ f k. FactWalked p (flattenedFact f (p .cs)) k s′ cs′ r) sig x
       (λ a b. rw (flattened-equal (p .at) (a .value) (b .value) (p .cs)) (walk sig a b c))
 
   pub left-refused : (l .refused ≡ 0 → ⊥) → FactAnswers p s1 cs1 l
   left-refused bad = answer s1 cs1 l (λ sig a b c. halt sig a b c)
     where
       halt : (sig : Sig) (a : Left sig) (b : Right sig a) → Counted sig (p .cs)
-          → Walked 0 NoTerms (equality (a .value) (b .value) (p .cs)) (1 + (a .size + b .size)) (p .at) (p .to) (p .sp) (p .lg) (p .s) (p .cs) s1 cs1 l
+          → FactWalked p (equality (a .value) (b .value) (p .cs)) (1 + (a .size + b .size)) s1 cs1 l
       halt sig a b c =
           let size = 1 + (a .size + b .size) in
-          let one : Walked 0 NoTerms (andThen (flattened (a .value) (p .cs)) (flattened (b .value))) size (p .at) (p .to) (p .sp) (p .lg) (p .s) (p .cs) s1 cs1 l =
+          let one : FactWalked p (andThen (flattened (a .value) (p .cs)) (flattened (b .value))) size s1 cs1 l =
           stop size (p .at) (flattened (a .value) (p .cs)) (λ q. _>>=_ (flattened (b .value) (q .next)) (λ u. ok (both q u))) (m .walk sig a c) bad (omega arith) in
           stop size (p .at) (andThen (flattened (a .value) (p .cs)) (flattened (b .value))) (λ q. ok (equated q)) one bad (omega arith)
 
@@ -196,7 +196,8 @@ module _ {p : Spot} {w : ℕ} {g : Begun p w} {s1 cs1 : List ℕ} {l : Walk} (m 
     right-there-at =
         let q = g .known in
         by-sides (λ f k. There (q .sig) (p .ws) maxDepth (p .sp) (length s1) l) (q .sig) (q .known .0)
-        (λ a b. right-there (q .sig) (p .ws) maxDepth (length s1) (a .size) (g .room) (m .scratch) (went (flattened (a .value) (p .cs)) (m .walk (q .sig) a (q .known .1)) fine) b)
+        (λ a b. right-there (q .sig) (p .ws) maxDepth (length s1) (a .size) (g .room) (m .scratch)
+        (went (flattened (a .value) (p .cs)) (m .walk (q .sig) a (q .known .1)) fine) b)
 
     pub right-known : KnownExpr (onward p s1 cs1 (p .sp) l) maxDepth
     right-known = record { sig = g .known .sig; known = (right-there-at .expr, counted-kept (g .known .known .1) (m .counters)) }
@@ -221,13 +222,16 @@ module _ {p : Spot} {w : ℕ} {g : Begun p w} {s1 cs1 : List ℕ} {l : Walk} {m 
       let g1 = went (flattened (a .value) (p .cs)) (m .walk sig a c) (o .fine) in
       let b2 = moved (readExpr sig (p .ws) maxDepth) (p .ws) (p .at + 1 + a .size) (l .next) (sym (g1 .next)) b in
       let i = b .inside in
-      walk-then (a .size) (b .size) (p .at + 1) (p .to) (p .sp) (p .sp) (p .lg) (p .s) (p .cs) s1 cs1 s2 cs2 l r (omega (arith, g .room .stack)) (omega arith) (omega arith) 2 Both
-      (flattened (a .value) (p .cs)) (flattened (b .value)) (omega arith) (m .walk sig a c) (o .fine) (o .walk sig b2 (counted-kept c (m .counters))) (λ q u t v. λ i. t .term i ++ v .term i)
+      walk-then (a .size) (b .size) (p .at + 1) (p .to) (p .sp) (p .sp) (p .lg) (p .s) (p .cs) s1 cs1 s2 cs2 l r
+      (omega (arith, g .room .stack)) (omega arith) (omega arith) 2 Both
+      (flattened (a .value) (p .cs)) (flattened (b .value)) (omega arith) (m .walk sig a c) (o .fine) (o .walk sig b2 (counted-kept c (m .counters)))
+      (λ q u t v. λ i. t .term i ++ v .term i)
 
   pub right-refused : (r .refused ≡ 0 → ⊥) → FactAnswers p s2 cs2 r
   right-refused bad =
       answer m s2 cs2 r
-      (λ sig a b c. stop (1 + (a .size + b .size)) (p .at) (andThen (flattened (a .value) (p .cs)) (flattened (b .value))) (λ q. ok (equated q)) (sides sig a b c) bad (omega arith))
+      (λ sig a b c. stop (1 + (a .size + b .size)) (p .at) (andThen (flattened (a .value) (p .cs)) (flattened (b .value))) (λ q. ok (equated q))
+      (sides sig a b c) bad (omega arith))
 
   -- both are fine: the equality has room
   pub three-room : r .refused ≡ 0 → r .to + 3 ≤ length s2
@@ -251,11 +255,12 @@ module _ {p : Spot} {w : ℕ} {g : Begun p w} {s1 cs1 : List ℕ} {l : Walk} {m 
       own q t = record { words = λ i. q .words ++ equalityWord ∷ t i; counters = refl; terms = refl }
 
       done : (sig : Sig) (a : Left m sig) (b : Right m sig a) → Counted sig (p .cs)
-          → Walked 0 NoTerms (equality (a .value) (b .value) (p .cs)) (1 + (a .size + b .size)) (p .at) (p .to) (p .sp) (p .lg) (p .s) (p .cs) s3 cs2
+          → FactWalked p (equality (a .value) (b .value) (p .cs)) (1 + (a .size + b .size)) s3 cs2
           (record { next = r .next; to = e; log = r .log; term = 0; refused = 0 })
       done sig a b c =
           let i = b .inside in
           let room = g .room in
           written 0 NoTerms (a .size + b .size) (1 + (a .size + b .size)) (p .at + 1) (p .at) (p .to) (p .sp) (p .lg) (p .s) (p .cs) s2 cs2 s3 ys r e 0
           (andThen (flattened (a .value) (p .cs)) (flattened (b .value))) equated
-          (omega (arith, room .words)) (omega (arith, room .stack)) (omega (arith, room .log)) (omega arith) (omega arith) (omega arith) (sides sig a b c) fine put (omega arith) own
+          (omega (arith, room .words)) (omega (arith, room .stack)) (omega (arith, room .log)) (omega arith) (omega arith) (omega arith)
+          (sides sig a b c) fine put (omega arith) own

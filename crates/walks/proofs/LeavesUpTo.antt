@@ -58,7 +58,8 @@ module _ (most : ℕ) where
   each [] i h = absurd (omega (arith, none))
   each (w ∷ l) i h = go (isLeaf most w) refl i h (λ j. each l j)
     where
-      go : (b : Bool) → isLeaf most w ≡ b → (i : ℕ) → i < leavesUpTo most (w ∷ l) → ((j : ℕ) → j < leavesUpTo most l → Leaf most (getD l j 0)) → Leaf most (getD (w ∷ l) i 0)
+      go : (b : Bool) → isLeaf most w ≡ b → (i : ℕ) → i < leavesUpTo most (w ∷ l) → ((j : ℕ) → j < leavesUpTo most l → Leaf most (getD l j 0))
+          → Leaf most (getD (w ∷ l) i 0)
       go true e zero h more = leaf-word most w e
       go true e (suc j) h more = more j (omega (arith, one-more w l e))
       go false e i h more = absurd (omega (arith, no-more w l e))
@@ -101,7 +102,8 @@ module _ {most : ℕ} {ws : List ℕ} {at n k : ℕ} (p : Passed most ws at n k)
     pub passed-next : literalBase ≤ w → w ≤ most → Passed most ws at n (k + 1)
     passed-next low high =
         let e : at + k + 1 ≡ at + (k + 1) = omega arith in
-        let one = ap (leavesUpTo most) first ∙ one-more most w _ (rw (le-leb literalBase w low, le-leb w most high)) ∙ ap (λ (j : ℕ). suc (leavesUpTo most (part ws j (n - (k + 1))))) e in
+        let leaf : isLeaf most w ≡ true = rw (le-leb literalBase w low, le-leb w most high) in
+        let one = ap (leavesUpTo most) first ∙ one-more most w _ leaf ∙ ap (λ (j : ℕ). suc (leavesUpTo most (part ws j (n - (k + 1))))) e in
         record { inside = p .inside; count = omega (arith, p .count, one) }
 
     other : isLeaf most w ≡ false → k ≡ leavesUpTo most (part ws at n)

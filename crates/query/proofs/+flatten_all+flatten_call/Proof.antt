@@ -6,10 +6,9 @@ use native.Mathlib.Omega.{arith}
 use lib.ListN.{length}
 use Rattle.octets.specs.Words.{words}
 use Rattle.octets.proofs.Words.{length-words, length-words-kept}
-use Rattle.walks.specs.declared.Walk.{Walk}
 use Rattle.walks.proofs.Turns.{Turn}
 use Rattle.query.proofs.Spots.{Spot, Held, onward}
-use Rattle.query.proofs.Arguments.{here, Row, row-start, row-turn, row-done, row-stop, row-next}
+use Rattle.query.proofs.Arguments.{here, Row, row-start, row-turn, row-known, row-done, row-stop, row-next}
 use Rattle.query.proofs.Exprs.{leaf-answer, Begun, begun, none-left, Named}
 use Rattle.query.proofs.Calls.{Fronted, around-room, leaves-answer, args-known, args-room, Argued, args-refused, atom-asks, call-answer}
 use borrow.Author.Needs.{needs}
@@ -101,7 +100,8 @@ module _ (t : ℕ) where
   all-loop-holds : In-all all-lts.Need-loop-holds
   all-loop-holds c =
       let s : In-all all-lts.Start = c .before .before .before in
-      let held : Held (all-spot s) = record { rule = omega (arith, length-words (s .args .rule .now), s .good); scratch = omega (arith, length-words (s .args .scratch .now), s .good) } in
+      let a = s .args in
+      let held : Held (all-spot s) = record { rule = omega (arith, length-words (a .rule .now), s .good); scratch = omega (arith, length-words (a .scratch .now), s .good) } in
       (refl, refl, row-start (s .pre .1 .0) (s .pre .1 .1) held)
 
   all-get-requires : In-all all-lts.Need-get-requires
@@ -149,8 +149,9 @@ module _ (t : ℕ) where
   all-flatten-call-requires : In-all all-lts.Need-flatten-call-requires
   all-flatten-call-requires c κs =
       let e = c .before .before in
-      let m = at-turn (e .before .before) in
-      (omega (arith, turn-start (e .before .before) .pre .0, m .on), (record { sig = m .sig; known = (m .expr, m .counted) }, (m .room, (e .before .get .ensures .is, e .if1 .left))))
+      let u = e .before .before in
+      let m = at-turn u in
+      (omega (arith, turn-start u .pre .0, m .on), (row-known (u .before .loop .inv .2) m, (m .room, (e .before .get .ensures .is, e .if1 .left))))
 
   -- both slices are as long as at the start
   all-counters-kept : (c : In-all all-lts.After-flatten-call) → length (c .flatten-call .last .1 .1 .1 .1 .0) ≡ length (turn-start (call-turn c) .args .counters .now)
@@ -233,7 +234,8 @@ module _ (t : ℕ) where
 
   at-start : (c : In-call call-lts.Start) → Begun (spot c) (c .args .depth) (c .args .w)
   at-start c =
-      let held : Held (spot c) = record { rule = omega (arith, length-words (c .args .rule .now), c .good); scratch = omega (arith, length-words (c .args .scratch .now), c .good) } in
+      let a = c .args in
+      let held : Held (spot c) = record { rule = omega (arith, length-words (a .rule .now), c .good); scratch = omega (arith, length-words (a .scratch .now), c .good) } in
       begun (c .pre .1 .0) (c .pre .1 .1 .0) held (c .pre .1 .1 .1 .0) (c .pre .1 .1 .1 .1)
 
   call-sub-h : In-call call-lts.Need-sub-h
@@ -371,14 +373,17 @@ module _ (t : ℕ) where
   abbrev fronted : In-call call-lts.After-flatten-all → In-call call-lts.After-leaves
   fronted c = mixed (c .before .before .before)
 
-  at-args : (c : In-call call-lts.After-flatten-all) → let k = c .flatten-all in Argued (at-leaves (fronted c)) (words (k .last .1 .1 .1 .1 .1 .0)) (words (k .last .1 .1 .1 .1 .0)) (k .result)
+  at-args : (c : In-call call-lts.After-flatten-all)
+      → let k = c .flatten-all in Argued (at-leaves (fronted c)) (words (k .last .1 .1 .1 .1 .1 .0)) (words (k .last .1 .1 .1 .1 .0)) (k .result)
   at-args c = let k = c .flatten-all in record { walk = k .ensures; scratch = length-words-kept _ _ (k .kept .1 .1 .1 .1 .1 .0) }
 
   -- both slices are as long as at the start
-  call-counters-kept : (c : In-call call-lts.After-flatten-all) → length (c .flatten-all .last .1 .1 .1 .1 .0) ≡ length (named-start (named (fronted c)) .args .counters .now)
+  call-counters-kept : (c : In-call call-lts.After-flatten-all)
+      → length (c .flatten-all .last .1 .1 .1 .1 .0) ≡ length (named-start (named (fronted c)) .args .counters .now)
   call-counters-kept c = c .flatten-all .kept .1 .1 .1 .1 .0 ∙ took (named (fronted c)) .take .kept .0
 
-  call-scratch-kept : (c : In-call call-lts.After-flatten-all) → length (c .flatten-all .last .1 .1 .1 .1 .1 .0) ≡ length (named-start (named (fronted c)) .args .scratch .now)
+  call-scratch-kept : (c : In-call call-lts.After-flatten-all)
+      → length (c .flatten-all .last .1 .1 .1 .1 .1 .0) ≡ length (named-start (named (fronted c)) .args .scratch .now)
   call-scratch-kept c = c .flatten-all .kept .1 .1 .1 .1 .1 .0 ∙ leaves-kept (fronted c)
 
   -- ---- one of them is refused

@@ -6,7 +6,7 @@ use native.Mathlib.Omega.{arith}
 use lib.ListN.{length, getD}
 use Rattle.octets.specs.Words.{words}
 use Rattle.octets.proofs.Words.{length-words, length-words-kept}
-use Rattle.query.proofs.Spots.{Spot}
+use Rattle.query.proofs.Spots.{Spot, Held}
 use Rattle.query.proofs.Facts.{Begun, begun, holds-known, holds-answer, left-known, left-room}
 use Rattle.query.proofs.Facts.{Lefted, left-refused, right-known, right-room, Righted, right-refused, three-room, equal-answer}
 use borrow.Author.Needs.{needs}
@@ -23,7 +23,8 @@ spot c =
 at-start : (c : tie.Start) (w : ℕ) → w ≡ getD (spot c .ws) (spot c .at) 0 → Begun (spot c) w
 at-start c w is =
     let a = c .args in
-    begun (c .pre .0) (c .pre .1) (record { rule = omega (arith, length-words (a .rule .now), c .good); scratch = omega (arith, length-words (a .scratch .now), c .good) }) is
+    let held : Held (spot c) = record { rule = omega (arith, length-words (a .rule .now), c .good); scratch = omega (arith, length-words (a .scratch .now), c .good) } in
+    begun (c .pre .0) (c .pre .1) held is
 
 get-requires : tie.Need-get-requires
 get-requires c κs = at-start (c .before .before .before) _ refl .inside

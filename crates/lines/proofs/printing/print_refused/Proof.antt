@@ -34,7 +34,8 @@ put-spaced-requires c κs = let k = c .before .before .before in omega (arith, a
 abbrev named : tie.After-put-spaced → tie.After-put-bytes
 named c = c .before .before .before .before
 
-at-first : (c : tie.After-put-spaced) → let a = start (named c) .args in Front (a .text .now) (name ++ spaced (a .number)) (c .put-spaced .last .0) (c .put-spaced .result) 28
+at-first : (c : tie.After-put-spaced)
+    → let a = start (named c) .args in Front (a .text .now) (name ++ spaced (a .number)) (c .put-spaced .last .0) (c .put-spaced .result) 28
 at-first c = front-number (at-name (named c)) (c .put-spaced .ensures) (c .put-spaced .kept .0)
 
 put-spaced-requires-2 : tie.Need-put-spaced-requires-2
