@@ -1,4 +1,4 @@
--- `reads::flat_rule` meets its contract: the length's test decides whether the words are asked. Assumes nothing.
+-- The length's test decides whether the words are asked. Assumes nothing.
 use mathlib.Core.Path.{sym, _∙_}
 use borrow.Author.Needs.{needs}
 use Rattle.reads.proofs.Lengths.{length-fits, length-unfit}

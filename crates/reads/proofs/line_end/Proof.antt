@@ -1,4 +1,4 @@
--- `reads::line_end` meets its contract: the search stays between `at` and the end of the text. Assumes nothing.
+-- The search stays between `at` and the end of the text. Assumes nothing.
 use Prim.Native.Nat.{_≤_, _-_}
 use lib.ListN.{length}
 use borrow.Author.Needs.{needs}

@@ -1,4 +1,4 @@
--- `reads::print_lines` meets its contract: each line begins behind the one before it, and within the text. Assumes nothing.
+-- Each line begins behind the one before it, and within the text. Assumes nothing.
 use Prim.Native.Nat.{_≤_, _-_}
 use lib.ListN.{length}
 use borrow.Author.Needs.{needs}

@@ -1,4 +1,4 @@
--- `reads::read_record` meets its contract: the letter chooses the reader, and a rule leaves H. Assumes nothing.
+-- The letter chooses the reader, and a rule leaves H. Assumes nothing.
 use borrow.Author.Tests.{eq-eqb, ne-eqb}
 use borrow.Author.Needs.{needs}
 use Rattle.reads.proofs.read_record.Statement.{statement}

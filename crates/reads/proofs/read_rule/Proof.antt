@@ -1,4 +1,4 @@
--- `reads::read_rule` meets its contract: the letter chooses the reader. Assumes nothing.
+-- The letter chooses the reader. Assumes nothing.
 use borrow.Author.Tests.{eq-eqb, ne-eqb}
 use borrow.Author.Needs.{needs}
 use Rattle.reads.proofs.read_rule.Statement.{statement}

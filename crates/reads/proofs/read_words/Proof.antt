@@ -1,4 +1,4 @@
--- `reads::read_words` meets its contract: the words read so far have room, for each of them was put at an index below the count of words. Assumes nothing.
+-- The words read so far have room, for each of them was put at an index below the count of words. Assumes nothing.
 use Prim.Native.Nat.{_≤_, _*_, _-_}
 use mathlib.Core.Path.{_≡_}
 use native.Mathlib.Omega.{arith}
@@ -57,8 +57,14 @@ add-at c = search needs
 loop-less : tie.Need-loop-less Inv-loop μ-loop
 loop-less c = search needs
 
+abbrev word-found : tie.After-count Inv-loop μ-loop → tie.At-match-keys1 Inv-loop μ-loop
+word-found c = c .before .before .before .before
+
+abbrev turn : tie.After-count Inv-loop μ-loop → tie.At-loop Inv-loop μ-loop
+turn c = word-found c .before .before .before
+
 loop-again : tie.Need-loop-again Inv-loop μ-loop
-loop-again c = omega (arith, length-words (c .before .before .before .before .before .before .before .before .before .before .before .before .loop .out), c .before .before .put .kept .0)
+loop-again c = let p = c .before .before in omega (arith, length-words (turn (p .before .before .before) .loop .out), p .put .kept .0)
 
 mul-t17 : tie.Need-mul-t17 Inv-loop μ-loop
 mul-t17 c = search needs

@@ -1,4 +1,4 @@
--- `reads::signature` meets its contract: both ways give the definition's answer. Assumes nothing.
+-- Both ways give the definition's answer. Assumes nothing.
 use borrow.Author.Tests.{eq-eqb, ne-eqb}
 use borrow.Author.Needs.{needs}
 use Rattle.reads.proofs.signature.Statement.{statement}

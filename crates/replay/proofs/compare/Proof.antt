@@ -1,4 +1,4 @@
--- `replay::compare` meets its contract: what is compared lies in the case and in the output. Assumes nothing.
+-- What is compared lies in the case and in the output. Assumes nothing.
 use mathlib.Core.Path.{sym}
 use native.Mathlib.Omega.{arith}
 use lib.ListN.{length-take, length-drop}

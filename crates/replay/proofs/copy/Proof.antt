@@ -1,4 +1,4 @@
--- `replay::copy` meets its contract: each byte is stored inside the slice, which keeps its length. Assumes nothing.
+-- Each byte is stored inside the slice, which keeps its length. Assumes nothing.
 use Prim.Native.Nat.{_≤_, _-_}
 use mathlib.Core.Path.{_≡_}
 use native.Mathlib.Omega.{arith}
@@ -13,41 +13,25 @@ Inv-loop to₀ from i₀ to i = (i ≤ length to) × (length to ≡ length to₀
 abbrev μ-loop : tie.MeasureT-loop
 μ-loop to₀ from i₀ to i = length to - i
 
-loop-holds : tie.Need-loop-holds Inv-loop μ-loop
-loop-holds c = search needs
-
-shared-slice-read-to : tie.Need-shared-slice-read-to Inv-loop μ-loop
-shared-slice-read-to c = search needs
-
-slice-write-to : tie.Need-slice-write-to Inv-loop μ-loop
-slice-write-to c = search needs
-
-add-i : tie.Need-add-i Inv-loop μ-loop
-add-i c = search needs
-
+-- a store keeps the length, and the index comes closer to it
 loop-less : tie.Need-loop-less Inv-loop μ-loop
 loop-less c = simp length-set (omega arith)
 
 loop-again : tie.Need-loop-again Inv-loop μ-loop
 loop-again c = simp length-set (omega arith)
 
-same-length : tie.Need-same-length Inv-loop μ-loop
-same-length c = search needs
-
-returns : tie.Need-returns Inv-loop μ-loop
-returns c = search needs
-
+-- what has no name here follows from the invariant alone
 pub copy-spec : {M : Type 1} → statement M
 copy-spec =
     tie.close
     (tie.spec
     Inv-loop
     μ-loop
-    loop-holds
-    shared-slice-read-to
-    slice-write-to
-    add-i
+    (λ c. search needs)
+    (λ c. search needs)
+    (λ c. search needs)
+    (λ c. search needs)
     loop-less
     loop-again
-    same-length
-    returns)
+    (λ c. search needs)
+    (λ c. search needs))

@@ -1,4 +1,4 @@
--- `replay::lend_case` meets its contract: the slices have as many bytes as the case lends, so that its parts fit them. Assumes nothing.
+-- The slices have as many bytes as the case lends, so that its parts fit them. Assumes nothing.
 use mathlib.Core.Path.{sym}
 use native.Mathlib.Omega.{arith}
 use lib.ListN.{length-take}

@@ -1,4 +1,4 @@
--- `replay::read_case` meets its contract: a case is read only if it fits the buffer. Assumes nothing.
+-- A case is read only if it fits the buffer. Assumes nothing.
 use mathlib.Core.Path.{sym}
 use native.Mathlib.Omega.{arith}
 use lib.Seq.{length-take-le}

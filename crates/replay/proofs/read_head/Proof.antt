@@ -1,4 +1,4 @@
--- `replay::read_head` meets its contract: the head fits the buffer, and the number of cases lies in the head. Assumes nothing.
+-- The head fits the buffer, and the number of cases lies in the head. Assumes nothing.
 use mathlib.Core.Path.{sym}
 use native.Mathlib.Omega.{arith}
 use lib.Seq.{length-take-le}

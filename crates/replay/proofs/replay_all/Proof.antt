@@ -1,4 +1,4 @@
--- `replay::replay_all` meets its contract: each turn counts a case, and the buffers keep their lengths. Assumes nothing.
+-- Each turn counts a case, and the buffers keep their lengths. Assumes nothing.
 use borrow.Author.Needs.{needs}
 use Prim.Native.Nat.{_≤_, _-_}
 use mathlib.Core.Path.{_≡_}

@@ -1,4 +1,4 @@
--- `replay::cases::number` meets its contract: four bytes are a word. Assumes nothing.
+-- Four bytes are a word. Assumes nothing.
 use native.Mathlib.Omega.{arith}
 use denote.Ref.{now}
 use Rattle.octets.proofs.Words.{length-words}

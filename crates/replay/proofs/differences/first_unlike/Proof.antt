@@ -1,4 +1,4 @@
--- `replay::differences::first_unlike` meets its contract: the search stays in the first slice, and the second is no shorter. Assumes nothing.
+-- The search stays in the first slice, and the second is no shorter. Assumes nothing.
 use Prim.Native.Nat.{_≤_, _-_}
 use lib.ListN.{length}
 use borrow.Author.Needs.{needs}
@@ -11,41 +11,18 @@ Inv-loop a b i₀ i = i ≤ length a
 abbrev μ-loop : tie.MeasureT-loop
 μ-loop a b i₀ i = length a - i
 
-loop-holds : tie.Need-loop-holds Inv-loop μ-loop
-loop-holds c = search needs
-
-shared-slice-read-if1 : tie.Need-shared-slice-read-if1 Inv-loop μ-loop
-shared-slice-read-if1 c = search needs
-
-shared-slice-read-if1-2 : tie.Need-shared-slice-read-if1-2 Inv-loop μ-loop
-shared-slice-read-if1-2 c = search needs
-
-returns : tie.Need-returns Inv-loop μ-loop
-returns c = search needs
-
-add-i : tie.Need-add-i Inv-loop μ-loop
-add-i c = search needs
-
-loop-less : tie.Need-loop-less Inv-loop μ-loop
-loop-less c = search needs
-
-loop-again : tie.Need-loop-again Inv-loop μ-loop
-loop-again c = search needs
-
-returns-2 : tie.Need-returns-2 Inv-loop μ-loop
-returns-2 c = search needs
-
+-- what has no name here follows from the invariant alone
 pub first-unlike-spec : {M : Type 1} → statement M
 first-unlike-spec =
     tie.close
     (tie.spec
     Inv-loop
     μ-loop
-    loop-holds
-    shared-slice-read-if1
-    shared-slice-read-if1-2
-    returns
-    add-i
-    loop-less
-    loop-again
-    returns-2)
+    (λ c. search needs)
+    (λ c. search needs)
+    (λ c. search needs)
+    (λ c. search needs)
+    (λ c. search needs)
+    (λ c. search needs)
+    (λ c. search needs)
+    (λ c. search needs))
