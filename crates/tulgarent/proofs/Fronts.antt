@@ -81,6 +81,9 @@ written sw rw m n =
     }
 
 module _ {R : Type 0} (f : Front R) where
+  abbrev pub roomy : Bool
+  roomy = leb scratchWords (f .scratch)
+
   abbrev pub fits : Bool
   fits = leb 1 (length (f .rule)) && leb (length (f .rule)) (f .most)
 
@@ -91,7 +94,7 @@ module _ {R : Type 0} (f : Front R) where
       (λ q. _>>=_ (demand b smallScratch 0 (f .scratch)) (λ n. _>>=_ (demand l badLength 0 (length (f .rule))) (λ m. _>>=_ x (k s))))
 
   abbrev pub tested : {A C : Type 0} → (Sig → R → Res A) → C → Res A
-  tested k c = _>>=_ (readSignature (f .signature)) (λ s. after k c s (f .counted s) (leb scratchWords (f .scratch)) fits (f .read s (f .rule)))
+  tested k c = _>>=_ (readSignature (f .signature)) (λ s. after k c s (f .counted s) roomy fits (f .read s (f .rule)))
 
   abbrev pub signed : Sig → R → Res Sig
   signed s r = ok s
@@ -99,6 +102,10 @@ module _ {R : Type 0} (f : Front R) where
   -- the signature that they leave
   abbrev pub front : Res Sig
   front = tested signed (f .counters)
+
+  -- what is left of that behind the signature s
+  abbrev pub left : (counters scratch long : Bool) → Sig → Res Sig
+  left a b l s = after signed (f .counters) s a b l (f .read s (f .rule))
 
 -- ---- behind all of them: the signature s and a rule were read, and y is what k makes of them
 
@@ -117,7 +124,7 @@ Fate f k y (ok s) = Passed f k y s
 Fate f k y (refuse n p) = Some n × (y ≡ refuse n p)
 
 module _ {R A C : Type 0} (f : Front R) (k : Sig → R → Res A) (c : C) where
-  fate-after : (s : Sig) → readSignature (f .signature) ≡ ok s → (a b l : Bool) → f .counted s ≡ a → leb scratchWords (f .scratch) ≡ b → fits f ≡ l
+  fate-after : (s : Sig) → readSignature (f .signature) ≡ ok s → (a b l : Bool) → f .counted s ≡ a → roomy f ≡ b → fits f ≡ l
       → (x : Res R) → f .read s (f .rule) ≡ x → Among Some x → Fate f k (after f k c s a b l x) (after f (signed f) (f .counters) s a b l x)
   fate-after s e false b l ea eb el x r some = ((λ z. omega arith), refl)
   fate-after s e true false l ea eb el x r some = ((λ z. omega arith), refl)
@@ -138,32 +145,31 @@ module _ {R A C : Type 0} (f : Front R) (k : Sig → R → Res A) (c : C) where
   fate = go (readSignature (f .signature)) refl (signature-some (f .signature))
     where
       go : (x : Res Sig) → readSignature (f .signature) ≡ x → Among Some x
-          → Fate f k (_>>=_ x (λ s. after f k c s (f .counted s) (leb scratchWords (f .scratch)) (fits f) (f .read s (f .rule))))
-          (_>>=_ x (λ s. after f (signed f) (f .counters) s (f .counted s) (leb scratchWords (f .scratch)) (fits f) (f .read s (f .rule))))
+          → Fate f k (_>>=_ x (λ s. after f k c s (f .counted s) (roomy f) (fits f) (f .read s (f .rule)))) (_>>=_ x (λ s. left f (f .counted s) (roomy f) (fits f) s))
       go (refuse n p) e some = (some, refl)
       go (ok s) e some =
-          fate-after s e (f .counted s) (leb scratchWords (f .scratch)) (fits f) refl refl refl (f .read s (f .rule)) refl (f .some s (f .rule))
+          fate-after s e (f .counted s) (roomy f) (fits f) refl refl refl (f .read s (f .rule)) refl (f .some s (f .rule))
 
 -- ---- at a place of the code: r tells of the signature, and these tests are left
 
-pub record Reached {R : Type 0} (f : Front R) (r : Signature) (left : Sig → Res Sig) : Type 0 where
+pub record Reached {R : Type 0} (f : Front R) (r : Signature) (rest : Sig → Res Sig) : Type 0 where
   pub sig : Sig
   pub signature : readSignature (f .signature) ≡ ok sig
   pub told : r ≡ signOf (ok sig)
-  pub is : front f ≡ left sig
+  pub is : front f ≡ rest sig
 
 module _ {R : Type 0} (f : Front R) where
-  abbrev pub from-record : Sig → Res Sig
-  from-record s = after f (signed f) (f .counters) s true true true (f .read s (f .rule))
-
-  abbrev pub from-length : Sig → Res Sig
-  from-length s = after f (signed f) (f .counters) s true true (fits f) (f .read s (f .rule))
+  abbrev pub from-counters : Sig → Res Sig
+  from-counters s = left f (f .counted s) (roomy f) (fits f) s
 
   abbrev pub from-scratch : Sig → Res Sig
-  from-scratch s = after f (signed f) (f .counters) s true (leb scratchWords (f .scratch)) (fits f) (f .read s (f .rule))
+  from-scratch = left f true (roomy f) (fits f)
 
-  abbrev pub from-counters : Sig → Res Sig
-  from-counters s = after f (signed f) (f .counters) s (f .counted s) (leb scratchWords (f .scratch)) (fits f) (f .read s (f .rule))
+  abbrev pub from-length : Sig → Res Sig
+  from-length = left f true true (fits f)
+
+  abbrev pub from-record : Sig → Res Sig
+  from-record = left f true true true
 
   module _ {r : Signature} (read : r ≡ signOf (readSignature (f .signature))) where
     pub bad-signature : (r .refused ≡ 0 → ⊥) → r ≡ signOf (front f)
@@ -182,42 +188,34 @@ module _ {R : Type 0} (f : Front R) where
 
 module _ {R : Type 0} {f : Front R} {r : Signature} where
   -- a test refuses, and that is what is given back
-  stop : {left : Sig → Res Sig} (h : Reached f r left) {n p : ℕ} → left (h .sig) ≡ refuse n p → {t : Signature} → t ≡ signOf (refuse n p)
+  stop : {rest : Sig → Res Sig} (h : Reached f r rest) {n p : ℕ} → rest (h .sig) ≡ refuse n p → {t : Signature} → t ≡ signOf (refuse n p)
       → t ≡ signOf (front f)
   stop h e t = t ∙ ap signOf (sym (h .is ∙ e))
 
   -- a test passes
-  pass : {left : Sig → Res Sig} (h : Reached f r left) {next : Sig → Res Sig} → left (h .sig) ≡ next (h .sig) → Reached f r next
+  pass : {rest : Sig → Res Sig} (h : Reached f r rest) {next : Sig → Res Sig} → rest (h .sig) ≡ next (h .sig) → Reached f r next
   pass h e = record { sig = h .sig; signature = h .signature; told = h .told; is = h .is ∙ e }
 
   module _ (h : Reached f r (from-counters f)) where
-    by-counters : (b : Bool) → f .counted (h .sig) ≡ b
-        → from-counters f (h .sig) ≡ after f (signed f) (f .counters) (h .sig) b (leb scratchWords (f .scratch)) (fits f) (f .read (h .sig) (f .rule))
-    by-counters b e = ap (λ (a : Bool). after f (signed f) (f .counters) (h .sig) a (leb scratchWords (f .scratch)) (fits f) (f .read (h .sig) (f .rule))) e
+    few-counters : f .counted (h .sig) ≡ false → {t : Signature} → t ≡ signOf (refuse fewCounters 0) → t ≡ signOf (front f)
+    few-counters e = stop h (ap (λ (b : Bool). left f b (roomy f) (fits f) (h .sig)) e)
 
-    pub few-counters : f .counted (h .sig) ≡ false → {t : Signature} → t ≡ signOf (refuse fewCounters 0) → t ≡ signOf (front f)
-    few-counters e = stop h (by-counters false e)
-
-    pub many-counters : f .counted (h .sig) ≡ true → Reached f r (from-scratch f)
-    many-counters e = pass h (by-counters true e)
+    many-counters : f .counted (h .sig) ≡ true → Reached f r (from-scratch f)
+    many-counters e = pass h (ap (λ (b : Bool). left f b (roomy f) (fits f) (h .sig)) e)
 
   module _ (h : Reached f r (from-scratch f)) where
-    by-scratch : (b : Bool) → leb scratchWords (f .scratch) ≡ b
-        → from-scratch f (h .sig) ≡ after f (signed f) (f .counters) (h .sig) true b (fits f) (f .read (h .sig) (f .rule))
-    by-scratch b e = ap (λ (a : Bool). after f (signed f) (f .counters) (h .sig) true a (fits f) (f .read (h .sig) (f .rule))) e
-
     pub little-scratch : f .scratch < scratchWords → {t : Signature} → t ≡ signOf (refuse smallScratch 0) → t ≡ signOf (front f)
-    little-scratch l = stop h (by-scratch false (lt-leb scratchWords (f .scratch) l))
+    little-scratch l = stop h (ap (λ (b : Bool). left f true b (fits f) (h .sig)) (lt-leb scratchWords (f .scratch) l))
 
     pub enough-scratch : scratchWords ≤ f .scratch → Reached f r (from-length f)
-    enough-scratch l = pass h (by-scratch true (le-leb scratchWords (f .scratch) l))
+    enough-scratch l = pass h (ap (λ (b : Bool). left f true b (fits f) (h .sig)) (le-leb scratchWords (f .scratch) l))
 
   module _ (h : Reached f r (from-length f)) {b : Bool} (test : b ≡ fits f) where
     pub wrong-length : b ≡ false → {t : Signature} → t ≡ signOf (refuse badLength 0) → t ≡ signOf (front f)
-    wrong-length e = stop h (ap (λ (a : Bool). after f (signed f) (f .counters) (h .sig) true true a (f .read (h .sig) (f .rule))) (sym test ∙ e))
+    wrong-length e = stop h (ap (λ (b : Bool). left f true true b (h .sig)) (sym test ∙ e))
 
     pub right-length : b ≡ true → Reached f r (from-record f)
-    right-length e = pass h (ap (λ (a : Bool). after f (signed f) (f .counters) (h .sig) true true a (f .read (h .sig) (f .rule))) (sym test ∙ e))
+    right-length e = pass h (ap (λ (b : Bool). left f true true b (h .sig)) (sym test ∙ e))
 
   module _ (h : Reached f r (from-record f)) {w : Walk} (walk : w ≡ wholeOf (f .rule) (f .read (withHeads (r .heads)) (f .rule))) where
     walk-is : w ≡ wholeOf (f .rule) (f .read (h .sig) (f .rule))
