@@ -93,7 +93,7 @@ module _ (k : Given) where
 
 -- ---- the rule is lowered: w, with the output m and the counters d left behind
 
-pub record Lowerings (k : Given) {g : Signature} (y : Ready (lowering k) g) (w : Lowered) (m d : List ℕ) : Type 0 where
+pub record Worked (k : Given) {g : Signature} (y : Ready (lowering k) g) (w : Lowered) (m d : List ℕ) : Type 0 where
   pub lowers : LowersTo (y .sig) (core k y) (words (k .counters)) (words d) (k .output) m w
   pub output : length m ≡ length (k .output)
   pub counters : length d ≡ length (k .counters)
@@ -103,10 +103,10 @@ pub record Lowerings (k : Given) {g : Signature} (y : Ready (lowering k) g) (w :
   pub countersAfter : Bytes d
 
 module _ (k : Given) {g : Signature} (y : Ready (lowering k) g) where
-  pub lowered : {w : Lowered} {m d : List ℕ}
+  pub worked : {w : Lowered} {m d : List ℕ}
       → ((s : Sig) (r : Rule) → WrittenUnder (words (k .signature)) (words (k .rule)) g s r → LowersTo s (toCoreRule s r (words (k .counters))) (words (k .counters)) (words d) (k .output) m w)
-      → length m ≡ length (k .output) → length d ≡ length (k .counters) → Bytes (k .output) → Bytes m → Bytes (k .counters) → Bytes d → Lowerings k y w m d
-  lowered did em ed o m c d =
+      → length m ≡ length (k .output) → length d ≡ length (k .counters) → Bytes (k .output) → Bytes m → Bytes (k .counters) → Bytes d → Worked k y w m d
+  worked did em ed o m c d =
       record {
         lowers = did (y .sig) (y .passed .rule) (under k y);
         output = em;
@@ -117,7 +117,7 @@ module _ (k : Given) {g : Signature} (y : Ready (lowering k) g) where
         countersAfter = d;
       }
 
-module _ {k : Given} {g : Signature} {y : Ready (lowering k) g} {w : Lowered} {m d : List ℕ} (o : Lowerings k y w m d) where
+module _ {k : Given} {g : Signature} {y : Ready (lowering k) g} {w : Lowered} {m d : List ℕ} (o : Worked k y w m d) where
   abbrev Core : Res CoreRule → Type 0
   Core x = LowersTo (y .sig) x (words (k .counters)) (words d) (k .output) m w
 

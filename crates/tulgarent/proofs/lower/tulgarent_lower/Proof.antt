@@ -14,7 +14,7 @@ use Rattle.tulgarent.proofs.Fronts.{front}
 use Rattle.tulgarent.proofs.Lent.{Lent, lent-size, beyond-lent}
 use Rattle.tulgarent.proofs.Calls.{Given, slices-ragged, Whole, Ready, front-refuses, ready}
 use Rattle.tulgarent.proofs.LowerCall.{lowering, lower-gives, lower-tested, lower-whole, lower-front, lower-lent, lower-asks}
-use Rattle.tulgarent.proofs.LowerCall.{Lowerings, lowered, rule-refused, lower-short, lower-written}
+use Rattle.tulgarent.proofs.LowerCall.{Worked, worked, rule-refused, lower-short, lower-written}
 use borrow.Author.Needs.{needs}
 use Rattle.tulgarent.proofs.lower.tulgarent_lower.Statement.{statement}
 use Rattle.tulgarent.proofs.lower.tulgarent_lower.Tie as tie
@@ -140,11 +140,11 @@ abbrev good-front : tie.After-slice-known5 → tie.Else2
 good-front c = good-lent c .before
 
 at-good : (c : tie.After-slice-known5) → let g = good c .lower-good in
-    Lowerings (else-given (good-front c)) (at-front (good-front c)) (g .result) (g .last .1 .1 .1 .1 .0) (g .last .1 .1 .1 .0)
+    Worked (else-given (good-front c)) (at-front (good-front c)) (g .result) (g .last .1 .1 .1 .1 .0) (g .last .1 .1 .1 .0)
 at-good c =
     let g = good c .lower-good in
     let e = known (front-else (else-front (good-front c)) .before) in
-    lowered (else-given (good-front c)) (at-front (good-front c)) (g .ensures) (g .kept .1 .1 .1 .1 .0) (g .kept .1 .1 .1 .0)
+    worked (else-given (good-front c)) (at-front (good-front c)) (g .ensures) (g .kept .1 .1 .1 .1 .0) (g .kept .1 .1 .1 .0)
     (λ i. e .slice-known2 .given i .fits) (λ i. c .slice-known5 .given i .fits)
     (λ i. e .before .slice-known .given i .fits) (λ i. c .before .before .slice-known4 .given i .fits)
 
