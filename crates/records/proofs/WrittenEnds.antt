@@ -7,22 +7,20 @@ use native.Mathlib.Omega.{arith}
 use lib.ListN.{length, getD}
 use lib.Dec.{ltb, eqb, lit≤}
 use borrow.Author.Tests.{ltb-true}
-use Rattle.rules.specs.Words.{maxDepth, equalityWord, isNameWord, isLiteralWord, isHeadWord, isHeaderWord, countOf, factsOf, actionsOf, Code, aLet, aSet, aDelete, aSubsume, aUnion, aPanic, aCall, anExpression, noCode, codeOf}
+use Rattle.rules.specs.Words.{maxDepth, equalityWord, isNameWord, isLiteralWord, isHeadWord, isHeaderWord, countOf, factsOf, actionsOf}
+use Rattle.rules.specs.Words.{Code, aLet, aSet, aDelete, aSubsume, aUnion, aPanic, aCall, anExpression, noCode, codeOf}
 use Rattle.rules.specs.Refusals.{Res, ok, refuse, _>>=_, tooDeep}
 use Rattle.rules.specs.Signature.{Sig, heads}
-use Rattle.rules.specs.Written.{Expr, Exprs, Read, Reader, Shape, isLeaf, isCall, isBad, shape, readWord, readRow, readMany, readShape, readExpr, readTarget, readEqual, readHolds, readFact, readCode, readAction}
+use Rattle.rules.specs.Written.{Expr, Exprs, Read, Reader, Shape, isLeaf, isCall, isBad, shape, readWord, readRow, readMany, readShape, readExpr}
+use Rattle.rules.specs.Written.{readTarget, readEqual, readHolds, readFact, readCode, readAction}
 use Rattle.records.specs.Written.{readRule}
-use Rattle.records.proofs.WrittenWalk.{Went, went-then, went-made, went-less, went-from, went-word, Several, many, row}
+use Rattle.records.proofs.WrittenWalk.{Went, went-then, went-made, went-less, went-from, went-word, behind, went-row, Several, many, row}
 
 module _ (s : Sig) (ws : List ℕ) where
   went-many : (one : Reader Expr) → ((p : ℕ) → Went ws p 1 (one p)) → (n p : ℕ) → Went ws p 0 (readMany one n p)
   went-many one h zero p = (omega arith, omega arith)
   went-many one h (suc n) p =
       went-then ws p 0 0 (one p) _ (went-less ws p 1 0 (one p) (lit≤ tt) (h p)) (λ r. went-made ws (r .at) 0 (readMany one n (r .at)) _ (went-many one h n (r .at)))
-
-  -- behind a word that is there
-  pub behind : {A : Type 0} (p : ℕ) (x : Res (Read A)) → p < length ws → Went ws (suc p) 1 x → Went ws p 1 x
-  behind p x l h = went-less ws p 2 1 x (lit≤ tt) (went-from ws p 1 x l h)
 
   went-shape : (inside : Bool) (args : ℕ → Reader Exprs) → ((n p : ℕ) → Went ws p 0 (args n p)) → (w p : ℕ)
       → (i : Bool) → ltb p (length ws) ≡ i → (sh : Shape) → Went ws p 1 (readShape (cond i sh isBad) inside args w p)
@@ -56,7 +54,7 @@ module _ (s : Sig) (ws : List ℕ) where
       (λ a. went-made ws (a .at) 0 (readExpr s ws maxDepth (a .at)) (f a) (went-less ws (a .at) 1 0 (readExpr s ws maxDepth (a .at)) (lit≤ tt) (went-expr maxDepth (a .at))))
 
   went-equal : (p : ℕ) → p < length ws → Went ws p 1 (readEqual s ws p)
-  went-equal p l = went-pair p (readExpr s ws maxDepth (suc p)) _ (behind p (readExpr s ws maxDepth (suc p)) l (went-expr maxDepth (suc p)))
+  went-equal p l = went-pair p (readExpr s ws maxDepth (suc p)) _ (behind ws p (readExpr s ws maxDepth (suc p)) l (went-expr maxDepth (suc p)))
 
   pub went-fact : (p : ℕ) → Went ws p 1 (readFact s ws p)
   went-fact p = go (ltb p (length ws)) refl (eqb (getD ws p 0) equalityWord)
@@ -67,13 +65,13 @@ module _ (s : Sig) (ws : List ℕ) where
       go false e b = went-made ws p 1 (readExpr s ws maxDepth p) _ (went-expr maxDepth p)
 
   went-code : (k : Code) (p : ℕ) → p < length ws → Went ws p 1 (readCode s ws p k (suc p))
-  went-code aLet p l = went-pair p (readWord ws isNameWord (suc p)) _ (behind p (readWord ws isNameWord (suc p)) l (went-word ws isNameWord (suc p)))
-  went-code aSet p l = went-pair p (readTarget s ws (suc p)) _ (behind p (readTarget s ws (suc p)) l (went-target (suc p)))
-  went-code aDelete p l = went-made ws p 1 (readTarget s ws (suc p)) _ (behind p (readTarget s ws (suc p)) l (went-target (suc p)))
-  went-code aSubsume p l = went-made ws p 1 (readTarget s ws (suc p)) _ (behind p (readTarget s ws (suc p)) l (went-target (suc p)))
-  went-code aUnion p l = went-pair p (readExpr s ws maxDepth (suc p)) _ (behind p (readExpr s ws maxDepth (suc p)) l (went-expr maxDepth (suc p)))
-  went-code aPanic p l = went-made ws p 1 (readWord ws isLiteralWord (suc p)) _ (behind p (readWord ws isLiteralWord (suc p)) l (went-word ws isLiteralWord (suc p)))
-  went-code anExpression p l = went-made ws p 1 (readExpr s ws maxDepth (suc p)) _ (behind p (readExpr s ws maxDepth (suc p)) l (went-expr maxDepth (suc p)))
+  went-code aLet p l = went-pair p (readWord ws isNameWord (suc p)) _ (behind ws p (readWord ws isNameWord (suc p)) l (went-word ws isNameWord (suc p)))
+  went-code aSet p l = went-pair p (readTarget s ws (suc p)) _ (behind ws p (readTarget s ws (suc p)) l (went-target (suc p)))
+  went-code aDelete p l = went-made ws p 1 (readTarget s ws (suc p)) _ (behind ws p (readTarget s ws (suc p)) l (went-target (suc p)))
+  went-code aSubsume p l = went-made ws p 1 (readTarget s ws (suc p)) _ (behind ws p (readTarget s ws (suc p)) l (went-target (suc p)))
+  went-code aUnion p l = went-pair p (readExpr s ws maxDepth (suc p)) _ (behind ws p (readExpr s ws maxDepth (suc p)) l (went-expr maxDepth (suc p)))
+  went-code aPanic p l = went-made ws p 1 (readWord ws isLiteralWord (suc p)) _ (behind ws p (readWord ws isLiteralWord (suc p)) l (went-word ws isLiteralWord (suc p)))
+  went-code anExpression p l = went-made ws p 1 (readExpr s ws maxDepth (suc p)) _ (behind ws p (readExpr s ws maxDepth (suc p)) l (went-expr maxDepth (suc p)))
   went-code aCall p l = (omega arith, omega arith)
   went-code noCode p l = (omega arith, omega arith)
 
@@ -84,16 +82,11 @@ module _ (s : Sig) (ws : List ℕ) where
       go true e = went-code (codeOf (getD ws p 0)) p (ltb-true p (length ws) e)
       go false e = (omega arith, omega arith)
 
-  pub went-row : {A : Type 0} (one : Reader A) → ((p : ℕ) → Went ws p 1 (one p)) → (n p : ℕ) → Went ws p 0 (readRow one n p)
-  went-row one h zero p = (omega arith, omega arith)
-  went-row one h (suc n) p =
-      went-then ws p 0 0 (one p) _ (went-less ws p 1 0 (one p) (lit≤ tt) (h p)) (λ r. went-made ws (r .at) 0 (readRow one n (r .at)) _ (went-row one h n (r .at)))
-
   pub went-facts : (n p : ℕ) → Went ws p 0 (readRow (readFact s ws) n p)
-  went-facts = went-row (readFact s ws) went-fact
+  went-facts = went-row ws (readFact s ws) went-fact
 
   pub went-actions : (n p : ℕ) → Went ws p 0 (readRow (readAction s ws) n p)
-  went-actions = went-row (readAction s ws) went-action
+  went-actions = went-row ws (readAction s ws) went-action
 
   pub went-rule : (p : ℕ) → Went ws p 1 (readRule s ws p)
   went-rule p =

@@ -1,22 +1,26 @@
 -- Expressions read word by word, without recursion: as long as they have fewer calls than they may be deep, they end where the walk ends. Assumes nothing.
-use mathlib.Core.Path.{_≡_, refl, _∙_}
+use mathlib.Core.Path.{_≡_, refl, sym, ap, _∙_}
+use mathlib.Core.Bool.{Bool, true, _&&_}
 use mathlib.Core.List.{List}
-use Prim.Native.Nat.{ℕ, zero, suc, _+_, _-_, _≤_, _<_}
+use Prim.Native.Nat.{ℕ, zero, suc, _+_, _-_, _%_, _≤_, _<_}
 use native.Mathlib.Omega.{arith}
-use lib.ListN.{getD}
+use lib.Dec.{leb}
+use lib.ListN.{length, getD}
+use borrow.Author.Tests.{leb-true}
+use Rattle.rules.specs.Words.{limit16, maxDepth, literalBase, isHeadWord}
 use Rattle.rules.specs.Signature.{Sig}
-use Rattle.rules.specs.Written.{shapeAt, readMany, readExpr}
-use Rattle.records.specs.declared.written.Start.the-variants.{Takes}
-use Rattle.records.specs.Written.{walk, walkOf, startOf}
-use Rattle.records.proofs.WrittenWalk.{one-less}
+use Rattle.rules.specs.Written.{readMany, readExpr}
+use Rattle.meaning.proofs.Lists.{and-left, and-right}
+use Rattle.records.specs.Written.{withHeads, walk, walkOf, leafWord}
+use Rattle.records.proofs.WrittenWalk.{Left, left-start, left-next}
 use Rattle.records.proofs.WrittenEnds.{exprs}
-use Rattle.records.proofs.WrittenLaws.{one-deeper}
+use Rattle.records.proofs.WrittenLaws.{Starts, one-deeper, leaf-there, leaf-starts, call-starts}
 
 -- from p on, n expressions end at q, with k calls in all
 pub data Run (s : Sig) (ws : List ℕ) : (n p q k : ℕ) → Type 0 where
   done : {p : ℕ} → Run s ws 0 p p 0
-  leaf : {n p q k : ℕ} → startOf (shapeAt s ws p) (getD ws p 0) ≡ Takes 0 → Run s ws n (p + 1) q k → Run s ws (suc n) p q k
-  call : {n p q k : ℕ} (m : ℕ) → startOf (shapeAt s ws p) (getD ws p 0) ≡ Takes m → Run s ws (n + m) (p + 1) q k → Run s ws (suc n) p q (suc k)
+  leaf : {n p q k : ℕ} → Starts s ws p 0 → Run s ws n (p + 1) q k → Run s ws (suc n) p q k
+  call : {n p q k : ℕ} (m : ℕ) → Starts s ws p m → Run s ws (n + m) (p + 1) q k → Run s ws (suc n) p q (suc k)
 
 -- a run taken apart behind its first m expressions
 pub record Apart (s : Sig) (ws : List ℕ) (m n p q k : ℕ) : Type 0 where
@@ -30,10 +34,10 @@ pub record Apart (s : Sig) (ws : List ℕ) (m n p q k : ℕ) : Type 0 where
 -- one expression more in front
 in-front : (s : Sig) (ws : List ℕ) (d n p r : ℕ) → walk 0 r ≡ walkOf (readExpr s ws d p)
     → walkOf (readMany (readExpr s ws d) n r) ≡ walkOf (readMany (readExpr s ws d) (suc n) p)
-in-front s ws d n p r e = rw down at (one-less (exprs s ws d) (suc n) p {w = walk 0 r} (λ z. omega arith) e refl)
-  where
-    down : suc n - 1 ≡ n
-    down = omega arith
+in-front s ws d n p r e =
+    let down : n ≡ suc n - 1 = omega arith in
+    let rest : Left (exprs s ws d) (suc n) p (suc n - 1) r = left-next left-start {w = walk 0 r} (omega arith) e refl in
+    ap (λ (m : ℕ). walkOf (readMany (readExpr s ws d) m r)) down ∙ rest .same
 
 module _ {s : Sig} {ws : List ℕ} where
   pub run-on : {n p q k : ℕ} → Run s ws n p q k → p ≤ q
@@ -64,13 +68,13 @@ module _ {s : Sig} {ws : List ℕ} where
   runs zero (call m h r) d l b = let on = run-on r in absurd (omega arith)
   runs (suc f) done d l b = refl
   runs (suc f) (leaf {n} {p} {q} {k} h r) d l b =
-      runs f r d l (omega arith) ∙ in-front s ws d n p (p + 1) (one-deeper s ws d p 0 (λ z. omega arith) h)
+      runs f r d l (omega arith) ∙ in-front s ws d n p (p + 1) (one-deeper h d (λ z. omega arith))
   runs (suc f) (call {n} {p} {q} {k} m h r) d l b =
       let a = apart r m n (omega arith) in
       let here = run-on (a .first) in
       let there = run-on (a .rest) in
       let inner = runs f (a .first) (d - 1) (omega (arith, a .sum)) (omega arith) in
-      runs f (a .rest) d (omega (arith, a .sum)) (omega arith) ∙ in-front s ws d n p (a .mid) (inner ∙ one-deeper s ws d p m (λ z. omega arith) h)
+      runs f (a .rest) d (omega (arith, a .sum)) (omega arith) ∙ in-front s ws d n p (a .mid) (inner ∙ one-deeper h d (λ z. omega arith))
 
   run-read : {n p q k : ℕ} (d : ℕ) → k < d → Run s ws n p q k → walk 0 q ≡ walkOf (readMany (readExpr s ws d) n p)
   run-read {n} {p} {q} d l r = let on = run-on r in runs (q - p) r d l (omega arith)
@@ -78,32 +82,57 @@ module _ {s : Sig} {ws : List ℕ} where
 -- ---- the scan, as the code counts
 
 -- what is left to read, after some calls, makes a run of the whole
-abbrev pub Goes : (s : Sig) (ws : List ℕ) (count at left next calls : ℕ) → Type 0
+abbrev Goes : (s : Sig) (ws : List ℕ) (count at left next calls : ℕ) → Type 0
 Goes s ws count at left next calls = (q k : ℕ) → Run s ws left next q k → Run s ws count at q (k + calls)
 
-module _ (s : Sig) (ws : List ℕ) (count at : ℕ) where
-  with-calls : (q k j : ℕ) → k ≡ j → Run s ws count at q k → Run s ws count at q j
-  with-calls q k j e r = rw e at r
+-- no word passed is behind the record's end, a call is a word, and as long as each word was good the rest goes on
+pub record Scanning (H : ℕ) (ws : List ℕ) (count at left next calls : ℕ) (good : Bool) : Type 0 where
+  pub most : next ≤ length ws
+  pub few : calls ≤ next
+  pub goes : good ≡ true → Goes (withHeads H) ws count at left next calls
 
-  pub goes-start : Goes s ws count at count at 0
-  goes-start q k r = with-calls q k (k + 0) (omega arith) r
+with-calls : {s : Sig} {ws : List ℕ} {count at q k : ℕ} (j : ℕ) → k ≡ j → Run s ws count at q k → Run s ws count at q j
+with-calls j e r = rw e at r
 
-  pub goes-leaf : (left next calls : ℕ) → 0 < left → startOf (shapeAt s ws next) (getD ws next 0) ≡ Takes 0
-      → Goes s ws count at left next calls → Goes s ws count at (left - 1) (next + 1) calls
-  goes-leaf zero next calls l h g q k r = absurd (omega arith)
-  goes-leaf (suc n) next calls l h g q k r = g q k (leaf h (rw down at r))
-    where
-      down : suc n - 1 ≡ n
-      down = omega arith
+with-left : {s : Sig} {ws : List ℕ} {n p q k : ℕ} (m : ℕ) → n ≡ m → Run s ws n p q k → Run s ws m p q k
+with-left m e r = rw e at r
 
-  pub goes-call : (left next calls m : ℕ) → 0 < left → startOf (shapeAt s ws next) (getD ws next 0) ≡ Takes m
-      → Goes s ws count at left next calls → Goes s ws count at (left - 1 + m) (next + 1) (calls + 1)
-  goes-call zero next calls m l h g q k r = absurd (omega arith)
-  goes-call (suc n) next calls m l h g q k r = with-calls q (suc k + calls) (k + (calls + 1)) (omega arith) (g q (suc k) (call m h (rw down at r)))
-    where
-      down : suc n - 1 ≡ n
-      down = omega arith
+pub scanning-start : {H : ℕ} {ws : List ℕ} {count at : ℕ} → at ≤ length ws → Scanning H ws count at count at 0 true
+scanning-start h = record { most = h; few = omega arith; goes = λ _ q k r. with-calls (k + 0) (let e : k ≡ k + 0 = omega arith in e) r }
 
-  pub goes-end : (left next calls d : ℕ) → left ≡ 0 → calls < d → Goes s ws count at left next calls → walk 0 next ≡ walkOf (readMany (readExpr s ws d) count at)
-  goes-end zero next calls d z l g = run-read d (omega arith) (g next 0 done)
-  goes-end (suc n) next calls d z l g = absurd (omega arith)
+module _ {H : ℕ} {ws : List ℕ} {count at left next calls : ℕ} {good : Bool} (g : Scanning H ws count at left next calls good) where
+  -- b says whether the next word, w, fits
+  module _ {w : ℕ} {b : Bool} (some : 0 < left) (here : next < length ws) (is : w ≡ getD ws next 0) where
+    pub scanning-call : w < literalBase → b ≡ isHeadWord H w → Scanning H ws count at (left - 1 + w % limit16) (next + 1) (calls + 1) (good && b)
+    scanning-call low says =
+        record {
+          most = omega arith;
+          few = omega (arith, g .few);
+          goes = λ h.
+              go left some (g .goes (and-left good b h)) (call-starts H ws next here is low (sym says ∙ and-right good b h));
+        }
+      where
+        go : (n : ℕ) → 0 < n → Goes (withHeads H) ws count at n next calls → Starts (withHeads H) ws next (w % limit16)
+            → Goes (withHeads H) ws count at (n - 1 + w % limit16) (next + 1) (calls + 1)
+        go zero l k st q j r = absurd (omega arith)
+        go (suc n) l k st q j r =
+            with-calls (j + (calls + 1)) (let e : suc j + calls ≡ j + (calls + 1) = omega arith in e)
+            (k q (suc j) (call (w % limit16) st (with-left (n + w % limit16) (let e : suc n - 1 + w % limit16 ≡ n + w % limit16 = omega arith in e) r)))
+
+    pub scanning-leaf : b ≡ leafWord w → Scanning H ws count at (left - 1) (next + 1) calls (good && b)
+    scanning-leaf says =
+        record {
+          most = omega arith;
+          few = omega (arith, g .few);
+          goes = λ h.
+              go left some (g .goes (and-left good b h)) (leaf-starts (withHeads H) ws next (leaf-there ws next here is (sym says ∙ and-right good b h)));
+        }
+      where
+        go : (n : ℕ) → 0 < n → Goes (withHeads H) ws count at n next calls → Starts (withHeads H) ws next 0 → Goes (withHeads H) ws count at (n - 1) (next + 1) calls
+        go zero l k st q j r = absurd (omega arith)
+        go (suc n) l k st q j r = k q j (leaf st (with-left n (let e : suc n - 1 ≡ n = omega arith in e) r))
+
+  pub scanning-end : (m : ℕ) → m < maxDepth → left ≡ 0 → (good && leb calls m) ≡ true → walk 0 next ≡ walkOf (readMany (readExpr (withHeads H) ws maxDepth) count at)
+  scanning-end m deep none h =
+      let few = leb-true calls m (and-right good (leb calls m) h) in
+      run-read maxDepth (omega arith) (g .goes (and-left good (leb calls m) h) next 0 (with-left left (sym none) done))

@@ -1,16 +1,16 @@
--- Readings put together from others: where they end, and what a walk answers for them. Assumes nothing.
+-- Readings put together from others, written or flat: where they end, and what a walk answers for them. Assumes nothing.
 use mathlib.Core.Path.{_≡_, refl, sym, ap, _∙_}
 use mathlib.Core.Bool.{Bool, true, false, _&&_}
 use mathlib.Core.List.{List}
 use Prim.Native.Nat.{ℕ, zero, suc, _+_, _-_, _≤_, _<_}
 use native.Mathlib.Omega.{arith}
 use lib.ListN.{length, getD}
-use lib.Dec.{ltb}
-use borrow.Author.Tests.{ltb-true}
+use lib.Dec.{ltb, lit≤}
+use borrow.Author.Tests.{ltb-true, le-leb, lt-leb}
 use Rattle.rules.specs.Refusals.{Res, ok, refuse, _>>=_, demand, unfit}
-use Rattle.rules.specs.Written.{Expr, Exprs, _then_, Read, Reader, readWord, readMany, readRow}
+use Rattle.rules.specs.Written.{Expr, Exprs, _then_, Read, Reader, readWord, readMany, readRow, allRead}
 use Rattle.records.specs.declared.written.Walk.{Walk}
-use Rattle.records.specs.Written.{walk, walkOf}
+use Rattle.records.specs.Written.{walk, walkOf, wholeOf}
 
 -- ---- where a reading ends
 
@@ -52,6 +52,15 @@ module _ (ws : List ℕ) where
       go true e false = (omega arith, omega arith)
       go false e b = (omega arith, omega arith)
 
+  -- behind a word that is there
+  pub behind : {A : Type 0} (p : ℕ) (x : Res (Read A)) → p < length ws → Went ws (suc p) 1 x → Went ws p 1 x
+  behind p x l h = went-less p 2 1 x (lit≤ tt) (went-from p 1 x l h)
+
+  pub went-row : {A : Type 0} (one : Reader A) → ((p : ℕ) → Went ws p 1 (one p)) → (n p : ℕ) → Went ws p 0 (readRow one n p)
+  went-row one h zero p = (omega arith, omega arith)
+  went-row one h (suc n) p =
+      went-then p 0 0 (one p) _ (went-less p 1 0 (one p) (lit≤ tt) (h p)) (λ r. went-made (r .at) 0 (readRow one n (r .at)) _ (went-row one h n (r .at)))
+
 -- ---- a walk follows the reading
 
 -- a refusal is the whole answer
@@ -80,7 +89,8 @@ made (refuse n p) f = refl
 pub both : {A B C : Type 0} (ws : List ℕ) (p j : ℕ) (x : Res (Read A)) (one : Reader B) (f : Read A → Read B → C) {w z : Walk}
     → Went ws p j x → w ≡ walkOf x → w .refused ≡ 0 → z ≡ walkOf (one (w .at))
     → z ≡ walkOf (_>>=_ x (λ a. _>>=_ (one (a .at)) (λ b. ok (record { value = f a b; at = b .at }))))
-both ws p j x one f l e h g = goes ws p j x (λ a. _>>=_ (one (a .at)) (λ b. ok (record { value = f a b; at = b .at }))) l e h (λ r same. rw (made (one (r .at)) (f r), same) g)
+both ws p j x one f l e h g =
+    goes ws p j x (λ a. _>>=_ (one (a .at)) (λ b. ok (record { value = f a b; at = b .at }))) l e h (λ r same. rw (made (one (r .at)) (f r), same) g)
 
 -- ---- several things, one after the other
 
@@ -101,21 +111,38 @@ many ws one went = record { went = went; none = λ p. refl; more = λ n p. then-
 pub row : {A : Type 0} (ws : List ℕ) (one : Reader A) → ((p : ℕ) → Went ws p 1 (one p)) → Several ws one (readRow one)
 row ws one went = record { went = went; none = λ p. refl; more = λ n p. then-made (one p) (readRow one n) _ }
 
-module _ {A B : Type 0} {ws : List ℕ} {one : Reader A} {several : ℕ → Reader B} (k : Several ws one several) where
-  pub no-more : (n p : ℕ) → n ≡ 0 → walk 0 p ≡ walkOf (several n p)
-  no-more zero p z = sym (k .none p)
-  no-more (suc n) p z = absurd (omega arith)
+-- of `count` from `at` on, `left` are still to be read from `next` on: the rest answers as the whole does
+pub record Left {A B : Type 0} {ws : List ℕ} {one : Reader A} {several : ℕ → Reader B} (k : Several ws one several) (count at left next : ℕ) : Type 0 where
+  pub same : walkOf (several left next) ≡ walkOf (several count at)
 
-  pub first-stops : (n p : ℕ) {w : Walk} → ¬ (n ≡ 0) → w ≡ walkOf (one p) → ¬ (w .refused ≡ 0) → w ≡ walkOf (several n p)
-  first-stops zero p z e h = absurd (z refl)
-  first-stops (suc n) p z e h = stops (one p) (λ x. several n (x .at)) e h ∙ sym (k .more n p)
+module _ {A B : Type 0} {ws : List ℕ} {one : Reader A} {several : ℕ → Reader B} {k : Several ws one several} where
+  pub left-start : {count at : ℕ} → Left k count at count at
+  left-start = record { same = refl }
 
-  pub one-less : (n p : ℕ) {w : Walk} → ¬ (n ≡ 0) → w ≡ walkOf (one p) → w .refused ≡ 0 → walkOf (several (n - 1) (w .at)) ≡ walkOf (several n p)
-  one-less zero p z e h = absurd (z refl)
-  one-less (suc n) p {w} z e h = goes ws p 1 (one p) (λ x. several n (x .at)) (k .went p) e h (λ r same. rw (down, same)) ∙ sym (k .more n p)
-    where
-      down : suc n - 1 ≡ n
-      down = omega arith
+  -- the walk over the next of them
+  module _ {count at left next : ℕ} (l : Left k count at left next) where
+    pub left-stops : {w : Walk} → 0 < left → w ≡ walkOf (one next) → ¬ (w .refused ≡ 0) → w ≡ walkOf (several count at)
+    left-stops {w} some e h = go left some ∙ l .same
+      where
+        go : (n : ℕ) → 0 < n → w ≡ walkOf (several n next)
+        go zero z = absurd (omega arith)
+        go (suc n) z = stops (one next) (λ x. several n (x .at)) e h ∙ sym (k .more n next)
+
+    pub left-next : {w : Walk} → 0 < left → w ≡ walkOf (one next) → w .refused ≡ 0 → Left k count at (left - 1) (w .at)
+    left-next {w} some e h = record { same = go left some ∙ l .same }
+      where
+        go : (n : ℕ) → 0 < n → walkOf (several (n - 1) (w .at)) ≡ walkOf (several n next)
+        go zero z = absurd (omega arith)
+        go (suc n) z =
+            let down : suc n - 1 ≡ n = omega arith in
+            goes ws next 1 (one next) (λ x. several n (x .at)) (k .went next) e h (λ r same. rw (down, same)) ∙ sym (k .more n next)
+
+    pub left-end : left ≡ 0 → walk 0 next ≡ walkOf (several count at)
+    left-end none = sym (k .none next) ∙ ap (λ (n : ℕ). walkOf (several n next)) (sym none) ∙ l .same
+
+-- none is to be read
+pub none-left : {A B : Type 0} {ws : List ℕ} {one : Reader A} {several : ℕ → Reader B} (k : Several ws one several) (n p : ℕ) → n ≡ 0 → walk 0 p ≡ walkOf (several n p)
+none-left k n p z = left-end {k = k} (left-start {k = k}) z
 
 -- ---- a row of expressions, and one more
 
@@ -143,3 +170,39 @@ last-one one (suc n) p = go (one p) (λ q. last-one one n q)
         ≡ walkOf (_>>=_ x (λ e. _>>=_ (readMany one (suc n) (e .at)) (λ es. ok (record { value = e .value then es .value; at = es .at }))))
     go (ok e) h = moved (readMany one n (e .at)) _ one ∙ h (e .at) ∙ sym (made (readMany one (suc n) (e .at)) _)
     go (refuse m q) h = refl
+
+-- ---- a whole record: what is read from index 0 on, and nothing behind it
+
+-- the rest may be replaced by one that is the same everywhere
+pub then-same : {A B : Type 0} (x : Res A) (f g : A → Res B) → ((a : A) → f a ≡ g a) → _>>=_ x f ≡ _>>=_ x g
+then-same (ok a) f g h = h a
+then-same (refuse n p) f g h = refl
+
+pub then-then : {A B C : Type 0} (x : Res A) (f : A → Res B) (g : B → Res C) → _>>=_ x (λ a. _>>=_ (f a) g) ≡ _>>=_ (_>>=_ x f) g
+then-then (ok a) f g = refl
+then-then (refuse n p) f g = refl
+
+module _ {A : Type 0} (ws : List ℕ) (x : Res (Read A)) (went : Went ws 0 1 x) {w : Walk} (e : w ≡ walkOf x) where
+  pub whole-stops : ¬ (w .refused ≡ 0) → w ≡ wholeOf ws (_>>=_ x (allRead ws))
+  whole-stops h = go x e
+    where
+      go : (y : Res (Read A)) → w ≡ walkOf y → w ≡ wholeOf ws (_>>=_ y (allRead ws))
+      go (ok r) k = absurd (h (ap (λ (v : Walk). v .refused) k))
+      go (refuse n p) k = k
+
+  pub surplus : w .refused ≡ 0 → w .at < length ws → walk unfit (w .at) ≡ wholeOf ws (_>>=_ x (allRead ws))
+  surplus h l = go x went e
+    where
+      go : (y : Res (Read A)) → Went ws 0 1 y → w ≡ walkOf y → walk unfit (w .at) ≡ wholeOf ws (_>>=_ y (allRead ws))
+      go (ok r) g k = let same : w .at ≡ r .at = ap (λ (v : Walk). v .at) k in rw (same, lt-leb (length ws) (r .at) (omega arith)) refl
+      go (refuse n p) g k = let z : n ≡ 0 = sym (ap (λ (v : Walk). v .refused) k) ∙ h in absurd (omega arith)
+
+  pub all-read : w .refused ≡ 0 → length ws ≤ w .at → w ≡ wholeOf ws (_>>=_ x (allRead ws))
+  all-read h l = go x went e
+    where
+      go : (y : Res (Read A)) → Went ws 0 1 y → w ≡ walkOf y → w ≡ wholeOf ws (_>>=_ y (allRead ws))
+      go (ok r) g k =
+          let same : w .at ≡ r .at = ap (λ (v : Walk). v .at) k in
+          let end : r .at ≡ length ws = omega arith in
+          k ∙ rw (le-leb (length ws) (r .at) (omega arith), end) refl
+      go (refuse n p) g k = let z : n ≡ 0 = sym (ap (λ (v : Walk). v .refused) k) ∙ h in absurd (omega arith)

@@ -1,97 +1,27 @@
 -- A whole written rule: one that begins at index 0 and has nothing behind it. And what signature it is read under: only the count of its heads matters.
 -- Assumes nothing.
-use mathlib.Core.Path.{_≡_, refl, sym, ap, _∙_}
-use mathlib.Core.Bool.{Bool, true, false, _&&_, cond}
+use mathlib.Core.Path.{_≡_, refl, ap, _∙_}
+use mathlib.Core.Bool.{Bool, false, _&&_, cond}
 use mathlib.Core.List.{List}
-use Prim.Native.Nat.{ℕ, zero, suc, _≤_, _<_}
+use Prim.Native.Nat.{ℕ, zero, suc, _≤_}
 use native.Mathlib.Nat.{min-eq-left}
-use native.Mathlib.Omega.{arith}
 use lib.ListN.{length, getD}
-use lib.Dec.{ltb, leb, eqb}
-use borrow.Author.Tests.{le-leb, lt-leb}
-use Rattle.rules.specs.Words.{limit12, maxDepth, equalityWord, isNameWord, isHeadWord, isHeaderWord, countOf, factsOf, actionsOf, Code, aLet, aSet, aDelete, aSubsume, aUnion, aPanic, aCall, anExpression, noCode}
-use Rattle.rules.specs.Refusals.{Res, ok, refuse, _>>=_, unfit}
+use lib.Dec.{ltb, eqb}
+use Rattle.rules.specs.Words.{limit12, maxDepth, equalityWord, isNameWord, isHeadWord, isHeaderWord, countOf, factsOf, actionsOf}
+use Rattle.rules.specs.Words.{Code, aLet, aSet, aDelete, aSubsume, aUnion, aPanic, aCall, anExpression, noCode}
+use Rattle.rules.specs.Refusals.{Res, _>>=_}
 use Rattle.rules.specs.Signature.{Sig, heads}
-use Rattle.rules.specs.Written.{Fact, Action, Rule, Read, Reader, Expr, shapeAt, readShape, readWord, readRow, readMany, readExpr, readTarget, readHolds, readFact, readCode, codeAt, readAction, readWritten, allRead}
-use Rattle.records.specs.declared.written.Walk.{Walk}
-use Rattle.records.specs.Written.{withHeads, walk, walkOf, wholeOf, readRule}
-use Rattle.records.proofs.WrittenWalk.{Went}
-use Rattle.records.proofs.WrittenEnds.{went-rule}
-use Rattle.records.proofs.WrittenLaws.{heads-with}
-
--- ---- results put together
-
--- the rest may be replaced by one that is the same everywhere
-pub then-same : {A B : Type 0} (x : Res A) (f g : A → Res B) → ((a : A) → f a ≡ g a) → _>>=_ x f ≡ _>>=_ x g
-then-same (ok a) f g h = h a
-then-same (refuse n p) f g h = refl
-
-pub then-then : {A B C : Type 0} (x : Res A) (f : A → Res B) (g : B → Res C) → _>>=_ x (λ a. _>>=_ (f a) g) ≡ _>>=_ (_>>=_ x f) g
-then-then (ok a) f g = refl
-then-then (refuse n p) f g = refl
+use Rattle.rules.specs.Written.{Fact, Action, Read, Reader, Expr, shapeAt, readShape, readWord, readRow, readMany, readExpr, readTarget, readHolds, readFact}
+use Rattle.rules.specs.Written.{readCode, codeAt, readAction, readWritten, allRead}
+use Rattle.records.specs.Written.{withHeads, readRule}
+use Rattle.records.proofs.WrittenWalk.{then-same}
+use Rattle.records.proofs.WrittenEnds.{went-fact}
+use Rattle.records.proofs.Expected.{heads-with, headed-whole}
 
 -- ---- a whole rule
 
-module _ (s : Sig) (ws : List ℕ) where
-  pub whole-read : readWritten s ws ≡ _>>=_ (readRule s ws 0) (allRead ws)
-  whole-read =
-      then-same (readWord ws isHeaderWord 0) _ _ (λ w.
-      then-same (readRow (readFact s ws) (factsOf (w .value)) (w .at)) _ _ (λ fs. then-then (readRow (readAction s ws) (actionsOf (w .value)) (fs .at)) _ (allRead ws))
-      ∙ then-then (readRow (readFact s ws) (factsOf (w .value)) (w .at)) _ (allRead ws))
-      ∙ then-then (readWord ws isHeaderWord 0) _ (allRead ws)
-
-  pub whole-stops : {w : Walk} → w ≡ walkOf (readRule s ws 0) → ¬ (w .refused ≡ 0) → w ≡ wholeOf ws (readWritten s ws)
-  whole-stops {w} e h = rw whole-read (go (readRule s ws 0) e)
-    where
-      go : (x : Res (Read Rule)) → w ≡ walkOf x → w ≡ wholeOf ws (_>>=_ x (allRead ws))
-      go (ok r) e = absurd (h (ap (λ (v : Walk). v .refused) e))
-      go (refuse n p) e = e
-
-  pub surplus : {w : Walk} → w ≡ walkOf (readRule s ws 0) → w .refused ≡ 0 → w .at < length ws → walk unfit (w .at) ≡ wholeOf ws (readWritten s ws)
-  surplus {w} e h l = rw whole-read (go (readRule s ws 0) (went-rule s ws 0) e)
-    where
-      go : (x : Res (Read Rule)) → Went ws 0 1 x → w ≡ walkOf x → walk unfit (w .at) ≡ wholeOf ws (_>>=_ x (allRead ws))
-      go (ok r) k e = let same : w .at ≡ r .at = ap (λ (v : Walk). v .at) e in rw (same, lt-leb (length ws) (r .at) (omega arith)) refl
-      go (refuse n p) k e = let z : n ≡ 0 = sym (ap (λ (v : Walk). v .refused) e) ∙ h in absurd (omega arith)
-
-  pub all-read : {w : Walk} → w ≡ walkOf (readRule s ws 0) → w .refused ≡ 0 → length ws ≤ w .at → w ≡ wholeOf ws (readWritten s ws)
-  all-read {w} e h l = rw whole-read (go (readRule s ws 0) (went-rule s ws 0) e)
-    where
-      go : (x : Res (Read Rule)) → Went ws 0 1 x → w ≡ walkOf x → w ≡ wholeOf ws (_>>=_ x (allRead ws))
-      go (ok r) k e =
-          let same : w .at ≡ r .at = ap (λ (v : Walk). v .at) e in
-          let end : r .at ≡ length ws = omega arith in
-          e ∙ rw (le-leb (length ws) (r .at) (omega arith), end) refl
-      go (refuse n p) k e = let z : n ≡ 0 = sym (ap (λ (v : Walk). v .refused) e) ∙ h in absurd (omega arith)
-
-  -- what the answer says of the rule
-
-  pub accepted : {w : Walk} → w ≡ wholeOf ws (readWritten s ws) → w .refused ≡ 0 → (r : Rule) × (readWritten s ws ≡ ok r)
-  accepted {w} e h = go (readRule s ws 0) refl (went-rule s ws 0)
-    where
-      all : (r : Read Rule) → readRule s ws 0 ≡ ok r → (b : Bool) → leb (length ws) (r .at) ≡ b → (t : Rule) × (readWritten s ws ≡ ok t)
-      all r k true b = (r .value, whole-read ∙ rw (k, b) refl)
-      all r k false b =
-          let five : readWritten s ws ≡ refuse unfit (r .at) = whole-read ∙ rw (k, b) refl in
-          let z : 0 ≡ unfit = sym h ∙ ap (λ (v : Walk). v .refused) (e ∙ ap (wholeOf ws) five) in
-          absurd (omega arith)
-
-      go : (x : Res (Read Rule)) → readRule s ws 0 ≡ x → Went ws 0 1 x → (t : Rule) × (readWritten s ws ≡ ok t)
-      go (ok r) k l = all r k (leb (length ws) (r .at)) refl
-      go (refuse n p) k l =
-          let back : readWritten s ws ≡ refuse n p = whole-read ∙ rw k refl in
-          let z : 0 ≡ n = sym h ∙ ap (λ (v : Walk). v .refused) (e ∙ ap (wholeOf ws) back) in
-          absurd (omega arith)
-
-  pub turned-back : {w : Walk} → w ≡ wholeOf ws (readWritten s ws) → ¬ (w .refused ≡ 0) → readWritten s ws ≡ refuse (w .refused) (w .at)
-  turned-back {w} e h = go (readWritten s ws) refl
-    where
-      go : (x : Res Rule) → readWritten s ws ≡ x → readWritten s ws ≡ refuse (w .refused) (w .at)
-      go (ok r) k = absurd (h (ap (λ (v : Walk). v .refused) (e ∙ ap (wholeOf ws) k)))
-      go (refuse n p) k =
-          let f : w ≡ walk n p = e ∙ ap (wholeOf ws) k in
-          let back : Walk → Res Rule = λ v. refuse (v .refused) (v .at) in
-          k ∙ ap back (sym f)
+pub written-read : (s : Sig) (ws : List ℕ) → readWritten s ws ≡ _>>=_ (readRule s ws 0) (allRead ws)
+written-read s ws = headed-whole ws (readFact s ws) (readAction s ws) (went-fact s ws) (λ fs xs. record { facts = fs; actions = xs })
 
 -- ---- the signature: two of as many heads read alike
 
@@ -112,7 +42,9 @@ module _ (s t : Sig) (ws : List ℕ) (same : heads s ≡ heads t) where
   behind-same x f = then-same x _ _ (λ a. rw (expr-same maxDepth (a .at)) refl)
 
   fact-same : (p : ℕ) → readFact s ws p ≡ readFact t ws p
-  fact-same p = rw (expr-same maxDepth (suc p), expr-same maxDepth p) (ap (λ (x : Res (Read Fact)). cond (ltb p (length ws) && eqb (getD ws p 0) equalityWord) x (readHolds t ws p)) (behind-same (readExpr t ws maxDepth (suc p)) _))
+  fact-same p =
+      let test : Bool = ltb p (length ws) && eqb (getD ws p 0) equalityWord in
+      rw (expr-same maxDepth (suc p), expr-same maxDepth p) (ap (λ (x : Res (Read Fact)). cond test x (readHolds t ws p)) (behind-same (readExpr t ws maxDepth (suc p)) _))
 
   code-same : (k : Code) (p q : ℕ) → readCode s ws p k q ≡ readCode t ws p k q
   code-same aLet p q = behind-same (readWord ws isNameWord q) _

@@ -7,14 +7,14 @@ use native.Mathlib.Omega.{arith}
 use lib.ListN.{length, getD}
 use lib.Dec.{ltb}
 use borrow.Author.Tests.{ltb-true}
-use Rattle.rules.specs.Words.{isLiteralWord, isHeadWord, isHeaderWord, countOf, factsOf, actionsOf, Code, aLet, aSet, aDelete, aSubsume, aUnion, aPanic, aCall, anExpression, noCode, codeOf}
+use Rattle.rules.specs.Words.{isLiteralWord, isHeadWord, isHeaderWord, countOf, factsOf, actionsOf}
+use Rattle.rules.specs.Words.{Code, aLet, aSet, aDelete, aSubsume, aUnion, aPanic, aCall, anExpression, noCode, codeOf}
 use Rattle.rules.specs.Refusals.{Res, ok, refuse, _>>=_}
 use Rattle.rules.specs.Signature.{Sig, heads}
 use Rattle.rules.specs.Written.{Read, Reader, readWord, readRow}
 use Rattle.rules.specs.Flat.{AtomShape, isPair, isOdd, isTable, isEmpty, isNone, isTarget, isTerm, atomShape, readTerm, readAtomShape, readAtom, readTerms, readCoreCode, readCoreAction}
 use Rattle.records.specs.Flat.{readFlatRule}
-use Rattle.records.proofs.WrittenWalk.{Went, went-then, went-made, went-from, went-word, Several, row}
-use Rattle.records.proofs.WrittenEnds.{behind, went-row}
+use Rattle.records.proofs.WrittenWalk.{Went, went-then, went-made, went-from, went-word, behind, went-row, Several, row}
 
 module _ (s : Sig) (ws : List ℕ) where
   pub went-term : (p : ℕ) → Went ws p 1 (readTerm s ws p)
@@ -24,7 +24,7 @@ module _ (s : Sig) (ws : List ℕ) where
   went-target p = went-word ws (isTarget s) p
 
   pub went-some : (n p : ℕ) → Went ws p 0 (readRow (readTerm s ws) n p)
-  went-some = went-row s ws (readTerm s ws) went-term
+  went-some = went-row ws (readTerm s ws) went-term
 
   -- what was read, something behind it, and a value made of both
   went-pair : {A B C : Type 0} (p j : ℕ) (x : Res (Read A)) (one : Reader B) (f : Read A → Read B → C) → ((q : ℕ) → Went ws q 1 (one q)) → Went ws p j x
@@ -37,7 +37,7 @@ module _ (s : Sig) (ws : List ℕ) where
   went-pair p j (refuse n q) one f g h = h
 
   went-shape : (w p : ℕ) → (i : Bool) → ltb p (length ws) ≡ i → (sh : AtomShape) → Went ws p 1 (readAtomShape s ws (cond i sh isNone) w p)
-  went-shape w p true e isPair = went-pair p 1 (readTerm s ws (suc p)) (readTerm s ws) _ went-term (behind s ws p (readTerm s ws (suc p)) (ltb-true p (length ws) e) (went-term (suc p)))
+  went-shape w p true e isPair = went-pair p 1 (readTerm s ws (suc p)) (readTerm s ws) _ went-term (behind ws p (readTerm s ws (suc p)) (ltb-true p (length ws) e) (went-term (suc p)))
   went-shape w p true e isTable =
       went-pair p 1 (readRow (readTerm s ws) (countOf w - 1) (suc p)) (readTerm s ws) _ went-term
       (went-from ws p 0 (readRow (readTerm s ws) (countOf w - 1) (suc p)) (ltb-true p (length ws) e) (went-some (countOf w - 1) (suc p)))
@@ -55,13 +55,13 @@ module _ (s : Sig) (ws : List ℕ) where
       (λ w. went-made ws (w .at) 0 (readRow (readTerm s ws) (countOf (w .value)) (w .at)) _ (went-some (countOf (w .value)) (w .at)))
 
   went-code : (k : Code) (p : ℕ) → p < length ws → Went ws p 1 (readCoreCode s ws p k (suc p))
-  went-code aLet p l = went-pair p 1 (readWord ws (isTarget s) (suc p)) (readTerm s ws) _ went-term (behind s ws p (readWord ws (isTarget s) (suc p)) l (went-target (suc p)))
-  went-code aSet p l = went-pair p 1 (readTerms s ws (suc p)) (readTerm s ws) _ went-term (behind s ws p (readTerms s ws (suc p)) l (went-terms (suc p)))
-  went-code aDelete p l = went-made ws p 1 (readTerms s ws (suc p)) _ (behind s ws p (readTerms s ws (suc p)) l (went-terms (suc p)))
-  went-code aSubsume p l = went-made ws p 1 (readTerms s ws (suc p)) _ (behind s ws p (readTerms s ws (suc p)) l (went-terms (suc p)))
-  went-code aUnion p l = went-pair p 1 (readTerm s ws (suc p)) (readTerm s ws) _ went-term (behind s ws p (readTerm s ws (suc p)) l (went-term (suc p)))
-  went-code aPanic p l = went-made ws p 1 (readWord ws isLiteralWord (suc p)) _ (behind s ws p (readWord ws isLiteralWord (suc p)) l (went-word ws isLiteralWord (suc p)))
-  went-code aCall p l = went-pair p 1 (readWord ws (isTarget s) (suc p)) (readTerms s ws) _ went-terms (behind s ws p (readWord ws (isTarget s) (suc p)) l (went-target (suc p)))
+  went-code aLet p l = went-pair p 1 (readWord ws (isTarget s) (suc p)) (readTerm s ws) _ went-term (behind ws p (readWord ws (isTarget s) (suc p)) l (went-target (suc p)))
+  went-code aSet p l = went-pair p 1 (readTerms s ws (suc p)) (readTerm s ws) _ went-term (behind ws p (readTerms s ws (suc p)) l (went-terms (suc p)))
+  went-code aDelete p l = went-made ws p 1 (readTerms s ws (suc p)) _ (behind ws p (readTerms s ws (suc p)) l (went-terms (suc p)))
+  went-code aSubsume p l = went-made ws p 1 (readTerms s ws (suc p)) _ (behind ws p (readTerms s ws (suc p)) l (went-terms (suc p)))
+  went-code aUnion p l = went-pair p 1 (readTerm s ws (suc p)) (readTerm s ws) _ went-term (behind ws p (readTerm s ws (suc p)) l (went-term (suc p)))
+  went-code aPanic p l = went-made ws p 1 (readWord ws isLiteralWord (suc p)) _ (behind ws p (readWord ws isLiteralWord (suc p)) l (went-word ws isLiteralWord (suc p)))
+  went-code aCall p l = went-pair p 1 (readWord ws (isTarget s) (suc p)) (readTerms s ws) _ went-terms (behind ws p (readWord ws (isTarget s) (suc p)) l (went-target (suc p)))
   went-code anExpression p l = (omega arith, omega arith)
   went-code noCode p l = (omega arith, omega arith)
 
@@ -73,10 +73,10 @@ module _ (s : Sig) (ws : List ℕ) where
       go false e = (omega arith, omega arith)
 
   pub went-atoms : (n p : ℕ) → Went ws p 0 (readRow (readAtom s ws) n p)
-  went-atoms = went-row s ws (readAtom s ws) went-atom
+  went-atoms = went-row ws (readAtom s ws) went-atom
 
   pub went-actions : (n p : ℕ) → Went ws p 0 (readRow (readCoreAction s ws) n p)
-  went-actions = went-row s ws (readCoreAction s ws) went-action
+  went-actions = went-row ws (readCoreAction s ws) went-action
 
   pub went-rule : (p : ℕ) → Went ws p 1 (readFlatRule s ws p)
   went-rule p =

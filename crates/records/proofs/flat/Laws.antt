@@ -1,73 +1,63 @@
 -- What a walk answers for each reading of a flat rule, by the words that it meets. Assumes nothing.
 use mathlib.Core.Path.{_≡_, refl, sym, ap, _∙_}
-use mathlib.Core.Logic.{⊎-elim}
 use mathlib.Core.Bool.{Bool, true, false, _&&_, _||_, cond}
 use mathlib.Core.List.{List, _∷_}
 use Prim.Native.Nat.{ℕ, zero, suc, _+_, _*_, _-_, _/_, _≤_, _<_, min}
-use native.Mathlib.Nat.{min-le-left, min-le-right, le-min, eq-or-lt-of-le}
+use native.Mathlib.Nat.{min-le-left, min-le-right, le-min}
 use native.Mathlib.Numerals.{add-one}
 use native.Mathlib.Omega.{arith}
 use lib.ListN.{length, getD}
-use lib.Dec.{ltb, leb, eqb, lit<}
+use lib.Dec.{ltb, leb}
 use borrow.Author.Tests.{lt-ltb, le-ltb, le-leb, lt-leb, eq-eqb, ne-eqb, ltb-true, ltb-false, leb-true, leb-false}
-use Rattle.rules.specs.Words.{limit12, limit16, freshBase, nameBase, equalityBase, headBase, literalBase, equalityWord, isNameWord, isLiteralWord, isHeadWord, isEqualityWord, headOf, countOf, actionWord, Code, aLet, aSet, aDelete, aSubsume, aUnion, aPanic, aCall, noCode, codeOf}
+use Rattle.rules.specs.Words.{limit12, limit16, freshBase, nameBase, equalityBase, headBase, literalBase, equalityWord, isFreshWord, isNameWord, isLiteralWord}
+use Rattle.rules.specs.Words.{isHeadWord, isEqualityWord, headOf, countOf, actionWord, Code, aLet, aSet, aCall, codeOf}
 use Rattle.rules.specs.Refusals.{Res, ok, refuse, _>>=_, demand, unfit, noTerms, notTwo}
 use Rattle.rules.specs.Signature.{Sig, heads}
-use Rattle.rules.specs.Written.{Read, Reader, readWord, readRow, codeAt}
-use Rattle.rules.specs.Flat.{isNone, isTarget, isTerm, atomShape, readTerm, readAtomShape, readAtom, readTerms, readCoreCode, readCoreAction}
-use Rattle.words.specs.Word.{wordOf, kind}
-use Rattle.words.specs.declared.Word.{Word}
+use Rattle.rules.specs.Written.{Read, Reader, readWord, readRow}
+use Rattle.rules.specs.Flat.{Atom, CoreAction, FlatRule, isNone, isTarget, isTerm, atomShape, readTerm, readAtomShape, readAtom, readTerms, readCoreCode, readCoreAction}
+use Rattle.words.specs.Word.{wordOf}
 use Rattle.words.proofs.Ranges.{within-true, true-within, false-below, false-above, heads-below}
-use Rattle.words.proofs.WordLaws.{is-head, name-kind, fresh-below, head-numbers, no-head, no-fresh, no-action, said}
+use Rattle.words.proofs.WordLaws.{is-head, name-kind, fresh-below, no-fresh}
 use Rattle.words.specs.Atom.{atomOf, atomWith, headKind}
 use Rattle.words.specs.declared.HeadOrEq.the-variants.{Head, Eq}
 use Rattle.words.specs.declared.Atom.{Atom as Begun}
 use Rattle.words.proofs.AtomLaws.{atom-head, atom-equality}
-use Rattle.records.specs.Flat.{termAt, firstAt, readBehind}
+use Rattle.meaning.proofs.Lists.{and-left}
+use Rattle.records.specs.Flat.{termAt, firstAt, readBehind, readFlatRule}
 use Rattle.records.specs.declared.written.Walk.{Walk}
-use Rattle.records.specs.Written.{withHeads, walk, walkOf, wordAt, leafWord}
-use Rattle.records.proofs.WrittenWalk.{Went, stops, made, both, row}
-use Rattle.records.proofs.WrittenWhole.{then-then}
-use Rattle.records.proofs.WrittenLaws.{both-true, word-there, word-other, word-fits, word-unfit, heads-with, heads-most, head-with}
-use Rattle.records.proofs.flat.Ends.{went-term, went-target, went-terms}
+use Rattle.records.specs.Written.{withHeads, walk, walkOf, leafWord}
+use Rattle.records.proofs.WrittenWalk.{Went, stops, made, both, row, then-then}
+use Rattle.records.proofs.Expected.{There, NotKind, word-fits, word-unfit, heads-with, heads-most, head-with, head-other, head-high, head-fits, head-count}
+use Rattle.records.proofs.Expected.{no-code, as-code, change-code, last-code, header-other, first-stops, then-second}
+use Rattle.records.proofs.flat.Ends.{went-term, went-target, went-terms, went-atom}
 use Rattle.words.specs.declared.Word.the-variants as Said
 use Rattle.records.specs.declared.flat.First.the-variants as First
 
--- ---- a word of one kind
-
-module _ (fits : ℕ → Bool) (k : ℕ) (kind-test : (w : ℕ) → fits w ≡ eqb (kind (wordOf w)) k) (ws : List ℕ) (p : ℕ) where
-  pub kind-taken : {x : Word} → wordAt ws p ≡ x → kind x < 8 → eqb (kind x) k ≡ true → walk 0 (p + 1) ≡ walkOf (readWord ws fits p)
-  kind-taken says small same =
-      let t = word-there ws p says small in
-      rw (word-fits ws p fits (t .0) (kind-test (getD ws p 0) ∙ rw (t .1) same), add-one p)
-
-  pub kind-refused : eqb (kind (wordAt ws p)) k ≡ false → walk unfit p ≡ walkOf (readWord ws fits p)
-  kind-refused other = rw (word-unfit ws p fits (λ l. kind-test (getD ws p 0) ∙ word-other ws p k other l))
-
 -- ---- what an action may bind
 
-module _ (H : ℕ) (ws : List ℕ) (p : ℕ) where
-  pub target-name : eqb (kind (wordAt ws p)) 0 ≡ false → walkOf (readWord ws isNameWord p) ≡ walkOf (readWord ws (isTarget (withHeads H)) p)
-  target-name other = go (ltb p (length ws)) refl
+module _ (H : ℕ) {ws : List ℕ} {p : ℕ} where
+  pub target-name : NotKind ws p 0 → walkOf (readWord ws isNameWord p) ≡ walkOf (readWord ws (isTarget (withHeads H)) p)
+  target-name n = go (ltb p (length ws)) refl
     where
       go : (b : Bool) → ltb p (length ws) ≡ b
           → walkOf (demand {A = Read ℕ} (b && isNameWord (getD ws p 0)) unfit p (record { value = getD ws p 0; at = suc p }))
           ≡ walkOf (demand {A = Read ℕ} (b && isTarget (withHeads H) (getD ws p 0)) unfit p (record { value = getD ws p 0; at = suc p }))
-      go true e = rw (no-fresh (getD ws p 0) (word-other ws p 0 other (ltb-true p (length ws) e)) (heads (withHeads H)))
+      go true e = rw (no-fresh (getD ws p 0) (n .other (ltb-true p (length ws) e)) (heads (withHeads H)))
       go false e = refl
 
-  module _ (h n : ℕ) (says : wordAt ws p ≡ Said.Fresh h n) where
+  module _ {h n : ℕ} (t : There ws p (Said.Fresh h n)) where
+    below : ltb h (min H limit12) ≡ isFreshWord (heads (withHeads H)) (getD ws p 0)
+    below = sym (fresh-below (getD ws p 0) h n (t .says) (heads (withHeads H)) ∙ rw (heads-with H) refl)
+
     pub target-fresh : h < H → h < limit12 → walk 0 (p + 1) ≡ walkOf (readWord ws (isTarget (withHeads H)) p)
     target-fresh low small =
-        let t = word-there ws p says (lit< tt) in
-        let below : ltb h (heads (withHeads H)) ≡ true = rw (heads-with H) (lt-ltb h (min H limit12) (le-min low small)) in
-        rw (word-fits ws p (isTarget (withHeads H)) (t .0) (rw (fresh-below (getD ws p 0) h n (t .1) (heads (withHeads H)) ∙ below) refl), add-one p)
+        let fresh = sym below ∙ lt-ltb h (min H limit12) (le-min low small) in
+        rw (word-fits (isTarget (withHeads H)) ws p (t .inside) (rw fresh refl), add-one p) refl
 
     pub target-high : min H limit12 ≤ h → walk unfit p ≡ walkOf (readWord ws (isTarget (withHeads H)) p)
     target-high high =
-        let t = word-there ws p says (lit< tt) in
-        let above : ltb h (heads (withHeads H)) ≡ false = rw (heads-with H) (le-ltb h (min H limit12) high) in
-        rw (word-unfit ws p (isTarget (withHeads H)) (λ l. rw (fresh-below (getD ws p 0) h n (t .1) (heads (withHeads H)) ∙ above) (name-kind (getD ws p 0) ∙ rw (t .1) refl)))
+        let none = sym below ∙ le-ltb h (min H limit12) high in
+        rw (word-unfit (isTarget (withHeads H)) ws p (λ l. rw none (name-kind (getD ws p 0) ∙ rw (t .says) refl))) refl
 
 -- ---- a term, by the range of its word
 
@@ -94,7 +84,7 @@ module _ (H w : ℕ) where
 
 module _ (s : Sig) (ws : List ℕ) (p : ℕ) where
   pub term-inside : termAt s ws p ≡ true → p < length ws
-  term-inside h = ltb-true p (length ws) (both-true (ltb p (length ws)) (isTerm s (getD ws p 0)) h .0)
+  term-inside h = ltb-true p (length ws) (and-left (ltb p (length ws)) (isTerm s (getD ws p 0)) h)
 
   pub term-taken : termAt s ws p ≡ true → walk 0 (p + 1) ≡ walkOf (readTerm s ws p)
   term-taken h = rw (add-one p, h) refl
@@ -116,12 +106,17 @@ module _ {A : Type 0} (ws : List ℕ) (one : Reader A) (went : (p : ℕ) → Wen
       go : (y : Res (Read A)) → walkOf (_>>=_ y (λ x. readRow one zero (x .at))) ≡ walkOf y
       go (ok x) = refl
       go (refuse n q) = refl
-  row-last {B} (suc n) p f = more (suc n) p ∙ go (one p) (λ x. row-last n (x .at) (λ xs y. f (record { value = x .value ∷ xs .value; at = xs .at }) y))
+  row-last {B} (suc n) p f = more (suc n) p ∙ go (one p) (λ x. row-last n (x .at) (λ xs y. f (put x xs) y))
     where
-      go : (y : Res (Read A))
-          → ((x : Read A) → walkOf (readRow one (suc n) (x .at)) ≡ walkOf (_>>=_ (readRow one n (x .at)) (λ xs. _>>=_ (one (xs .at)) (λ z. ok (record { value = f (record { value = x .value ∷ xs .value; at = xs .at }) z; at = z .at })))))
-          → walkOf (_>>=_ y (λ x. readRow one (suc n) (x .at)))
-          ≡ walkOf (_>>=_ (_>>=_ y (λ x. _>>=_ (readRow one n (x .at)) (λ xs. ok (record { value = x .value ∷ xs .value; at = xs .at })))) (λ xs. _>>=_ (one (xs .at)) (λ z. ok (record { value = f xs z; at = z .at }))))
+      put : Read A → Read (List A) → Read (List A)
+      put x xs = record { value = x .value ∷ xs .value; at = xs .at }
+
+      -- one more behind xs
+      last : (Read A → B) → Read (List A) → Res (Read B)
+      last g xs = _>>=_ (one (xs .at)) (λ z. ok (record { value = g z; at = z .at }))
+
+      go : (y : Res (Read A)) → ((x : Read A) → walkOf (readRow one (suc n) (x .at)) ≡ walkOf (_>>=_ (readRow one n (x .at)) (λ xs. last (f (put x xs)) xs)))
+          → walkOf (_>>=_ y (λ x. readRow one (suc n) (x .at))) ≡ walkOf (_>>=_ (_>>=_ y (λ x. _>>=_ (readRow one n (x .at)) (λ xs. ok (put x xs)))) (λ xs. last (f xs) xs))
       go (ok x) h = h x ∙ ap walkOf (then-then (readRow one n (x .at)) _ _)
       go (refuse n q) h = refl
 
@@ -196,11 +191,11 @@ module _ (H : ℕ) (ws : List ℕ) (p : ℕ) where
   abbrev w : ℕ
   w = getD ws p 0
 
-  pub atom-other : firstAt ws p ≡ First.Other → walk unfit p ≡ walkOf (readAtom s ws p)
-  atom-other none = go (ltb p (length ws)) refl
+  pub atom-other : {x : First.the-data} → x ≡ firstAt ws p → x ≡ First.Other → walk unfit p ≡ walkOf (readAtom s ws p)
+  atom-other read is = go (ltb p (length ws)) refl
     where
       out : p < length ws → equalityBase ≤ w → w < literalBase → ⊥
-      out i lo hi = let z : _≡_ {A = ℕ} 0 1 = cc (first-here ws p i lo hi) in omega arith
+      out i lo hi = let z : _≡_ {A = ℕ} 0 1 = cc (first-here ws p i lo hi, read, is) in omega arith
 
       no-equality : p < length ws → (b : Bool) → isEqualityWord w ≡ b → b ≡ false
       no-equality i true e = let r = within-true equalityBase equalityBase w e in absurd (out i (r .0) (omega arith))
@@ -219,81 +214,81 @@ module _ (H : ℕ) (ws : List ℕ) (p : ℕ) where
           rw (no-equality i (isEqualityWord w) refl, no-table i (isHeadWord (heads s) w) refl)
       go false e = refl
 
-  module _ {a : Begun} (begins : firstAt ws p ≡ First.Atom a) where
-    there : (p < length ws) × (equalityBase ≤ w) × (w < literalBase) × (a ≡ atomOf w)
-    there = first-there ws p begins
+-- the atom a begins at p
+pub record AtomAt (ws : List ℕ) (p : ℕ) (a : Begun) : Type 0 where
+  pub inside : p < length ws
+  pub low : equalityBase ≤ getD ws p 0
+  pub high : getD ws p 0 < literalBase
+  pub is : a ≡ atomOf (getD ws p 0)
 
-    pub atom-inside : p < length ws
-    atom-inside = there .0
+pub atom-there : {ws : List ℕ} {p : ℕ} {a : Begun} {x : First.the-data} → x ≡ firstAt ws p → x ≡ First.Atom a → AtomAt ws p a
+atom-there {ws} {p} read is = let t = first-there ws p (sym read ∙ is) in record { inside = t .0; low = t .1; high = t .2; is = t .3 }
 
-    module _ (is : a .head ≡ Eq) where
-      equality-is-word : (isEqualityWord w ≡ true) × (w ≡ equalityBase + a .count)
-      equality-is-word =
-          let t = there in
-          let low = eq-below w (sym (ap (λ (b : Begun). b .head) (t .3)) ∙ is) in
-          let count : a .count ≡ w - equalityBase = ap (λ (b : Begun). b .count) (t .3 ∙ atom-equality w low) in
-          (true-within equalityBase equalityBase w (t .1) (omega arith), omega arith)
+-- an equality
+module _ (H : ℕ) {ws : List ℕ} {p : ℕ} {a : Begun} (t : AtomAt ws p a) (is : a .head ≡ Eq) where
+  equality-is-word : (isEqualityWord (getD ws p 0) ≡ true) × (getD ws p 0 ≡ equalityBase + a .count)
+  equality-is-word =
+      let w : ℕ = getD ws p 0 in
+      let low = eq-below w (sym (ap (λ (b : Begun). b .head) (t .is)) ∙ is) in
+      let count : a .count ≡ w - equalityBase = ap (λ (b : Begun). b .count) (t .is ∙ atom-equality w low) in
+      (true-within equalityBase equalityBase w (t .low) (omega arith), omega (arith, t .low))
 
-      pub pair-goes : a .count ≡ 2 → walkOf (readRow (readTerm s ws) (a .count) (p + 1)) ≡ walkOf (readAtom s ws p)
-      pair-goes two =
-          let e = equality-is-word in
-          rw (two, add-one p, lt-ltb p (length ws) atom-inside, e .0, eq-eqb w equalityWord (omega arith))
-          (row-pair ws (readTerm s ws) (went-term s ws) (suc p) _)
+  pub pair-goes : a .count ≡ 2 → walkOf (readRow (readTerm (withHeads H) ws) (a .count) (p + 1)) ≡ walkOf (readAtom (withHeads H) ws p)
+  pair-goes two =
+      let e = equality-is-word in
+      rw (two, add-one p, lt-ltb p (length ws) (t .inside), e .0, eq-eqb (getD ws p 0) equalityWord (omega arith))
+      (row-pair ws (readTerm (withHeads H) ws) (went-term (withHeads H) ws) (suc p) _)
 
-      pub odd-refused : ¬ (a .count ≡ 2) → walk notTwo p ≡ walkOf (readAtom s ws p)
-      odd-refused odd =
-          let e = equality-is-word in
-          rw (lt-ltb p (length ws) atom-inside, e .0, ne-eqb w equalityWord (λ same. odd (omega arith)))
+  pub odd-refused : ¬ (a .count ≡ 2) → walk notTwo p ≡ walkOf (readAtom (withHeads H) ws p)
+  odd-refused odd =
+      let e = equality-is-word in
+      rw (lt-ltb p (length ws) (t .inside), e .0, ne-eqb (getD ws p 0) equalityWord (λ same. odd (omega arith)))
 
-    module _ (h : ℕ) (is : a .head ≡ Head h) where
-      table-word : (isEqualityWord w ≡ false) × (isHeadWord (heads s) w ≡ ltb h H) × (countOf w ≡ a .count)
-      table-word =
-          let t = there in
-          let above = head-above w (sym (ap (λ (b : Begun). b .head) (t .3)) ∙ is) in
-          let same : a ≡ atomWith (Head (headOf w)) (countOf w) = t .3 ∙ atom-head w above in
-          let head : Head (headOf w) ≡ Head h = sym (ap (λ (b : Begun). b .head) same) ∙ is in
-          let number : headOf w ≡ h = cc in
-          let says : wordOf w ≡ Said.Head h (countOf w) = is-head w (true-within headBase headBase w above (omega arith)) ∙ ap (λ n. Said.Head n (countOf w)) number in
-          (false-above equalityBase equalityBase w (omega arith), head-with H w h (countOf w) says, sym (ap (λ (b : Begun). b .count) same))
+-- an atom of head h
+module _ (H : ℕ) {ws : List ℕ} {p h : ℕ} {a : Begun} (t : AtomAt ws p a) (is : a .head ≡ Head h) where
+  table-word : (isEqualityWord (getD ws p 0) ≡ false) × (isHeadWord (heads (withHeads H)) (getD ws p 0) ≡ ltb h H) × (countOf (getD ws p 0) ≡ a .count)
+  table-word =
+      let w : ℕ = getD ws p 0 in
+      let above = head-above w (sym (ap (λ (b : Begun). b .head) (t .is)) ∙ is) in
+      let same : a ≡ atomWith (Head (headOf w)) (countOf w) = t .is ∙ atom-head w above in
+      let head : Head (headOf w) ≡ Head h = sym (ap (λ (b : Begun). b .head) same) ∙ is in
+      let number : headOf w ≡ h = cc in
+      let inside = true-within headBase headBase w above (omega (arith, t .high)) in
+      let says : wordOf w ≡ Said.Head h (countOf w) = is-head w inside ∙ ap (λ n. Said.Head n (countOf w)) number in
+      (false-above equalityBase equalityBase w (omega arith), head-with H w h (countOf w) says, sym (ap (λ (b : Begun). b .count) same))
 
-      pub head-refused : H ≤ h → walk unfit p ≡ walkOf (readAtom s ws p)
-      head-refused high =
-          let e = table-word in
-          rw (lt-ltb p (length ws) atom-inside, e .0, e .1, le-ltb h H high)
+  pub head-refused : H ≤ h → walk unfit p ≡ walkOf (readAtom (withHeads H) ws p)
+  head-refused high =
+      let e = table-word in
+      rw (lt-ltb p (length ws) (t .inside), e .0, e .1, le-ltb h H high)
 
-      pub empty-refused : h < H → a .count ≡ 0 → walk noTerms p ≡ walkOf (readAtom s ws p)
-      empty-refused low none =
-          let e = table-word in
-          rw (lt-ltb p (length ws) atom-inside, e .0, e .1, lt-ltb h H low, eq-eqb (countOf w) 0 (omega arith))
+  pub empty-refused : h < H → a .count ≡ 0 → walk noTerms p ≡ walkOf (readAtom (withHeads H) ws p)
+  empty-refused low none =
+      let e = table-word in
+      rw (lt-ltb p (length ws) (t .inside), e .0, e .1, lt-ltb h H low, eq-eqb (countOf (getD ws p 0)) 0 (omega arith))
 
-      pub table-goes : h < H → ¬ (a .count ≡ 0) → walkOf (readRow (readTerm s ws) (a .count) (p + 1)) ≡ walkOf (readAtom s ws p)
-      table-goes low some =
-          let e = table-word in
-          let up : a .count ≡ suc (countOf w - 1) = omega arith in
-          rw (add-one p, lt-ltb p (length ws) atom-inside, e .0, e .1, lt-ltb h H low, ne-eqb (countOf w) 0 (λ z. some (omega arith)))
-          (ap (λ n. walkOf (readRow (readTerm s ws) n (suc p))) up ∙ row-last ws (readTerm s ws) (went-term s ws) (countOf w - 1) (suc p) _)
+  pub table-goes : h < H → ¬ (a .count ≡ 0) → walkOf (readRow (readTerm (withHeads H) ws) (a .count) (p + 1)) ≡ walkOf (readAtom (withHeads H) ws p)
+  table-goes low some =
+      let e = table-word in
+      let n : ℕ = countOf (getD ws p 0) in
+      let up : a .count ≡ suc (n - 1) = omega arith in
+      rw (add-one p, lt-ltb p (length ws) (t .inside), e .0, e .1, lt-ltb h H low, ne-eqb n 0 (λ z. some (omega arith)))
+      (ap (λ n. walkOf (readRow (readTerm (withHeads H) ws) n (suc p))) up ∙ row-last ws (readTerm (withHeads H) ws) (went-term (withHeads H) ws) (n - 1) (suc p) _)
 
 -- ---- a kind 3 word and its terms
 
-module _ (H : ℕ) (ws : List ℕ) (p : ℕ) where
-  pub terms-other : eqb (kind (wordAt ws p)) 3 ≡ false → walk unfit p ≡ walkOf (readTerms (withHeads H) ws p)
-  terms-other h =
-      rw (word-unfit ws p (isHeadWord (heads (withHeads H))) (λ l. no-head (getD ws p 0) (word-other ws p 3 h l) (heads (withHeads H)) (heads-most H)))
+module _ (H : ℕ) {ws : List ℕ} {p : ℕ} where
+  pub terms-other : NotKind ws p 3 → walk unfit p ≡ walkOf (readTerms (withHeads H) ws p)
+  terms-other n = rw (head-other H n) refl
 
-  module _ (h n : ℕ) (says : wordAt ws p ≡ Said.Head h n) where
+  module _ {h n : ℕ} (t : There ws p (Said.Head h n)) where
     pub terms-high : H ≤ h → walk unfit p ≡ walkOf (readTerms (withHeads H) ws p)
-    terms-high high =
-        let t = word-there ws p says (lit< tt) in
-        rw (word-unfit ws p (isHeadWord (heads (withHeads H))) (λ l. head-with H (getD ws p 0) h n (t .1) ∙ le-ltb h H high))
+    terms-high high = rw (head-high H t high) refl
 
     pub terms-go : h < H → walkOf (readRow (readTerm (withHeads H) ws) n (p + 1)) ≡ walkOf (readTerms (withHeads H) ws p)
-    terms-go low =
-        let t = word-there ws p says (lit< tt) in
-        let count = head-numbers (getD ws p 0) h n (t .1) .1 in
-        rw (word-fits ws p (isHeadWord (heads (withHeads H))) (t .0) (head-with H (getD ws p 0) h n (t .1) ∙ lt-ltb h H low), add-one p, ← count)
-        (sym (made (readRow (readTerm (withHeads H) ws) (countOf (getD ws p 0)) (suc p)) _))
+    terms-go low = rw (head-fits H t low, add-one p, ← head-count t) (sym (made (readRow (readTerm (withHeads H) ws) (countOf (getD ws p 0)) (suc p)) _))
 
--- ---- what stands behind an action word
+-- ---- what stands behind an action word: one thing, then another
 
 module _ (s : Sig) (ws : List ℕ) (q : ℕ) where
   pub let-stops : {w : Walk} → w ≡ walkOf (readWord ws (isTarget s) q) → ¬ (w .refused ≡ 0) → w ≡ walkOf (readBehind s ws aLet q)
@@ -316,46 +311,46 @@ module _ (s : Sig) (ws : List ℕ) (q : ℕ) where
 
 -- ---- an action, by its code
 
-module _ (s : Sig) (ws : List ℕ) (p : ℕ) where
-  pub action-other : eqb (kind (wordAt ws p)) 6 ≡ false → walk unfit p ≡ walkOf (readCoreAction s ws p)
-  action-other h = go (ltb p (length ws)) refl
-    where
-      go : (b : Bool) → ltb p (length ws) ≡ b → walk unfit p ≡ walkOf (readCoreCode s ws p (cond b (codeOf (getD ws p 0)) noCode) (suc p))
-      go true e = rw (no-action (getD ws p 0) (word-other ws p 6 h (ltb-true p (length ws) e)))
-      go false e = refl
+-- what stands at p, by the code of its word
+abbrev by : Sig → List ℕ → ℕ → Code → Res (Read CoreAction)
+by s ws p k = readCoreCode s ws p k (suc p)
 
-  module _ (n : ℕ) (says : wordAt ws p ≡ Said.Action n) where
-    pub action-inside : p < length ws
-    action-inside = word-there ws p says (lit< tt) .0
+module _ (s : Sig) {ws : List ℕ} {p : ℕ} where
+  pub action-other : NotKind ws p 6 → walk unfit p ≡ walkOf (readCoreAction s ws p)
+  action-other n = rw (no-code n) refl
 
-    pub action-by : (k : Code) → codeOf (actionWord n) ≡ k → {z : Walk} → z ≡ walkOf (readCoreCode s ws p k (p + 1)) → z ≡ walkOf (readCoreAction s ws p)
-    action-by k code {z} e =
-        let t = word-there ws p says (lit< tt) in
-        let here : codeAt ws p ≡ k = rw (lt-ltb p (length ws) (t .0), said (getD ws p 0) (t .1) (lit< tt) .0) code in
-        rw here (rw (add-one p) at e)
+  module _ {n : ℕ} (t : There ws p (Said.Action n)) {z : Walk} where
+    pub action-by : (m : ℕ) → n ≡ m → z ≡ walkOf (readCoreCode s ws p (codeOf (actionWord m)) (p + 1)) → z ≡ walkOf (readCoreAction s ws p)
+    action-by m same e = as-code (by s ws p) t m same (rw (add-one p) at e)
 
-    pub change-goes : 3 ≤ n → n < 5 → {z : Walk} → z ≡ walkOf (readTerms s ws (p + 1)) → z ≡ walkOf (readCoreAction s ws p)
-    change-goes lo hi {z} e = ⊎-elim three four (eq-or-lt-of-le lo)
-      where
-        three : 3 ≡ n → z ≡ walkOf (readCoreAction s ws p)
-        three same = action-by aDelete (rw (← same) refl) (e ∙ sym (made (readTerms s ws (p + 1)) _))
+    pub change-goes : 3 ≤ n → n < 5 → z ≡ walkOf (readTerms s ws (p + 1)) → z ≡ walkOf (readCoreAction s ws p)
+    change-goes lo hi e =
+        let here : z ≡ walkOf (readTerms s ws (suc p)) = rw (add-one p) at e in
+        change-code (by s ws p) t lo hi (here ∙ sym (made (readTerms s ws (suc p)) _)) (here ∙ sym (made (readTerms s ws (suc p)) _))
 
-        four : 3 < n → z ≡ walkOf (readCoreAction s ws p)
-        four l = let same : n ≡ 4 = omega arith in action-by aSubsume (rw same refl) (e ∙ sym (made (readTerms s ws (p + 1)) _))
+    pub union-goes : n ≡ 5 → z ≡ walkOf (readRow (readTerm s ws) 2 (p + 1)) → z ≡ walkOf (readCoreAction s ws p)
+    union-goes five e = action-by 5 five (e ∙ row-pair ws (readTerm s ws) (went-term s ws) (p + 1) _)
 
-    pub union-goes : n ≡ 5 → {z : Walk} → z ≡ walkOf (readRow (readTerm s ws) 2 (p + 1)) → z ≡ walkOf (readCoreAction s ws p)
-    union-goes five e = action-by aUnion (rw five refl) (e ∙ row-pair ws (readTerm s ws) (went-term s ws) (p + 1) _)
+    pub panic-goes : n ≡ 6 → z ≡ walkOf (readWord ws isLiteralWord (p + 1)) → z ≡ walkOf (readCoreAction s ws p)
+    panic-goes six e = action-by 6 six (e ∙ sym (made (readWord ws isLiteralWord (p + 1)) _))
 
-    pub panic-goes : n ≡ 6 → {z : Walk} → z ≡ walkOf (readWord ws isLiteralWord (p + 1)) → z ≡ walkOf (readCoreAction s ws p)
-    panic-goes six e = action-by aPanic (rw six refl) (e ∙ sym (made (readWord ws isLiteralWord (p + 1)) _))
+  -- 8 is not flat, and the other numbers are no codes
+  pub action-none : {n : ℕ} → There ws p (Said.Action n) → ¬ (n ≡ 1) → ¬ (n ≡ 2) → ¬ (n ≡ 3) → ¬ (n ≡ 4) → ¬ (n ≡ 5) → ¬ (n ≡ 6) → ¬ (n ≡ 7)
+      → walk unfit p ≡ walkOf (readCoreAction s ws p)
+  action-none t n1 n2 n3 n4 n5 n6 n7 = last-code (by s ws p) t n1 n2 n3 n4 n5 n6 (λ e. absurd (n7 e)) (λ e. refl) refl
 
-    -- 8 is not flat, and the other numbers are no codes
-    pub action-none : ¬ (n ≡ 1) → ¬ (n ≡ 2) → ¬ (n ≡ 3) → ¬ (n ≡ 4) → ¬ (n ≡ 5) → ¬ (n ≡ 6) → ¬ (n ≡ 7) → walk unfit p ≡ walkOf (readCoreAction s ws p)
-    action-none n1 n2 n3 n4 n5 n6 n7 = action-by (codeOf (actionWord n)) refl (go (eqb (actionWord n) (actionWord 8)) refl)
-      where
-        not-code : (k : ℕ) → ¬ (n ≡ k) → eqb (actionWord n) (actionWord k) ≡ false
-        not-code k other = ne-eqb (actionWord n) (actionWord k) (λ e. other (omega arith))
+-- ---- a rule
 
-        go : (b : Bool) → eqb (actionWord n) (actionWord 8) ≡ b → walk unfit p ≡ walkOf (readCoreCode s ws p (codeOf (actionWord n)) (p + 1))
-        go true e = simp (not-code 1 n1, not-code 2 n2, not-code 3 n3, not-code 4 n4, not-code 5 n5, not-code 6 n6, not-code 7 n7, e)
-        go false e = simp (not-code 1 n1, not-code 2 n2, not-code 3 n3, not-code 4 n4, not-code 5 n5, not-code 6 n6, not-code 7 n7, e)
+abbrev flatRule : List Atom → List CoreAction → FlatRule
+flatRule as′ xs = record { atoms = as′; actions = xs }
+
+module _ (s : Sig) {ws : List ℕ} {p : ℕ} where
+  pub atoms-other : NotKind ws p 5 → walk unfit p ≡ walkOf (readFlatRule s ws p)
+  atoms-other n = header-other ws (readAtom s ws) (readCoreAction s ws) (went-atom s ws) flatRule n
+
+  module _ {a b : ℕ} (t : There ws p (Said.Header a b)) {w : Walk} (e : w ≡ walkOf (readRow (readAtom s ws) a (p + 1))) where
+    pub atoms-stop : ¬ (w .refused ≡ 0) → w ≡ walkOf (readFlatRule s ws p)
+    atoms-stop h = first-stops ws (readAtom s ws) (readCoreAction s ws) (went-atom s ws) flatRule t e h
+
+    pub atoms-go : {z : Walk} → w .refused ≡ 0 → z ≡ walkOf (readRow (readCoreAction s ws) b (w .at)) → z ≡ walkOf (readFlatRule s ws p)
+    atoms-go h g = then-second ws (readAtom s ws) (readCoreAction s ws) (went-atom s ws) flatRule t e h g

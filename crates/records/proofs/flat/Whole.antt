@@ -1,94 +1,27 @@
--- A flat rule that begins at an index, and a whole one, with nothing behind it. And what signature it is read under: only the count of its heads matters.
+-- A whole flat rule: one that begins at index 0 and has nothing behind it. And what signature it is read under: only the count of its heads matters.
 -- Assumes nothing.
-use mathlib.Core.Path.{_≡_, refl, sym, ap, _∙_}
-use mathlib.Core.Bool.{false}
+use mathlib.Core.Path.{_≡_, refl, ap, _∙_}
 use mathlib.Core.List.{List}
-use Prim.Native.Nat.{ℕ, suc, _+_, _-_, _≤_, _<_}
+use Prim.Native.Nat.{ℕ, suc, _-_, _≤_}
 use native.Mathlib.Nat.{min-eq-left}
-use native.Mathlib.Numerals.{add-one}
-use native.Mathlib.Omega.{arith}
-use lib.ListN.{length, getD}
-use lib.Dec.{eqb, lit<}
-use borrow.Author.Tests.{le-leb, lt-leb}
-use Rattle.rules.specs.Words.{limit12, isHeadWord, isHeaderWord, countOf, factsOf, actionsOf, Code, aLet, aSet, aDelete, aSubsume, aUnion, aPanic, aCall, anExpression, noCode}
-use Rattle.rules.specs.Refusals.{Res, ok, refuse, _>>=_, unfit}
+use lib.ListN.{getD}
+use Rattle.rules.specs.Words.{limit12, isHeadWord, isHeaderWord, countOf, factsOf, actionsOf}
+use Rattle.rules.specs.Words.{Code, aLet, aSet, aDelete, aSubsume, aUnion, aPanic, aCall, anExpression, noCode}
+use Rattle.rules.specs.Refusals.{Res, _>>=_}
 use Rattle.rules.specs.Signature.{Sig, heads}
 use Rattle.rules.specs.Written.{Read, Reader, readWord, readRow, codeAt, allRead}
-use Rattle.rules.specs.Flat.{Atom, CoreAction, FlatRule, AtomShape, isPair, isOdd, isTable, isEmpty, isNone, isTarget, atomShapeAt, readTerm, readTerms, readAtomShape, readAtom, readCoreCode, readCoreAction, readFlat}
-use Rattle.words.specs.Word.{kind}
-use Rattle.words.specs.declared.Word.the-variants.{Header}
-use Rattle.words.proofs.WordLaws.{header-kind, header-numbers}
-use Rattle.records.specs.declared.written.Walk.{Walk}
-use Rattle.records.specs.Written.{withHeads, walk, walkOf, wholeOf, wordAt}
+use Rattle.rules.specs.Flat.{Atom, CoreAction, AtomShape, isPair, isOdd, isTable, isEmpty, isNone, isTarget, atomShapeAt, readTerm, readTerms, readAtomShape}
+use Rattle.rules.specs.Flat.{readAtom, readCoreCode, readCoreAction, readFlat}
+use Rattle.records.specs.Written.{withHeads}
 use Rattle.records.specs.Flat.{readFlatRule}
-use Rattle.records.proofs.WrittenWalk.{Went, stops, both}
-use Rattle.records.proofs.WrittenWhole.{then-same, then-then}
-use Rattle.records.proofs.WrittenLaws.{word-there, word-other, word-fits, word-unfit, heads-with}
-use Rattle.records.proofs.flat.Ends.{went-atoms}
+use Rattle.records.proofs.WrittenWalk.{then-same}
+use Rattle.records.proofs.Expected.{heads-with, headed-whole}
+use Rattle.records.proofs.flat.Ends.{went-atom}
 
--- ---- a rule at an index
-
-module _ (s : Sig) (ws : List ℕ) (p : ℕ) where
-  pub header-other : eqb (kind (wordAt ws p)) 5 ≡ false → walk unfit p ≡ walkOf (readFlatRule s ws p)
-  header-other h = rw (word-unfit ws p isHeaderWord (λ l. header-kind (getD ws p 0) ∙ word-other ws p 5 h l))
-
-  module _ (a b : ℕ) (says : wordAt ws p ≡ Header a b) where
-    pub header-inside : p < length ws
-    header-inside = word-there ws p says (lit< tt) .0
-
-    abbrev atoms-read : Res (Read (List Atom))
-    atoms-read = readRow (readAtom s ws) a (suc p)
-
-    abbrev rest : Read (List Atom) → Res (Read FlatRule)
-    rest as′ = _>>=_ (readRow (readCoreAction s ws) b (as′ .at)) (λ xs. ok (record { value = record { atoms = as′ .value; actions = xs .value }; at = xs .at }))
-
-    header-read : readFlatRule s ws p ≡ _>>=_ atoms-read rest
-    header-read =
-        let t = word-there ws p says (lit< tt) in
-        let n = header-numbers (getD ws p 0) a b (t .1) in
-        rw (word-fits ws p isHeaderWord (t .0) (header-kind (getD ws p 0) ∙ rw (t .1) refl), n .0, n .1) refl
-
-    pub atoms-stop : {w : Walk} → w ≡ walkOf (readRow (readAtom s ws) a (p + 1)) → ¬ (w .refused ≡ 0) → w ≡ walkOf (readFlatRule s ws p)
-    atoms-stop e h = rw header-read (stops atoms-read rest (rw (add-one p) at e) h)
-
-    pub atoms-go : {w z : Walk} → w ≡ walkOf (readRow (readAtom s ws) a (p + 1)) → w .refused ≡ 0 → z ≡ walkOf (readRow (readCoreAction s ws) b (w .at)) → z ≡ walkOf (readFlatRule s ws p)
-    atoms-go e h g =
-        rw header-read
-        (both ws (suc p) 0 atoms-read (readRow (readCoreAction s ws) b) (λ as′ xs. record { atoms = as′ .value; actions = xs .value }) (went-atoms s ws a (suc p)) (rw (add-one p) at e) h g)
-
--- ---- a whole record: what is read from index 0 on, and nothing behind it
-
-module _ {A : Type 0} (ws : List ℕ) (x : Res (Read A)) (went : Went ws 0 1 x) {w : Walk} (e : w ≡ walkOf x) where
-  pub whole-stops : ¬ (w .refused ≡ 0) → w ≡ wholeOf ws (_>>=_ x (allRead ws))
-  whole-stops h = go x e
-    where
-      go : (y : Res (Read A)) → w ≡ walkOf y → w ≡ wholeOf ws (_>>=_ y (allRead ws))
-      go (ok r) k = absurd (h (ap (λ (v : Walk). v .refused) k))
-      go (refuse n p) k = k
-
-  pub surplus : w .refused ≡ 0 → w .at < length ws → walk unfit (w .at) ≡ wholeOf ws (_>>=_ x (allRead ws))
-  surplus h l = go x went e
-    where
-      go : (y : Res (Read A)) → Went ws 0 1 y → w ≡ walkOf y → walk unfit (w .at) ≡ wholeOf ws (_>>=_ y (allRead ws))
-      go (ok r) g k = let same : w .at ≡ r .at = ap (λ (v : Walk). v .at) k in rw (same, lt-leb (length ws) (r .at) (omega arith)) refl
-      go (refuse n p) g k = let z : n ≡ 0 = sym (ap (λ (v : Walk). v .refused) k) ∙ h in absurd (omega arith)
-
-  pub all-read : w .refused ≡ 0 → length ws ≤ w .at → w ≡ wholeOf ws (_>>=_ x (allRead ws))
-  all-read h l = go x went e
-    where
-      go : (y : Res (Read A)) → Went ws 0 1 y → w ≡ walkOf y → w ≡ wholeOf ws (_>>=_ y (allRead ws))
-      go (ok r) g k =
-          let same : w .at ≡ r .at = ap (λ (v : Walk). v .at) k in
-          let end : r .at ≡ length ws = omega arith in
-          k ∙ rw (le-leb (length ws) (r .at) (omega arith), end) refl
-      go (refuse n p) g k = let z : n ≡ 0 = sym (ap (λ (v : Walk). v .refused) k) ∙ h in absurd (omega arith)
+-- ---- a whole rule
 
 pub flat-read : (s : Sig) (ws : List ℕ) → readFlat s ws ≡ _>>=_ (readFlatRule s ws 0) (allRead ws)
-flat-read s ws =
-    then-same (readWord ws isHeaderWord 0) _ _ (λ w.
-    then-same (readRow (readAtom s ws) (factsOf (w .value)) (w .at)) _ _ (λ as′. then-then (readRow (readCoreAction s ws) (actionsOf (w .value)) (as′ .at)) _ (allRead ws))
-    ∙ then-then (readRow (readAtom s ws) (factsOf (w .value)) (w .at)) _ (allRead ws))
-    ∙ then-then (readWord ws isHeaderWord 0) _ (allRead ws)
+flat-read s ws = headed-whole ws (readAtom s ws) (readCoreAction s ws) (went-atom s ws) (λ as′ xs. record { atoms = as′; actions = xs })
 
 -- ---- the signature: two of as many heads read alike
 

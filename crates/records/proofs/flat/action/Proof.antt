@@ -1,18 +1,24 @@
--- `flat::action` meets its contract, by the code. Assumes nothing.
-use mathlib.Core.Path.{refl, sym, _∙_}
+-- The word at the index says which code the action has, and by its code the walk is the one behind the word; any other word is refused. Assumes nothing.
+use Prim.Native.Nat.{ℕ}
+use mathlib.Core.List.{List}
 use native.Mathlib.Omega.{arith}
 use lib.Dec.{lit<}
-use denote.Ref.{now}
 use Rattle.octets.specs.Words.{words}
 use Rattle.octets.proofs.Words.{length-words}
-use Rattle.rules.specs.Words.{aLet, aSet, aCall}
-use Rattle.words.proofs.Tags.{other-kind}
+use Rattle.rules.specs.Signature.{Sig}
+use Rattle.words.specs.declared.Word.the-variants.{Action}
 use Rattle.records.specs.Written.{withHeads}
-use Rattle.records.proofs.WrittenLaws.{word-there}
+use Rattle.records.proofs.Expected.{There, there, not-kind}
 use Rattle.records.proofs.flat.Laws.{action-other, action-by, change-goes, union-goes, panic-goes, action-none}
 use borrow.Author.Needs.{needs}
 use Rattle.records.proofs.flat.action.Statement.{statement}
 use Rattle.records.proofs.flat.action.Tie as tie
+
+abbrev ws : tie.Start → List ℕ
+ws c = words (c .args .rule .now)
+
+abbrev start : tie.After-word-at → tie.Start
+start c = c .before .before
 
 word-at-requires : tie.Need-word-at-requires
 word-at-requires c κs = search needs
@@ -20,15 +26,23 @@ word-at-requires c κs = search needs
 enum-known-w : tie.Need-enum-known-w
 enum-known-w c = search needs
 
+-- it is no action's
 returns : tie.Need-returns
-returns c =
-    let a = c .before .before .before .args in
-    action-other (withHeads (a .heads)) (words (now (a .rule))) (a .at) (rw (c .before .word-at .ensures) at (other-kind 6 (c .before .word-at .result) tt (c .match .keys2)))
+returns c = let w = c .before in action-other (withHeads (start w .args .heads)) (not-kind (w .word-at .ensures) 6 tt (c .match .keys2))
+
+-- ---- it is an action's
+
+abbrev told : tie.After-known-told → tie.After-word-at
+told c = c .before .before .before
+
+abbrev sig : tie.After-known-told → Sig
+sig c = withHeads (start (told c) .args .heads)
+
+at-word : (c : tie.After-known-told) → There (ws (start (told c))) (start (told c) .args .at) (Action (c .before .w .given .0 .0))
+at-word c = there (told c .word-at .ensures) (c .before .w .given .1) (lit< tt)
 
 add-next : tie.Need-add-next
-add-next c =
-    let a = c .before .before .before .before .before .args in
-    let t = word-there (words (now (a .rule))) (a .at) (sym (c .before .before .before .word-at .ensures) ∙ c .before .w .given .1) (lit< tt) in omega (arith, length-words (now (a .rule)))
+add-next c = omega (arith, at-word c .inside, length-words (start (told c) .args .rule .now))
 
 let-action-requires : tie.Need-let-action-requires
 let-action-requires c κs = search needs
@@ -48,47 +62,40 @@ call-action-requires c κs = search needs
 head-terms-requires : tie.Need-head-terms-requires
 head-terms-requires c κs = search needs
 
+-- by its code
 returns-2 : tie.Need-returns-2
-returns-2 c =
-    let a = c .before .before .before .before .before .before .before .args in
-    action-by (withHeads (a .heads)) (words (now (a .rule))) (a .at) (c .before .before .before .w .given .0 .0) (sym (c .before .before .before .before .before .word-at .ensures) ∙ c .before .before .before .w .given .1) aLet (rw (c .before .match2 .keys1) refl) (c .let-action .ensures)
+returns-2 c = let t = c .before .before in action-by (sig t) (at-word t) 1 (c .before .match2 .keys1) (c .let-action .ensures)
 
 returns-3 : tie.Need-returns-3
-returns-3 c =
-    let a = c .before .before .before .before .before .before .before .args in
-    action-by (withHeads (a .heads)) (words (now (a .rule))) (a .at) (c .before .before .before .w .given .0 .0) (sym (c .before .before .before .before .before .word-at .ensures) ∙ c .before .before .before .w .given .1) aSet (rw (c .before .match2 .keys2) refl) (c .set-action .ensures)
+returns-3 c = let t = c .before .before in action-by (sig t) (at-word t) 2 (c .before .match2 .keys2) (c .set-action .ensures)
 
 returns-4 : tie.Need-returns-4
-returns-4 c =
-    let a = c .before .before .before .before .before .before .before .args in
-    union-goes (withHeads (a .heads)) (words (now (a .rule))) (a .at) (c .before .before .before .w .given .0 .0) (sym (c .before .before .before .before .before .word-at .ensures) ∙ c .before .before .before .w .given .1) (c .before .match2 .keys3) (c .terms .ensures)
+returns-4 c = let t = c .before .before in union-goes (sig t) (at-word t) (c .before .match2 .keys3) (c .terms .ensures)
 
 returns-5 : tie.Need-returns-5
-returns-5 c =
-    let a = c .before .before .before .before .before .before .before .args in
-    panic-goes (withHeads (a .heads)) (words (now (a .rule))) (a .at) (c .before .before .before .w .given .0 .0) (sym (c .before .before .before .before .before .word-at .ensures) ∙ c .before .before .before .w .given .1) (c .before .match2 .keys4) (c .literal .ensures)
+returns-5 c = let t = c .before .before in panic-goes (sig t) (at-word t) (c .before .match2 .keys4) (c .literal .ensures)
 
 returns-6 : tie.Need-returns-6
-returns-6 c =
-    let a = c .before .before .before .before .before .before .before .args in
-    action-by (withHeads (a .heads)) (words (now (a .rule))) (a .at) (c .before .before .before .w .given .0 .0) (sym (c .before .before .before .before .before .word-at .ensures) ∙ c .before .before .before .w .given .1) aCall (rw (c .before .match2 .keys5) refl) (c .call-action .ensures)
+returns-6 c = let t = c .before .before in action-by (sig t) (at-word t) 7 (c .before .match2 .keys5) (c .call-action .ensures)
+
+abbrev rest-told : tie.At-match2-rest → tie.After-known-told
+rest-told c = c .before
 
 returns-7 : tie.Need-returns-7
-returns-7 c =
-    let a = c .before .before .before .before .before .before .before .before .before .args in
-    change-goes (withHeads (a .heads)) (words (now (a .rule))) (a .at) (c .before .before .before .before .before .w .given .0 .0) (sym (c .before .before .before .before .before .before .before .word-at .ensures) ∙ c .before .before .before .before .before .w .given .1) (omega arith) (omega arith) (c .head-terms .ensures)
+returns-7 c = let t = rest-told (c .before .before .before) in change-goes (sig t) (at-word t) (omega arith) (omega arith) (c .head-terms .ensures)
 
+-- no code is left
 returns-8 : tie.Need-returns-8
 returns-8 c =
-    let a = c .before .before .before .before .before .before .before .args in
-    let r = c .before .match2 .rest in
-    action-none (withHeads (a .heads)) (words (now (a .rule))) (a .at) (c .before .before .before .w .given .0 .0) (sym (c .before .before .before .before .before .word-at .ensures) ∙ c .before .before .before .w .given .1) (r .0 .0 .0 .0 .1) (r .0 .0 .0 .1) (λ e. omega arith) (λ e. omega arith) (r .0 .0 .1) (r .0 .1) (r .1)
+    let m = c .before in
+    let r = m .match2 .rest in
+    action-none (sig (rest-told m)) (at-word (rest-told m)) (r .0 .0 .0 .0 .1) (r .0 .0 .0 .1) (λ e. omega arith) (λ e. omega arith) (r .0 .0 .1) (r .0 .1) (r .1)
 
 returns-9 : tie.Need-returns-9
 returns-9 c =
-    let a = c .before .before .before .before .before .before .before .before .args in
-    let r = c .before .before .match2 .rest in
-    action-none (withHeads (a .heads)) (words (now (a .rule))) (a .at) (c .before .before .before .before .w .given .0 .0) (sym (c .before .before .before .before .before .before .word-at .ensures) ∙ c .before .before .before .before .w .given .1) (r .0 .0 .0 .0 .1) (r .0 .0 .0 .1) (λ e. omega arith) (λ e. omega arith) (r .0 .0 .1) (r .0 .1) (r .1)
+    let m = c .before .before in
+    let r = m .match2 .rest in
+    action-none (sig (rest-told m)) (at-word (rest-told m)) (r .0 .0 .0 .0 .1) (r .0 .0 .0 .1) (λ e. omega arith) (λ e. omega arith) (r .0 .0 .1) (r .0 .1) (r .1)
 
 pub action-spec : {M : Type 1} → statement M
 action-spec =

@@ -1,13 +1,16 @@
--- `flat::atom` meets its contract, by how the atom begins. Assumes nothing.
-use mathlib.Core.Path.{sym, _∙_}
+-- The atom's first word says whether it is an equality or a head's, and how many terms follow: what fits is read as a row of terms, and the rest is
+-- refused with its own number. Assumes nothing.
 use native.Mathlib.Omega.{arith}
-use denote.Ref.{now}
 use Rattle.octets.specs.Words.{words}
 use Rattle.octets.proofs.Words.{length-words}
-use Rattle.records.proofs.flat.Laws.{atom-other, atom-inside, pair-goes, odd-refused, head-refused, empty-refused, table-goes}
+use Rattle.records.proofs.flat.Laws.{AtomAt, atom-there, atom-other, pair-goes, odd-refused, head-refused, empty-refused, table-goes}
+use mathlib.Core.Path.{_∙_}
 use borrow.Author.Needs.{needs}
 use Rattle.records.proofs.flat.atom.Statement.{statement}
 use Rattle.records.proofs.flat.atom.Tie as tie
+
+abbrev start : tie.After-first-at → tie.Start
+start c = c .before .before
 
 first-at-requires : tie.Need-first-at-requires
 first-at-requires c κs = search needs
@@ -18,57 +21,74 @@ enum-known-first c = search needs
 enum-told : tie.Need-enum-told
 enum-told c = search needs
 
+-- no atom begins with this word
 returns : tie.Need-returns
 returns c =
-    let a = c .before .before .before .before .args in
-    atom-other (a .heads) (words (now (a .rule))) (a .at) (sym (c .before .before .first-at .ensures) ∙ c .enum-told .given .1)
+    let f = c .before .before in
+    let a = start f .args in
+    atom-other (a .heads) (words (a .rule .now)) (a .at) (f .first-at .ensures) (c .enum-told .given .1)
 
+-- ---- an atom begins
+
+abbrev told : tie.After-known-told → tie.After-first-at
+told c = c .before .before .before
+
+at-first : (c : tie.After-known-told) → let a = start (told c) .args in AtomAt (words (a .rule .now)) (a .at) (c .before .first .given .0 .0)
+at-first c = atom-there (told c .first-at .ensures) (c .before .first .given .1)
+
+-- with the equality sign
 enum-told-2 : tie.Need-enum-told-2
 enum-told-2 c = search needs
 
+abbrev equal : tie.After-enum-told2 → tie.After-known-told
+equal c = c .before .before
+
 add-terms : tie.Need-add-terms
-add-terms c =
-    let a = c .before .before .before .before .before .before .before .before .args in
-    let i = atom-inside (a .heads) (words (now (a .rule))) (a .at) (sym (c .before .before .before .before .before .before .first-at .ensures) ∙ c .before .before .before .before .first .given .1) in omega (arith, length-words (now (a .rule)))
+add-terms c = let t = equal (c .before) in omega (arith, at-first t .inside, length-words (start (told t) .args .rule .now))
 
 terms-requires : tie.Need-terms-requires
 terms-requires c κs = search needs
 
+-- with a head
 enum-known-head : tie.Need-enum-known-head
 enum-known-head c = search needs
 
+abbrev headed : tie.After-known-told2 → tie.After-known-told
+headed c = c .before .before .before
+
 returns-2 : tie.Need-returns-2
 returns-2 c =
-    let a = c .before .before .before .before .before .before .before .before .before .args in
-    head-refused (a .heads) (words (now (a .rule))) (a .at) (sym (c .before .before .before .before .before .before .before .first-at .ensures) ∙ c .before .before .before .before .before .first .given .1) (c .before .before .head .given .0 .0) (c .before .before .head .given .1) (c .if2 .taken)
+    let k = c .before in
+    let t = headed k in
+    head-refused (start (told t) .args .heads) (at-first t) (k .before .head .given .1) (c .if2 .taken)
 
 returns-3 : tie.Need-returns-3
 returns-3 c =
-    let a = c .before .before .before .before .before .before .before .before .before .before .args in
-    empty-refused (a .heads) (words (now (a .rule))) (a .at) (sym (c .before .before .before .before .before .before .before .before .first-at .ensures) ∙ c .before .before .before .before .before .before .first .given .1) (c .before .before .before .head .given .0 .0) (c .before .before .before .head .given .1) (omega arith) (c .if3 .taken)
+    let k = c .before .before in
+    let t = headed k in
+    empty-refused (start (told t) .args .heads) (at-first t) (k .before .head .given .1) (omega arith) (c .if3 .taken)
 
 add-terms-2 : tie.Need-add-terms-2
-add-terms-2 c =
-    let a = c .before .before .before .before .before .before .before .before .before .before .args in
-    let i = atom-inside (a .heads) (words (now (a .rule))) (a .at) (sym (c .before .before .before .before .before .before .before .before .first-at .ensures) ∙ c .before .before .before .before .before .before .first .given .1) in omega (arith, length-words (now (a .rule)))
+add-terms-2 c = let t = headed (c .before .before) in omega (arith, at-first t .inside, length-words (start (told t) .args .rule .now))
 
 terms-requires-2 : tie.Need-terms-requires-2
 terms-requires-2 c κs = search needs
 
+-- ---- its terms
+
 returns-4 : tie.Need-returns-4
 returns-4 c =
-    let a = c .before .before .before .before .before .before .before .before .before .args in
-    c .terms .ensures ∙ pair-goes (a .heads) (words (now (a .rule))) (a .at) (sym (c .before .before .before .before .before .before .before .first-at .ensures) ∙ c .before .before .before .before .before .first .given .1) (c .before .before .enum-told2 .given .1) (c .before .if1 .taken)
+    let e = c .before .before in
+    c .terms .ensures ∙ pair-goes (start (told (equal e)) .args .heads) (at-first (equal e)) (e .enum-told2 .given .1) (c .before .if1 .taken)
 
 returns-5 : tie.Need-returns-5
-returns-5 c =
-    let a = c .before .before .before .before .before .before .before .before .args in
-    odd-refused (a .heads) (words (now (a .rule))) (a .at) (sym (c .before .before .before .before .before .before .first-at .ensures) ∙ c .before .before .before .before .first .given .1) (c .before .enum-told2 .given .1) (c .if1 .left)
+returns-5 c = let e = c .before in odd-refused (start (told (equal e)) .args .heads) (at-first (equal e)) (e .enum-told2 .given .1) (c .if1 .left)
 
 returns-6 : tie.Need-returns-6
 returns-6 c =
-    let a = c .before .before .before .before .before .before .before .before .before .before .before .args in
-    c .terms2 .ensures ∙ table-goes (a .heads) (words (now (a .rule))) (a .at) (sym (c .before .before .before .before .before .before .before .before .before .first-at .ensures) ∙ c .before .before .before .before .before .before .before .first .given .1) (c .before .before .before .before .head .given .0 .0) (c .before .before .before .before .head .given .1) (omega arith) (c .before .if3 .left)
+    let k = c .before .before .before in
+    let t = headed k in
+    c .terms2 .ensures ∙ table-goes (start (told t) .args .heads) (at-first t) (k .before .head .given .1) (omega arith) (c .before .if3 .left)
 
 pub atom-spec : {M : Type 1} → statement M
 atom-spec =

@@ -1,52 +1,21 @@
--- `flat::atoms` meets its contract. The invariant: what is left to read answers as the whole does. Assumes nothing.
-use mathlib.Core.Path.{_≡_, refl, _∙_}
+-- What is left of the row answers as the whole does: an atom that is read leaves one less, and one that is refused is the whole answer. Assumes nothing.
 use native.Mathlib.Omega.{arith}
-use denote.Ref.{now}
 use Rattle.octets.specs.Words.{words}
-use Rattle.rules.specs.Written.{readRow}
-use Rattle.rules.specs.Flat.{readAtom}
-use Rattle.records.specs.Written.{withHeads, walkOf}
-use Rattle.records.proofs.WrittenWalk.{no-more, first-stops, one-less}
+use Rattle.records.specs.Written.{withHeads}
+use Rattle.records.proofs.WrittenWalk.{Left, left-start, left-stops, left-next, left-end}
 use Rattle.records.proofs.flat.Ends.{atoms}
 use borrow.Author.Needs.{needs}
 use Rattle.records.proofs.flat.atoms.Statement.{statement}
 use Rattle.records.proofs.flat.atoms.Tie as tie
 
 abbrev Inv-loop : tie.InvT-loop
-Inv-loop rule heads at count next₀ left₀ next left = walkOf (readRow (readAtom (withHeads heads) (words rule)) left next) ≡ walkOf (readRow (readAtom (withHeads heads) (words rule)) count at)
+Inv-loop rule heads at count next₀ left₀ next left = Left (atoms (withHeads heads) (words rule)) count at left next
 
 abbrev μ-loop : tie.MeasureT-loop
 μ-loop rule heads at count next₀ left₀ next left = left
 
-loop-holds : tie.Need-loop-holds Inv-loop μ-loop
-loop-holds c = refl
-
-atom-requires : tie.Need-atom-requires Inv-loop μ-loop
-atom-requires c κs = search needs
-
-returns : tie.Need-returns Inv-loop μ-loop
-returns c =
-    let a = c .before .before .before .before .before .before .args in
-    let l = c .before .before .before .before .loop in
-    first-stops (atoms (withHeads (a .heads)) (words (now (a .rule)))) (l .left) (l .next) (λ z. omega arith) (c .before .before .atom .ensures) (c .if1 .taken) ∙ l .inv
-
-sub-left : tie.Need-sub-left Inv-loop μ-loop
-sub-left c = search needs
-
-loop-less : tie.Need-loop-less Inv-loop μ-loop
-loop-less c = search needs
-
-loop-again : tie.Need-loop-again Inv-loop μ-loop
-loop-again c =
-    let a = c .before .before .before .before .before .before .args in
-    let l = c .before .before .before .before .loop in
-    one-less (atoms (withHeads (a .heads)) (words (now (a .rule)))) (l .left) (l .next) (λ z. omega arith) (c .before .before .atom .ensures) (omega arith) ∙ l .inv
-
-returns-2 : tie.Need-returns-2 Inv-loop μ-loop
-returns-2 c =
-    let a = c .before .before .before .args in
-    let l = c .before .loop in
-    no-more (atoms (withHeads (a .heads)) (words (now (a .rule)))) (l .left) (l .next) (omega arith) ∙ l .inv
+abbrev atom-turn : tie.After-atom Inv-loop μ-loop → tie.At-loop Inv-loop μ-loop
+atom-turn c = c .before .before
 
 pub atoms-spec : {M : Type 1} → statement M
 atoms-spec =
@@ -54,10 +23,10 @@ atoms-spec =
     (tie.spec
     Inv-loop
     μ-loop
-    loop-holds
-    atom-requires
-    returns
-    sub-left
-    loop-less
-    loop-again
-    returns-2)
+    (λ c. left-start)
+    (λ c κs. search needs)
+    (λ c. let x = c .before .before in left-stops (atom-turn x .loop .inv) (omega arith) (x .atom .ensures) (c .if1 .taken))
+    (λ c. omega arith)
+    (λ c. omega arith)
+    (λ c. let x = c .before .before in left-next (atom-turn x .loop .inv) (omega arith) (x .atom .ensures) (c .if1 .left))
+    (λ c. left-end (c .before .loop .inv) (omega arith)))

@@ -1,18 +1,20 @@
--- `flat::target` meets its contract, by the word there: a fresh variable's or not (`other-kind`). Assumes nothing.
-use mathlib.Core.Path.{sym, _∙_}
+-- A fresh variable's word fits if its head is below H and can be told; any other word has to be a name. Assumes nothing.
+use mathlib.Core.Path.{_∙_}
 use native.Mathlib.Nat.{min-le-left, min-le-right}
 use native.Mathlib.Omega.{arith}
 use lib.Dec.{lit<}
-use denote.Ref.{now}
-use Rattle.octets.proofs.Words.{length-words}
 use Rattle.octets.specs.Words.{words}
+use Rattle.octets.proofs.Words.{length-words}
 use Rattle.rules.specs.Words.{limit12}
-use Rattle.words.proofs.Tags.{other-kind}
-use Rattle.records.proofs.WrittenLaws.{word-there}
+use Rattle.words.specs.declared.Word.the-variants.{Fresh}
+use Rattle.records.proofs.Expected.{There, there, not-kind}
 use Rattle.records.proofs.flat.Laws.{target-name, target-fresh, target-high}
 use borrow.Author.Needs.{needs}
 use Rattle.records.proofs.flat.target.Statement.{statement}
 use Rattle.records.proofs.flat.target.Tie as tie
+
+abbrev start : tie.After-word-at → tie.Start
+start c = c .before .before
 
 word-at-requires : tie.Need-word-at-requires
 word-at-requires c κs = search needs
@@ -25,28 +27,34 @@ name-requires c κs = search needs
 
 returns : tie.Need-returns
 returns c =
-    let a = c .before .before .before .before .args in
-    c .name .ensures ∙ target-name (a .heads) (words (now (a .rule))) (a .at) (rw (c .before .before .word-at .ensures) at (other-kind 0 (c .before .before .word-at .result) tt (c .before .match .keys2)))
+    let w = c .before .before in
+    c .name .ensures ∙ target-name (start w .args .heads) (not-kind (w .word-at .ensures) 0 tt (c .before .match .keys2))
+
+-- ---- it is a fresh variable's
+
+abbrev told : tie.After-known-told → tie.After-word-at
+told c = c .before .before .before
+
+at-word : (c : tie.After-known-told)
+    → let a = start (told c) .args in
+    let g = c .before .w .given .0 in
+    There (words (a .rule .now)) (a .at) (Fresh (g .0) (g .1 .0))
+at-word c = there (told c .word-at .ensures) (c .before .w .given .1) (lit< tt)
 
 returns-2 : tie.Need-returns-2
-returns-2 c =
-    let a = c .before .before .before .before .before .before .args in
-    target-high (a .heads) (words (now (a .rule))) (a .at) (c .before .before .w .given .0 .0) (c .before .before .w .given .0 .1 .0) (sym (c .before .before .before .before .word-at .ensures) ∙ c .before .before .w .given .1) (omega (arith, min-le-left (a .heads) limit12))
+returns-2 c = let h = start (told (c .before)) .args .heads in target-high h (at-word (c .before)) (omega (arith, min-le-left h limit12))
 
 returns-3 : tie.Need-returns-3
 returns-3 c =
-    let a = c .before .before .before .before .before .before .before .args in
-    target-high (a .heads) (words (now (a .rule))) (a .at) (c .before .before .before .w .given .0 .0) (c .before .before .before .w .given .0 .1 .0) (sym (c .before .before .before .before .before .word-at .ensures) ∙ c .before .before .before .w .given .1) (omega (arith, min-le-right (a .heads) limit12))
+    let t = c .before .before in
+    let h = start (told t) .args .heads in
+    target-high h (at-word t) (omega (arith, min-le-right h limit12))
 
 add-t7 : tie.Need-add-t7
-add-t7 c =
-    let a = c .before .before .before .before .before .before .before .args in
-    let t = word-there (words (now (a .rule))) (a .at) (sym (c .before .before .before .before .before .word-at .ensures) ∙ c .before .before .before .w .given .1) (lit< tt) in omega (arith, length-words (now (a .rule)))
+add-t7 c = let t = c .before .before in omega (arith, at-word t .inside, length-words (start (told t) .args .rule .now))
 
 returns-4 : tie.Need-returns-4
-returns-4 c =
-    let a = c .before .before .before .before .before .before .before .args in
-    target-fresh (a .heads) (words (now (a .rule))) (a .at) (c .before .before .before .w .given .0 .0) (c .before .before .before .w .given .0 .1 .0) (sym (c .before .before .before .before .before .word-at .ensures) ∙ c .before .before .before .w .given .1) (omega arith) (omega arith)
+returns-4 c = let t = c .before .before in target-fresh (start (told t) .args .heads) (at-word t) (omega arith) (omega arith)
 
 pub target-spec : {M : Type 1} → statement M
 target-spec =

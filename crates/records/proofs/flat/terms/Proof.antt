@@ -1,14 +1,14 @@
--- `flat::terms` meets its contract. The invariant: what is left to read answers as the whole does. Assumes nothing.
-use mathlib.Core.Path.{_≡_, refl, sym, _∙_}
+-- What is left of the row answers as the whole does, and each term is one word: the first that is none is refused where it stands. Assumes nothing.
+use Prim.Native.Nat.{ℕ}
+use mathlib.Core.List.{List}
+use mathlib.Core.Path.{refl, sym, _∙_}
 use native.Mathlib.Omega.{arith}
 use borrow.Author.Tests.{not-true, not-false}
-use denote.Ref.{now}
 use Rattle.octets.specs.Words.{words}
 use Rattle.octets.proofs.Words.{length-words}
-use Rattle.rules.specs.Written.{readRow}
-use Rattle.rules.specs.Flat.{readTerm}
-use Rattle.records.specs.Written.{withHeads, walkOf}
-use Rattle.records.proofs.WrittenWalk.{no-more, first-stops, one-less}
+use Rattle.rules.specs.Signature.{Sig}
+use Rattle.records.specs.Written.{withHeads}
+use Rattle.records.proofs.WrittenWalk.{Left, left-start, left-stops, left-next, left-end}
 use Rattle.records.proofs.flat.Ends.{terms}
 use Rattle.records.proofs.flat.Laws.{term-inside, term-taken, term-refused}
 use borrow.Author.Needs.{needs}
@@ -16,53 +16,60 @@ use Rattle.records.proofs.flat.terms.Statement.{statement}
 use Rattle.records.proofs.flat.terms.Tie as tie
 
 abbrev Inv-loop : tie.InvT-loop
-Inv-loop rule heads at count next₀ left₀ next left = walkOf (readRow (readTerm (withHeads heads) (words rule)) left next) ≡ walkOf (readRow (readTerm (withHeads heads) (words rule)) count at)
+Inv-loop rule heads at count next₀ left₀ next left = Left (terms (withHeads heads) (words rule)) count at left next
 
 abbrev μ-loop : tie.MeasureT-loop
 μ-loop rule heads at count next₀ left₀ next left = left
 
 loop-holds : tie.Need-loop-holds Inv-loop μ-loop
-loop-holds c = refl
+loop-holds c = left-start
 
 is-term-at-requires : tie.Need-is-term-at-requires Inv-loop μ-loop
 is-term-at-requires c κs = search needs
 
+-- ---- the next word
+
+abbrev turn : tie.After-is-term-at Inv-loop μ-loop → tie.At-loop Inv-loop μ-loop
+turn c = c .before .before
+
+module _ (c : tie.After-is-term-at Inv-loop μ-loop) where
+  abbrev s : Sig
+  s = withHeads (turn c .before .before .args .heads)
+
+  abbrev ws : List ℕ
+  ws = words (turn c .before .before .args .rule .now)
+
+  abbrev next : ℕ
+  next = turn c .loop .next
+
+-- it is no term
 returns : tie.Need-returns Inv-loop μ-loop
 returns c =
-    let a = c .before .before .before .before .before .args in
-    let l = c .before .before .before .loop in
-    let s = withHeads (a .heads) in
-    let ws = words (now (a .rule)) in
-    let none = term-refused s ws (l .next) (sym (c .before .is-term-at .ensures) ∙ not-true _ (c .if1 .taken)) in
-    first-stops (terms s ws) (l .left) (l .next) (λ z. omega arith) none (λ z. omega arith) ∙ l .inv
+    let t = c .before in
+    left-stops (turn t .loop .inv) (omega arith) (term-refused (s t) (ws t) (next t) (sym (t .is-term-at .ensures) ∙ not-true _ (c .if1 .taken))) (λ z. omega arith)
 
+-- it is one
 add-next : tie.Need-add-next Inv-loop μ-loop
 add-next c =
-    let a = c .before .before .before .before .before .args in
-    let l = c .before .before .before .loop in
-    let here = term-inside (withHeads (a .heads)) (words (now (a .rule))) (l .next) (sym (c .before .is-term-at .ensures) ∙ not-false _ (c .if1 .left)) in
-    omega (arith, length-words (now (a .rule)))
+    let t = c .before in
+    let here = term-inside (s t) (ws t) (next t) (sym (t .is-term-at .ensures) ∙ not-false _ (c .if1 .left)) in
+    omega (arith, length-words (turn t .before .before .args .rule .now))
 
 sub-left : tie.Need-sub-left Inv-loop μ-loop
-sub-left c = search needs
+sub-left c = omega arith
 
 loop-less : tie.Need-loop-less Inv-loop μ-loop
-loop-less c = search needs
+loop-less c = omega arith
 
 loop-again : tie.Need-loop-again Inv-loop μ-loop
 loop-again c =
-    let a = c .before .before .before .before .before .args in
-    let l = c .before .before .before .loop in
-    let s = withHeads (a .heads) in
-    let ws = words (now (a .rule)) in
-    let taken = term-taken s ws (l .next) (sym (c .before .is-term-at .ensures) ∙ not-false _ (c .if1 .left)) in
-    one-less (terms s ws) (l .left) (l .next) (λ z. omega arith) taken refl ∙ l .inv
+    let t = c .before in
+    left-next (turn t .loop .inv) (omega arith) (term-taken (s t) (ws t) (next t) (sym (t .is-term-at .ensures) ∙ not-false _ (c .if1 .left))) refl
+
+-- ---- none is left
 
 returns-2 : tie.Need-returns-2 Inv-loop μ-loop
-returns-2 c =
-    let a = c .before .before .before .args in
-    let l = c .before .loop in
-    no-more (terms (withHeads (a .heads)) (words (now (a .rule)))) (l .left) (l .next) (omega arith) ∙ l .inv
+returns-2 c = left-end (c .before .loop .inv) (omega arith)
 
 pub terms-spec : {M : Type 1} → statement M
 terms-spec =

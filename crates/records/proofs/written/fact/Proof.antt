@@ -1,14 +1,17 @@
--- `records::written::fact` meets its contract, by the word there: an equality's or not. Assumes nothing.
-use mathlib.Core.Path.{sym, _∙_}
+-- An equality's word begins a fact if its count is 2; any other word has to begin an expression. Assumes nothing.
+use mathlib.Core.Path.{_∙_}
 use lib.Dec.{lit<}
-use denote.Ref.{now}
 use Rattle.octets.specs.Words.{words}
-use Rattle.words.proofs.Tags.{other-kind}
+use Rattle.words.specs.declared.Word.the-variants.{Equality}
 use Rattle.records.specs.Written.{withHeads}
-use Rattle.records.proofs.WrittenLaws.{word-there, fact-holds, fact-equal, fact-odd}
+use Rattle.records.proofs.Expected.{There, there, not-kind}
+use Rattle.records.proofs.WrittenLaws.{fact-holds, fact-equal, fact-odd}
 use borrow.Author.Needs.{needs}
 use Rattle.records.proofs.written.fact.Statement.{statement}
 use Rattle.records.proofs.written.fact.Tie as tie
+
+abbrev start : tie.After-word-at → tie.Start
+start c = c .before .before
 
 word-at-requires : tie.Need-word-at-requires
 word-at-requires c κs = search needs
@@ -21,23 +24,27 @@ outermost-requires c κs = search needs
 
 returns : tie.Need-returns
 returns c =
-    let a = c .before .before .before .before .args in
-    c .outermost .ensures ∙ fact-holds (withHeads (a .heads)) (words (now (a .rule))) (a .at) (rw (c .before .before .word-at .ensures) at (other-kind 4 (c .before .before .word-at .result) tt (c .before .match .keys2)))
+    let w = c .before .before in
+    c .outermost .ensures ∙ fact-holds (withHeads (start w .args .heads)) (not-kind (w .word-at .ensures) 4 tt (c .before .match .keys2))
+
+-- ---- it is an equality's
+
+abbrev told : tie.After-known-told → tie.After-word-at
+told c = c .before .before .before
+
+at-word : (c : tie.After-known-told) → let a = start (told c) .args in There (words (a .rule .now)) (a .at) (Equality (c .before .w .given .0 .0))
+at-word c = there (told c .word-at .ensures) (c .before .w .given .1) (lit< tt)
 
 pair-requires : tie.Need-pair-requires
-pair-requires c κs =
-    let a = c .before .before .before .before .before .before .args in
-    word-there (words (now (a .rule))) (a .at) (sym (c .before .before .before .before .word-at .ensures) ∙ c .before .before .w .given .1) (lit< tt) .0
+pair-requires c κs = at-word (c .before) .inside
 
 returns-2 : tie.Need-returns-2
 returns-2 c =
-    let a = c .before .before .before .before .before .before .before .args in
-    c .pair .ensures ∙ fact-equal (withHeads (a .heads)) (words (now (a .rule))) (a .at) _ (sym (c .before .before .before .before .before .word-at .ensures) ∙ c .before .before .before .w .given .1) (c .before .if1 .taken)
+    let t = c .before .before in
+    c .pair .ensures ∙ fact-equal (withHeads (start (told t) .args .heads)) (at-word t) (c .before .if1 .taken)
 
 returns-3 : tie.Need-returns-3
-returns-3 c =
-    let a = c .before .before .before .before .before .before .args in
-    fact-odd (a .heads) (words (now (a .rule))) (a .at) _ (sym (c .before .before .before .before .word-at .ensures) ∙ c .before .before .w .given .1) (c .if1 .left)
+returns-3 c = fact-odd (start (told (c .before)) .args .heads) (at-word (c .before)) (c .if1 .left)
 
 pub fact-spec : {M : Type 1} → statement M
 fact-spec =

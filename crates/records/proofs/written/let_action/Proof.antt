@@ -1,20 +1,23 @@
--- `records::written::let_action` meets its contract, by the word behind the action word: a name's or not. Assumes nothing.
-use native.Mathlib.Omega.{arith}
-use mathlib.Core.Path.{sym, _∙_}
+-- Behind the action word stands a name, and behind that an expression; any other word is refused at its own place. Assumes nothing.
+use mathlib.Core.Path.{_∙_}
 use Prim.Native.Nat.{_+_}
+use native.Mathlib.Omega.{arith}
 use lib.Dec.{lit<}
-use denote.Ref.{now}
 use Rattle.octets.specs.Words.{words}
 use Rattle.octets.proofs.Words.{length-words}
-use Rattle.words.proofs.Tags.{other-kind}
+use Rattle.words.specs.declared.Word.the-variants.{Name}
 use Rattle.records.specs.Written.{withHeads}
-use Rattle.records.proofs.WrittenLaws.{word-there, let-other, let-goes}
+use Rattle.records.proofs.Expected.{There, there, not-kind}
+use Rattle.records.proofs.WrittenLaws.{let-other, let-goes}
 use borrow.Author.Needs.{needs}
 use Rattle.records.proofs.written.let_action.Statement.{statement}
 use Rattle.records.proofs.written.let_action.Tie as tie
 
+abbrev start : tie.After-word-at → tie.Start
+start c = c .before .before
+
 add-name : tie.Need-add-name
-add-name c = omega (arith, length-words (now (c .before .args .rule)))
+add-name c = omega (arith, length-words (c .before .args .rule .now))
 
 word-at-requires : tie.Need-word-at-requires
 word-at-requires c κs = search needs
@@ -24,22 +27,23 @@ enum-told c = search needs
 
 returns : tie.Need-returns
 returns c =
-    let a = c .before .before .before .args in
-    let-other (withHeads (a .heads)) (words (now (a .rule))) (a .at) (a .at + 1) (rw (c .before .word-at .ensures) at (other-kind 1 (c .before .word-at .result) tt (c .match .keys2)))
+    let w = c .before in
+    let-other (withHeads (start w .args .heads)) (start w .args .at) (not-kind (w .word-at .ensures) 1 tt (c .match .keys2))
+
+-- it is a name's
+at-name : (c : tie.After-enum-told) → let a = start (c .before .before) .args in There (words (a .rule .now)) (a .at + 1) (Name (c .enum-told .given .0 .0))
+at-name c = there (c .before .before .word-at .ensures) (c .enum-told .given .1) (lit< tt)
 
 add-outermost : tie.Need-add-outermost
-add-outermost c =
-    let a = c .before .before .before .before .args in
-    let t = word-there (words (now (a .rule))) (a .at + 1) (sym (c .before .before .word-at .ensures) ∙ c .enum-told .given .1) (lit< tt) in
-    omega (arith, length-words (now (a .rule)))
+add-outermost c = omega (arith, at-name c .inside, length-words (start (c .before .before) .args .rule .now))
 
 outermost-requires : tie.Need-outermost-requires
 outermost-requires c κs = search needs
 
 returns-2 : tie.Need-returns-2
 returns-2 c =
-    let a = c .before .before .before .before .before .args in
-    c .outermost .ensures ∙ let-goes (withHeads (a .heads)) (words (now (a .rule))) (a .at) (a .at + 1) _ (sym (c .before .before .before .word-at .ensures) ∙ c .before .enum-told .given .1)
+    let a = start (c .before .before .before) .args in
+    c .outermost .ensures ∙ let-goes (withHeads (a .heads)) (a .at) (at-name (c .before))
 
 pub let-action-spec : {M : Type 1} → statement M
 let-action-spec =

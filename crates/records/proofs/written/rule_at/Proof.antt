@@ -1,16 +1,18 @@
--- `records::written::rule_at` meets its contract: the header, the facts, and then the actions. Assumes nothing.
-use mathlib.Core.Path.{sym, _∙_}
+-- A rule is its header, a row of facts and a row of actions, so many as the header says: what one row refuses is the whole answer. Assumes nothing.
 use native.Mathlib.Omega.{arith}
 use lib.Dec.{lit<}
-use denote.Ref.{now}
 use Rattle.octets.specs.Words.{words}
 use Rattle.octets.proofs.Words.{length-words}
-use Rattle.words.proofs.Tags.{other-kind}
+use Rattle.words.specs.declared.Word.the-variants.{Header}
 use Rattle.records.specs.Written.{withHeads}
-use Rattle.records.proofs.WrittenLaws.{word-there, header-other, facts-stop, facts-go}
+use Rattle.records.proofs.Expected.{There, there, not-kind}
+use Rattle.records.proofs.WrittenLaws.{facts-other, facts-stop, facts-go}
 use borrow.Author.Needs.{needs}
 use Rattle.records.proofs.written.rule_at.Statement.{statement}
 use Rattle.records.proofs.written.rule_at.Tie as tie
+
+abbrev start : tie.After-word-at → tie.Start
+start c = c .before .before
 
 word-at-requires : tie.Need-word-at-requires
 word-at-requires c κs = search needs
@@ -19,31 +21,37 @@ enum-known-w : tie.Need-enum-known-w
 enum-known-w c = search needs
 
 returns : tie.Need-returns
-returns c =
-    let a = c .before .before .before .args in
-    header-other (withHeads (a .heads)) (words (now (a .rule))) (a .at) (rw (c .before .word-at .ensures) at (other-kind 5 (c .before .word-at .result) tt (c .match .keys2)))
+returns c = let w = c .before in facts-other (withHeads (start w .args .heads)) (not-kind (w .word-at .ensures) 5 tt (c .match .keys2))
+
+-- ---- it is a header
+
+abbrev told : tie.After-known-told → tie.After-word-at
+told c = c .before .before .before
+
+at-word : (c : tie.After-known-told)
+    → let a = start (told c) .args in
+    let g = c .before .w .given .0 in
+    There (words (a .rule .now)) (a .at) (Header (g .0) (g .1 .0))
+at-word c = there (told c .word-at .ensures) (c .before .w .given .1) (lit< tt)
 
 add-facts : tie.Need-add-facts
-add-facts c =
-    let a = c .before .before .before .before .before .args in
-    let t = word-there (words (now (a .rule))) (a .at) (sym (c .before .before .before .word-at .ensures) ∙ c .before .w .given .1) (lit< tt) in
-    omega (arith, length-words (now (a .rule)))
+add-facts c = omega (arith, at-word c .inside, length-words (start (told c) .args .rule .now))
 
 facts-requires : tie.Need-facts-requires
 facts-requires c κs = search needs
 
 returns-2 : tie.Need-returns-2
 returns-2 c =
-    let a = c .before .before .before .before .before .before .before .before .args in
-    facts-stop (withHeads (a .heads)) (words (now (a .rule))) (a .at) _ _ (sym (c .before .before .before .before .before .before .word-at .ensures) ∙ c .before .before .before .before .w .given .1) (c .before .before .facts .ensures) (c .if1 .taken)
+    let r = c .before .before in
+    facts-stop (withHeads (start (told (r .before)) .args .heads)) (at-word (r .before)) (r .facts .ensures) (c .if1 .taken)
 
 actions-requires : tie.Need-actions-requires
 actions-requires c κs = search needs
 
 returns-3 : tie.Need-returns-3
 returns-3 c =
-    let a = c .before .before .before .before .before .before .before .before .before .args in
-    facts-go (withHeads (a .heads)) (words (now (a .rule))) (a .at) _ _ (sym (c .before .before .before .before .before .before .before .word-at .ensures) ∙ c .before .before .before .before .before .w .given .1) (c .before .before .before .facts .ensures) (c .before .if1 .left) (c .actions .ensures)
+    let r = c .before .before .before in
+    facts-go (withHeads (start (told (r .before)) .args .heads)) (at-word (r .before)) (r .facts .ensures) (c .before .if1 .left) (c .actions .ensures)
 
 pub rule-at-spec : {M : Type 1} → statement M
 rule-at-spec =

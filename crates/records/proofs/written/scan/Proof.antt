@@ -1,26 +1,18 @@
--- `records::written::scan` meets its contract: as long as each word fits, what is left to read, after the calls met, makes a run of the whole. Assumes nothing.
-use mathlib.Core.Path.{_≡_, sym, _∙_}
-use mathlib.Core.Bool.{true}
-use Prim.Native.Nat.{ℕ, _-_, _%_, _≤_, _<_}
+-- As long as each word fits, what is left to read, after the calls met, makes a run of the whole; and a run with fewer calls than 32 is nowhere too deep.
+-- Assumes nothing.
+use mathlib.Core.Path.{_≡_}
+use Prim.Native.Nat.{ℕ, _-_, _^_, _<_}
 use native.Mathlib.Omega.{arith}
 use lib.ListN.{length}
-use lib.Dec.{leb}
-use borrow.Author.Tests.{leb-true}
-use denote.Ref.{now}
 use borrow.Author.Needs.{needs}
 use Rattle.octets.specs.Words.{words}
 use Rattle.octets.proofs.Words.{length-words}
-use Rattle.rules.specs.Words.{limit16, maxDepth}
-use Rattle.records.specs.Written.{withHeads}
-use Rattle.records.proofs.WrittenLaws.{both-true, leaf-there, leaf-starts, call-starts}
-use Rattle.records.proofs.WrittenRun.{Goes, goes-start, goes-leaf, goes-call, goes-end}
+use Rattle.records.proofs.WrittenRun.{Scanning, scanning-start, scanning-leaf, scanning-call, scanning-end}
 use Rattle.records.proofs.written.scan.Statement.{statement}
 use Rattle.records.proofs.written.scan.Tie as tie
 
--- no word is behind the record's end, and a call is a word
 abbrev Inv-loop : tie.InvT-loop
-Inv-loop rule heads at count end next₀ left₀ calls₀ good₀ next left calls good =
-    (next ≤ length (words rule)) × (calls ≤ next) × (good ≡ true → Goes (withHeads heads) (words rule) count at left next calls)
+Inv-loop rule heads at count end next₀ left₀ calls₀ good₀ next left calls good = Scanning heads (words rule) count at left next calls good
 
 abbrev μ-loop : tie.MeasureT-loop
 μ-loop rule heads at count end next₀ left₀ calls₀ good₀ next left calls good = length (words rule) - next
@@ -32,9 +24,15 @@ returns : tie.Need-returns Inv-loop μ-loop
 returns c e = let z : _≡_ {A = ℕ} 0 1 = cc in absurd (omega arith)
 
 loop-holds : tie.Need-loop-holds Inv-loop μ-loop
-loop-holds c =
-    let a = c .before .before .before .args in
-    (omega arith, omega arith, λ g. goes-start (withHeads (a .heads)) (words (now (a .rule))) (a .count) (a .at))
+loop-holds c = scanning-start (omega arith)
+
+-- ---- a word
+
+abbrev Loop : Type 0
+Loop = tie.At-loop Inv-loop μ-loop
+
+addressed : (c : Loop) → length (words (c .before .before .before .before .args .rule .now)) < 2 ^ 62
+addressed c = let s = c .before .before .before .before in omega (arith, length-words (s .args .rule .now), s .good)
 
 sub-if2 : tie.Need-sub-if2 Inv-loop μ-loop
 sub-if2 c = search needs
@@ -45,11 +43,19 @@ returns-2 c e = let z : _≡_ {A = ℕ} 0 1 = cc in absurd (omega arith)
 get-requires : tie.Need-get-requires Inv-loop μ-loop
 get-requires c κs = search needs
 
+abbrev turn : tie.After-get Inv-loop μ-loop → Loop
+turn c = c .before .before .before
+
+here : (c : tie.After-get Inv-loop μ-loop) → turn c .loop .next < length (words (turn c .before .before .before .before .args .rule .now))
+here c = omega arith
+
 sub-left : tie.Need-sub-left Inv-loop μ-loop
 sub-left c = search needs
 
 add-next : tie.Need-add-next Inv-loop μ-loop
-add-next c = omega (arith, length-words (now (c .before .before .before .before .before .before .before .args .rule)))
+add-next c = omega (arith, addressed (turn c))
+
+-- ---- a call
 
 is-call-requires : tie.Need-is-call-requires Inv-loop μ-loop
 is-call-requires c κs = search needs
@@ -58,29 +64,20 @@ cast-left : tie.Need-cast-left Inv-loop μ-loop
 cast-left c = search needs
 
 add-left : tie.Need-add-left Inv-loop μ-loop
-add-left c = omega (arith, length-words (now (c .before .before .before .before .before .before .before .before .before .args .rule)))
+add-left c = omega (arith, addressed (turn (c .before .before)))
 
 add-calls : tie.Need-add-calls Inv-loop μ-loop
-add-calls c = omega (arith, length-words (now (c .before .before .before .before .before .before .before .before .before .args .rule)))
+add-calls c = omega (arith, addressed (turn (c .before .before)))
 
 loop-less : tie.Need-loop-less Inv-loop μ-loop
 loop-less c = search needs
 
 loop-again : tie.Need-loop-again Inv-loop μ-loop
 loop-again c =
-    let a = c .before .before .before .before .before .before .before .before .before .args in
-    let l = c .before .before .before .before .before .loop in
-    let s = withHeads (a .heads) in
-    let ws = words (now (a .rule)) in
-    let here : l .next < length ws = omega arith in
-    let w = c .before .before .get in (
-      omega arith,
-      omega arith,
-      λ g.
-          let is = both-true (l .good) (c .is-call .result) g in
-          let starts = call-starts (a .heads) ws (l .next) here (w .ensures .is) (c .before .if3 .taken) (sym (c .is-call .ensures) ∙ is .1) in
-          goes-call s ws (a .count) (a .at) (l .left) (l .next) (l .calls) (w .result % limit16) (c .before .before .before .before .loop-test .taken) starts (l .inv .2 (is .0)),
-    )
+    let w = c .before .before in
+    scanning-call (turn w .loop .inv) (w .before .before .loop-test .taken) (here w) (w .get .ensures .is) (c .before .if3 .taken) (c .is-call .ensures)
+
+-- ---- a name or a literal
 
 is-leaf-requires : tie.Need-is-leaf-requires Inv-loop μ-loop
 is-leaf-requires c κs = search needs
@@ -90,29 +87,16 @@ loop-less-2 c = search needs
 
 loop-again-2 : tie.Need-loop-again-2 Inv-loop μ-loop
 loop-again-2 c =
-    let a = c .before .before .before .before .before .before .before .before .before .args in
-    let l = c .before .before .before .before .before .loop in
-    let s = withHeads (a .heads) in
-    let ws = words (now (a .rule)) in
-    let here : l .next < length ws = omega arith in (
-      omega arith,
-      omega arith,
-      λ g.
-          let is = both-true (l .good) (c .is-leaf .result) g in
-          let leaf = leaf-there ws (l .next) here (c .before .before .get .ensures .is) (sym (c .is-leaf .ensures) ∙ is .1) in
-          goes-leaf s ws (a .count) (a .at) (l .left) (l .next) (l .calls) (c .before .before .before .before .loop-test .taken) (leaf-starts s ws (l .next) leaf) (l .inv .2 (is .0)),
-    )
+    let w = c .before .before in
+    scanning-leaf (turn w .loop .inv) (w .before .before .loop-test .taken) (here w) (w .get .ensures .is) (c .is-leaf .ensures)
+
+-- ---- none is left
 
 cast-t18 : tie.Need-cast-t18 Inv-loop μ-loop
 cast-t18 c = search needs
 
 returns-3 : tie.Need-returns-3 Inv-loop μ-loop
-returns-3 c e =
-    let a = c .before .before .before .before .before .args in
-    let l = c .before .loop in
-    let is = both-true (l .good) (leb (l .calls) _) e in
-    let few = leb-true (l .calls) _ (is .1) in
-    goes-end (withHeads (a .heads)) (words (now (a .rule))) (a .count) (a .at) (l .left) (l .next) (l .calls) maxDepth (omega arith) (omega arith) (l .inv .2 (is .0))
+returns-3 c e = scanning-end (c .before .loop .inv) 31 (omega arith) (omega arith) e
 
 pub scan-spec : {M : Type 1} → statement M
 scan-spec =

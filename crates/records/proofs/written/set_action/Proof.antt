@@ -1,21 +1,23 @@
--- `records::written::set_action` meets its contract, by the word behind the action word: a head's below H or not. Assumes nothing.
-use native.Mathlib.Omega.{arith}
-use mathlib.Core.Path.{sym, _∙_}
+-- Behind the action word stands a kind 3 word of a head below H, whose arguments and the value are read as one row; any other word is refused at its own
+-- place. Assumes nothing.
+use mathlib.Core.Path.{_∙_}
 use Prim.Native.Nat.{_+_}
+use native.Mathlib.Omega.{arith}
 use lib.Dec.{lit<}
-use denote.Ref.{now}
 use Rattle.octets.specs.Words.{words}
 use Rattle.octets.proofs.Words.{length-words}
-use Rattle.words.proofs.Tags.{other-kind}
-use Rattle.words.proofs.WordLaws.{head-numbers}
-use Rattle.records.specs.Written.{withHeads}
-use Rattle.records.proofs.WrittenLaws.{word-there, target-other, target-high, set-stops, set-goes}
+use Rattle.words.specs.declared.Word.the-variants.{Head}
+use Rattle.records.proofs.Expected.{There, there, not-kind, head-count}
+use Rattle.records.proofs.WrittenLaws.{set-other, set-high, set-goes}
 use borrow.Author.Needs.{needs}
 use Rattle.records.proofs.written.set_action.Statement.{statement}
 use Rattle.records.proofs.written.set_action.Tie as tie
 
+abbrev start : tie.After-word-at → tie.Start
+start c = c .before .before
+
 add-set : tie.Need-add-set
-add-set c = omega (arith, length-words (now (c .before .args .rule)))
+add-set c = omega (arith, length-words (c .before .args .rule .now))
 
 word-at-requires : tie.Need-word-at-requires
 word-at-requires c κs = search needs
@@ -24,42 +26,36 @@ enum-known-w : tie.Need-enum-known-w
 enum-known-w c = search needs
 
 returns : tie.Need-returns
-returns c =
-    let a = c .before .before .before .args in
-    let ws = words (now (a .rule)) in
-    let other = target-other (a .heads) ws (a .at + 1) (rw (c .before .word-at .ensures) at (other-kind 3 (c .before .word-at .result) tt (c .match .keys2))) in
-    set-stops (withHeads (a .heads)) ws (a .at) (a .at + 1) other (λ z. omega arith)
+returns c = let w = c .before in set-other (start w .args .heads) (start w .args .at) (not-kind (w .word-at .ensures) 3 tt (c .match .keys2))
+
+-- ---- it is a head's
+
+abbrev told : tie.After-known-told → tie.After-word-at
+told c = c .before .before .before
+
+at-word : (c : tie.After-known-told)
+    → let a = start (told c) .args in
+    let g = c .before .w .given .0 in
+    There (words (a .rule .now)) (a .at + 1) (Head (g .0) (g .1 .0))
+at-word c = there (told c .word-at .ensures) (c .before .w .given .1) (lit< tt)
 
 add-all-outermost : tie.Need-add-all-outermost
-add-all-outermost c =
-    let a = c .before .before .before .before .before .before .args in
-    let t = word-there (words (now (a .rule))) (a .at + 1) (sym (c .before .before .before .before .word-at .ensures) ∙ c .before .before .w .given .1) (lit< tt) in
-    omega (arith, length-words (now (a .rule)))
+add-all-outermost c = let t = c .before in omega (arith, at-word t .inside, length-words (start (told t) .args .rule .now))
 
 add-all-outermost-2 : tie.Need-add-all-outermost-2
-add-all-outermost-2 c =
-    let a = c .before .before .before .before .before .before .args in
-    let t = word-there (words (now (a .rule))) (a .at + 1) (sym (c .before .before .before .before .word-at .ensures) ∙ c .before .before .w .given .1) (lit< tt) in
-    omega (arith, head-numbers _ _ _ (t .1) .1)
+add-all-outermost-2 c = omega (arith, head-count (at-word (c .before)))
 
 all-outermost-requires : tie.Need-all-outermost-requires
-all-outermost-requires c κs =
-    let a = c .before .before .before .before .before .before .args in
-    let t = word-there (words (now (a .rule))) (a .at + 1) (sym (c .before .before .before .before .word-at .ensures) ∙ c .before .before .w .given .1) (lit< tt) in
-    omega (arith, head-numbers _ _ _ (t .1) .1)
+all-outermost-requires c κs = search needs
 
 returns-2 : tie.Need-returns-2
 returns-2 c =
-    let a = c .before .before .before .before .before .before .before .args in
-    let says = sym (c .before .before .before .before .before .word-at .ensures) ∙ c .before .before .before .w .given .1 in
-    c .all-outermost .ensures ∙ set-goes (a .heads) (words (now (a .rule))) (a .at) (a .at + 1) _ _ says (c .before .if1 .taken)
+    let t = c .before .before in
+    let a = start (told t) .args in
+    c .all-outermost .ensures ∙ set-goes (a .heads) (a .at) (at-word t) (c .before .if1 .taken)
 
 returns-3 : tie.Need-returns-3
-returns-3 c =
-    let a = c .before .before .before .before .before .before .args in
-    let ws = words (now (a .rule)) in
-    let high = target-high (a .heads) ws (a .at + 1) _ _ (sym (c .before .before .before .before .word-at .ensures) ∙ c .before .before .w .given .1) (c .if1 .left) in
-    set-stops (withHeads (a .heads)) ws (a .at) (a .at + 1) high (λ z. omega arith)
+returns-3 c = let a = start (told (c .before)) .args in set-high (a .heads) (a .at) (at-word (c .before)) (c .if1 .left)
 
 pub set-action-spec : {M : Type 1} → statement M
 set-action-spec =

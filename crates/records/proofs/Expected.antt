@@ -1,0 +1,202 @@
+-- An expected word, in a written rule or a flat one: what reading it comes to, by what the word at the index says. `There` is a word that is there and says
+-- something, `NotKind` one of another kind, or none. Assumes nothing.
+use mathlib.Core.Path.{_≡_, refl, sym, ap, _∙_}
+use mathlib.Core.Bool.{Bool, true, false, not, _&&_, cond}
+use mathlib.Core.Logic.{⊎-elim}
+use mathlib.Core.List.{List}
+use Prim.Native.Nat.{ℕ, suc, _+_, _≤_, _<_, min}
+use native.Mathlib.Nat.{min-le-left, min-le-right, le-min, eq-or-lt-of-le}
+use native.Mathlib.Numerals.{add-one}
+use native.Mathlib.Omega.{arith}
+use lib.ListN.{length, getD, length-replicate}
+use lib.Dec.{T, ltb, eqb, lit<}
+use borrow.Author.Tests.{ltb-true, ltb-false, lt-ltb, le-ltb, ne-eqb, eqb-true}
+use types.Run.{OneOf}
+use mir.Val.{hasKey}
+use denote.Enum.Declared.{tagOf}
+use Rattle.rules.specs.Words.{limit12, isHeadWord, isHeaderWord, countOf, factsOf, actionsOf, actionWord, Code, aDelete, aSubsume, aCall, anExpression, noCode, codeOf}
+use Rattle.rules.specs.Refusals.{Res, ok, refuse, _>>=_, demand, unfit}
+use Rattle.rules.specs.Signature.{heads}
+use Rattle.rules.specs.Written.{Read, Reader, readWord, readRow, codeAt, allRead}
+use Rattle.words.specs.Word.{wordOf, kind}
+use Rattle.words.specs.declared.Word.{Word}
+use Rattle.words.specs.declared.Word.the-variants.{Head, Header, Action, Unfit}
+use Rattle.words.proofs.Tags.{others, other-kind}
+use Rattle.words.proofs.Word.{the-type}
+use Rattle.words.proofs.WordLaws.{header-kind, header-numbers, head-numbers, head-below, no-head, no-action, said}
+use Rattle.records.specs.declared.written.Walk.{Walk}
+use Rattle.records.specs.Written.{withHeads, walk, walkOf, wordAt}
+use Rattle.records.proofs.WrittenWalk.{Went, went-row, stops, both, then-same, then-then}
+
+-- ---- the word at an index
+
+-- the word at p is there, and says x
+pub record There (ws : List ℕ) (p : ℕ) (x : Word) : Type 0 where
+  pub inside : p < length ws
+  pub says : wordOf (getD ws p 0) ≡ x
+
+-- it is of another kind than k, if it is there
+pub record NotKind (ws : List ℕ) (p k : ℕ) : Type 0 where
+  pub other : p < length ws → eqb (kind (wordOf (getD ws p 0))) k ≡ false
+
+-- w is what the code was told of it
+module _ {ws : List ℕ} {p : ℕ} {w : Word} (read : w ≡ wordAt ws p) where
+  pub there : {x : Word} → w ≡ x → kind x < 8 → There ws p x
+  unfolding wordAt
+  there {x} is = go (ltb p (length ws)) refl (sym read ∙ is)
+    where
+      go : (b : Bool) → ltb p (length ws) ≡ b → cond b (wordOf (getD ws p 0)) Unfit ≡ x → kind x < 8 → There ws p x
+      go true t e l = record { inside = ltb-true p (length ws) t; says = e }
+      go false t e l = let eight : 8 ≡ kind x = ap kind e in absurd (omega arith)
+
+  -- the other branch of a `let .. else`; at a numeral k the premise between is `tt`
+  pub not-kind : (k : ℕ) → T (not (hasKey (others k) k)) → OneOf (others k) (tagOf the-type w) → NotKind ws p k
+  unfolding wordAt
+  not-kind k t h = record { other = λ l. rw (lt-ltb p (length ws) l) at (rw read at (other-kind k w t h)) }
+
+-- ---- it is taken, or refused
+
+module _ (fits : ℕ → Bool) where
+  pub word-fits : (ws : List ℕ) (p : ℕ) → p < length ws → fits (getD ws p 0) ≡ true → readWord ws fits p ≡ ok (record { value = getD ws p 0; at = suc p })
+  word-fits ws p l h = simp (lt-ltb p (length ws) l, h)
+
+  pub word-unfit : (ws : List ℕ) (p : ℕ) → (p < length ws → fits (getD ws p 0) ≡ false) → readWord ws fits p ≡ refuse unfit p
+  word-unfit ws p h = go (ltb p (length ws)) refl
+    where
+      go : (b : Bool) → ltb p (length ws) ≡ b → demand {A = Read ℕ} (b && fits (getD ws p 0)) unfit p (record { value = getD ws p 0; at = suc p }) ≡ refuse unfit p
+      go true e = rw (h (ltb-true p (length ws) e))
+      go false e = refl
+
+  -- a word of one kind
+  module _ (k : ℕ) (test : (w : ℕ) → fits w ≡ eqb (kind (wordOf w)) k) {ws : List ℕ} {p : ℕ} where
+    pub kind-fits : {x : Word} → There ws p x → eqb (kind x) k ≡ true → readWord ws fits p ≡ ok (record { value = getD ws p 0; at = suc p })
+    kind-fits t same = word-fits ws p (t .inside) (test (getD ws p 0) ∙ rw (t .says) same)
+
+    pub kind-unfit : NotKind ws p k → readWord ws fits p ≡ refuse unfit p
+    kind-unfit n = word-unfit ws p (λ l. test (getD ws p 0) ∙ n .other l)
+
+    pub kind-taken : {x : Word} → There ws p x → eqb (kind x) k ≡ true → walk 0 (p + 1) ≡ walkOf (readWord ws fits p)
+    kind-taken t same = rw (kind-fits t same, add-one p) refl
+
+    pub kind-refused : NotKind ws p k → walk unfit p ≡ walkOf (readWord ws fits p)
+    kind-refused n = rw (kind-unfit n) refl
+
+-- ---- a head below H
+
+pub heads-with : (H : ℕ) → heads (withHeads H) ≡ min H limit12
+heads-with H = length-replicate (min H limit12) 0
+
+pub heads-most : (H : ℕ) → heads (withHeads H) ≤ limit12
+heads-most H = rw (heads-with H) (min-le-right H limit12)
+
+-- a head that a kind 3 word can tell
+pub with-below : (H h : ℕ) → h < limit12 → ltb h (heads (withHeads H)) ≡ ltb h H
+with-below H h small = rw (heads-with H) (go (ltb h H) refl)
+  where
+    go : (b : Bool) → ltb h H ≡ b → ltb h (min H limit12) ≡ b
+    go true e = lt-ltb h (min H limit12) (le-min (ltb-true h H e) small)
+    go false e = let l = ltb-false h H e in le-ltb h (min H limit12) (omega (arith, min-le-left H limit12))
+
+pub head-with : (H w h n : ℕ) → wordOf w ≡ Head h n → isHeadWord (heads (withHeads H)) w ≡ ltb h H
+head-with H w h n says = head-below w h n says (heads (withHeads H)) ∙ with-below H h (said w says (lit< tt) .1 .0)
+
+abbrev head-read : (H : ℕ) → List ℕ → ℕ → Res (Read ℕ)
+head-read H ws p = readWord ws (isHeadWord (heads (withHeads H))) p
+
+module _ (H : ℕ) {ws : List ℕ} {p : ℕ} where
+  pub head-other : NotKind ws p 3 → head-read H ws p ≡ refuse unfit p
+  head-other n = word-unfit (isHeadWord (heads (withHeads H))) ws p (λ l. no-head (getD ws p 0) (n .other l) (heads (withHeads H)) (heads-most H))
+
+  module _ {h n : ℕ} (t : There ws p (Head h n)) where
+    pub head-high : H ≤ h → head-read H ws p ≡ refuse unfit p
+    head-high high = word-unfit (isHeadWord (heads (withHeads H))) ws p (λ l. head-with H (getD ws p 0) h n (t .says) ∙ le-ltb h H high)
+
+    pub head-fits : h < H → head-read H ws p ≡ ok (record { value = getD ws p 0; at = suc p })
+    head-fits low = word-fits (isHeadWord (heads (withHeads H))) ws p (t .inside) (head-with H (getD ws p 0) h n (t .says) ∙ lt-ltb h H low)
+
+-- and the count of what follows
+pub head-count : {ws : List ℕ} {p h n : ℕ} → There ws p (Head h n) → countOf (getD ws p 0) ≡ n
+head-count {ws} {p} {h} {n} t = head-numbers (getD ws p 0) h n (t .says) .1
+
+-- ---- an action's code
+
+module _ {ws : List ℕ} {p : ℕ} where
+  pub no-code : NotKind ws p 6 → codeAt ws p ≡ noCode
+  no-code n = go (ltb p (length ws)) refl
+    where
+      go : (b : Bool) → ltb p (length ws) ≡ b → cond b (codeOf (getD ws p 0)) noCode ≡ noCode
+      go true e = no-action (getD ws p 0) (n .other (ltb-true p (length ws) e))
+      go false e = refl
+
+  pub code-there : {n : ℕ} → There ws p (Action n) → codeAt ws p ≡ codeOf (actionWord n)
+  code-there {n} t = rw (lt-ltb p (length ws) (t .inside), said (getD ws p 0) (t .says) (lit< tt) .0) refl
+
+  -- the walk by the code that the word says is the walk over the action
+  module _ {A : Type 0} (by : Code → Res (Read A)) {n : ℕ} (t : There ws p (Action n)) {z : Walk} where
+    pub by-code : z ≡ walkOf (by (codeOf (actionWord n))) → z ≡ walkOf (by (codeAt ws p))
+    by-code e = e ∙ ap (λ (k : Code). walkOf (by k)) (sym (code-there t))
+
+    pub as-code : (m : ℕ) → n ≡ m → z ≡ walkOf (by (codeOf (actionWord m))) → z ≡ walkOf (by (codeAt ws p))
+    as-code m same e = by-code (e ∙ ap (λ (k : ℕ). walkOf (by (codeOf (actionWord k)))) (sym same))
+
+    -- 3 and 4, of which the code asks the same
+    pub change-code : 3 ≤ n → n < 5 → z ≡ walkOf (by aDelete) → z ≡ walkOf (by aSubsume) → z ≡ walkOf (by (codeAt ws p))
+    change-code lo hi d s = ⊎-elim (λ (same : 3 ≡ n). as-code 3 (sym same) d) (λ (l : 3 < n). as-code 4 (let same : n ≡ 4 = omega arith in same) s) (eq-or-lt-of-le lo)
+
+    -- none of 1 to 6
+    pub last-code : ¬ (n ≡ 1) → ¬ (n ≡ 2) → ¬ (n ≡ 3) → ¬ (n ≡ 4) → ¬ (n ≡ 5) → ¬ (n ≡ 6)
+        → (n ≡ 7 → z ≡ walkOf (by aCall)) → (n ≡ 8 → z ≡ walkOf (by anExpression)) → z ≡ walkOf (by noCode) → z ≡ walkOf (by (codeAt ws p))
+    last-code n1 n2 n3 n4 n5 n6 seven eight none = by-code (go (eqb (actionWord n) (actionWord 7)) refl (eqb (actionWord n) (actionWord 8)) refl)
+      where
+        not-code : (k : ℕ) → ¬ (n ≡ k) → eqb (actionWord n) (actionWord k) ≡ false
+        not-code k other = ne-eqb (actionWord n) (actionWord k) (λ e. other (omega arith))
+
+        rest : codeOf (actionWord n) ≡ cond (eqb (actionWord n) (actionWord 7)) aCall (cond (eqb (actionWord n) (actionWord 8)) anExpression noCode)
+        rest = simp (not-code 1 n1, not-code 2 n2, not-code 3 n3, not-code 4 n4, not-code 5 n5, not-code 6 n6)
+
+        go : (b : Bool) → eqb (actionWord n) (actionWord 7) ≡ b → (c : Bool) → eqb (actionWord n) (actionWord 8) ≡ c → z ≡ walkOf (by (codeOf (actionWord n)))
+        go true e c f = seven (let s = eqb-true (actionWord n) (actionWord 7) e in omega arith) ∙ ap (λ (k : Code). walkOf (by k)) (sym (rest ∙ rw e refl))
+        go false e true f = eight (let s = eqb-true (actionWord n) (actionWord 8) f in omega arith) ∙ ap (λ (k : Code). walkOf (by k)) (sym (rest ∙ rw (e, f) refl))
+        go false e false f = none ∙ ap (λ (k : Code). walkOf (by k)) (sym (rest ∙ rw (e, f) refl))
+
+-- ---- a rule: its header, a row of one thing, and a row of another
+
+module _ {A B C : Type 0} (ws : List ℕ) (one : Reader A) (two : Reader B) (went : (p : ℕ) → Went ws p 1 (one p)) (f : List A → List B → C) where
+  abbrev readHeaded : Reader C
+  readHeaded p = do
+    w ← readWord ws isHeaderWord p
+    xs ← readRow one (factsOf (w .value)) (w .at)
+    ys ← readRow two (actionsOf (w .value)) (xs .at)
+    ok (record { value = f (xs .value) (ys .value); at = ys .at })
+
+  pub header-other : {p : ℕ} → NotKind ws p 5 → walk unfit p ≡ walkOf (readHeaded p)
+  header-other n = rw (kind-unfit isHeaderWord 5 header-kind n) refl
+
+  module _ {p a b : ℕ} (t : There ws p (Header a b)) where
+    abbrev rest : Read (List A) → Res (Read C)
+    rest xs = _>>=_ (readRow two b (xs .at)) (λ ys. ok (record { value = f (xs .value) (ys .value); at = ys .at }))
+
+    header-read : readHeaded p ≡ _>>=_ (readRow one a (suc p)) rest
+    header-read =
+        let n = header-numbers (getD ws p 0) a b (t .says) in
+        rw (kind-fits isHeaderWord 5 header-kind t refl, n .0, n .1) refl
+
+    pub first-stops : {w : Walk} → w ≡ walkOf (readRow one a (p + 1)) → ¬ (w .refused ≡ 0) → w ≡ walkOf (readHeaded p)
+    first-stops e h = rw header-read (stops (readRow one a (suc p)) rest (rw (add-one p) at e) h)
+
+    pub then-second : {w z : Walk} → w ≡ walkOf (readRow one a (p + 1)) → w .refused ≡ 0 → z ≡ walkOf (readRow two b (w .at)) → z ≡ walkOf (readHeaded p)
+    then-second e h g =
+        rw header-read
+        (both ws (suc p) 0 (readRow one a (suc p)) (readRow two b) (λ xs ys. f (xs .value) (ys .value)) (went-row ws one went a (suc p)) (rw (add-one p) at e) h g)
+
+  -- a whole rule is one that begins at index 0 and has nothing behind it
+  pub headed-whole : (do
+    w ← readWord ws isHeaderWord 0
+    xs ← readRow one (factsOf (w .value)) (w .at)
+    ys ← readRow two (actionsOf (w .value)) (xs .at)
+    allRead ws (record { value = f (xs .value) (ys .value); at = ys .at })) ≡ _>>=_ (readHeaded 0) (allRead ws)
+  headed-whole =
+      then-same (readWord ws isHeaderWord 0) _ _ (λ w.
+      then-same (readRow one (factsOf (w .value)) (w .at)) _ _ (λ xs. then-then (readRow two (actionsOf (w .value)) (xs .at)) _ (allRead ws))
+      ∙ then-then (readRow one (factsOf (w .value)) (w .at)) _ (allRead ws))
+      ∙ then-then (readWord ws isHeaderWord 0) _ (allRead ws)
