@@ -120,6 +120,20 @@ head-count {ws} {p} {h} {n} t = head-numbers (getD ws p 0) h n (t .says) .1
 
 -- ---- an action's code
 
+-- n is none of 1 to 6, nor m
+pub record NoneOf (n m : ℕ) : Type 0 where
+  pub one : ¬ (n ≡ 1)
+  pub two : ¬ (n ≡ 2)
+  pub three : ¬ (n ≡ 3)
+  pub four : ¬ (n ≡ 4)
+  pub five : ¬ (n ≡ 5)
+  pub six : ¬ (n ≡ 6)
+  pub last : ¬ (n ≡ m)
+
+-- as the last arm of a match knows it, which asks for 3 and 4 by a range
+pub none-of : {n m : ℕ} {U : Type 0} → (((((U × ¬ (n ≡ 1)) × ¬ (n ≡ 2)) × ¬ (n ≡ 5)) × ¬ (n ≡ 6)) × ¬ (n ≡ m)) → ¬ (n ≡ 3) → ¬ (n ≡ 4) → NoneOf n m
+none-of r n3 n4 = record { one = r .0 .0 .0 .0 .1; two = r .0 .0 .0 .1; three = n3; four = n4; five = r .0 .0 .1; six = r .0 .1; last = r .1 }
+
 module _ {ws : List ℕ} {p : ℕ} where
   pub no-code : NotKind ws p 6 → codeAt ws p ≡ noCode
   no-code n = go (ltb p (length ws)) refl
@@ -144,15 +158,14 @@ module _ {ws : List ℕ} {p : ℕ} where
     change-code lo hi d s = ⊎-elim (λ (same : 3 ≡ n). as-code 3 (sym same) d) (λ (l : 3 < n). as-code 4 (let same : n ≡ 4 = omega arith in same) s) (eq-or-lt-of-le lo)
 
     -- none of 1 to 6
-    pub last-code : ¬ (n ≡ 1) → ¬ (n ≡ 2) → ¬ (n ≡ 3) → ¬ (n ≡ 4) → ¬ (n ≡ 5) → ¬ (n ≡ 6)
-        → (n ≡ 7 → z ≡ walkOf (by aCall)) → (n ≡ 8 → z ≡ walkOf (by anExpression)) → z ≡ walkOf (by noCode) → z ≡ walkOf (by (codeAt ws p))
-    last-code n1 n2 n3 n4 n5 n6 seven eight none = by-code (go (eqb (actionWord n) (actionWord 7)) refl (eqb (actionWord n) (actionWord 8)) refl)
+    pub last-code : (m : ℕ) → NoneOf n m → (n ≡ 7 → z ≡ walkOf (by aCall)) → (n ≡ 8 → z ≡ walkOf (by anExpression)) → z ≡ walkOf (by noCode) → z ≡ walkOf (by (codeAt ws p))
+    last-code m k seven eight none = by-code (go (eqb (actionWord n) (actionWord 7)) refl (eqb (actionWord n) (actionWord 8)) refl)
       where
-        not-code : (k : ℕ) → ¬ (n ≡ k) → eqb (actionWord n) (actionWord k) ≡ false
-        not-code k other = ne-eqb (actionWord n) (actionWord k) (λ e. other (omega arith))
+        not-code : (j : ℕ) → ¬ (n ≡ j) → eqb (actionWord n) (actionWord j) ≡ false
+        not-code j other = ne-eqb (actionWord n) (actionWord j) (λ e. other (omega arith))
 
         rest : codeOf (actionWord n) ≡ cond (eqb (actionWord n) (actionWord 7)) aCall (cond (eqb (actionWord n) (actionWord 8)) anExpression noCode)
-        rest = simp (not-code 1 n1, not-code 2 n2, not-code 3 n3, not-code 4 n4, not-code 5 n5, not-code 6 n6)
+        rest = simp (not-code 1 (k .one), not-code 2 (k .two), not-code 3 (k .three), not-code 4 (k .four), not-code 5 (k .five), not-code 6 (k .six))
 
         go : (b : Bool) → eqb (actionWord n) (actionWord 7) ≡ b → (c : Bool) → eqb (actionWord n) (actionWord 8) ≡ c → z ≡ walkOf (by (codeOf (actionWord n)))
         go true e c f = seven (let s = eqb-true (actionWord n) (actionWord 7) e in omega arith) ∙ ap (λ (k : Code). walkOf (by k)) (sym (rest ∙ rw e refl))

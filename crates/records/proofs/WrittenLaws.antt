@@ -27,7 +27,7 @@ use Rattle.records.specs.Written.{withHeads, walk, walkOf, wordAt, start
 use Rattle.records.proofs.WrittenWalk.{made, then-made, moved, just-one, last-one}
 use Rattle.records.proofs.WrittenEnds.{went-fact}
 use Rattle.records.proofs.Expected.{There, NotKind, kind-fits, kind-unfit, heads-most, with-below, head-with, head-other, head-high, head-fits, head-count}
-use Rattle.records.proofs.Expected.{no-code, as-code, change-code, last-code, header-other, first-stops, then-second}
+use Rattle.records.proofs.Expected.{no-code, as-code, change-code, NoneOf, last-code, header-other, first-stops, then-second}
 
 -- ---- an expression, by how it begins
 
@@ -279,8 +279,8 @@ module _ (s : Sig) {ws : List ℕ} {p : ℕ} where
         change-code (by s ws p) t lo hi (here ∙ sym (made (readTarget s ws (suc p)) _)) (here ∙ sym (made (readTarget s ws (suc p)) _))
 
     -- 7 is not written, and the other numbers are no codes
-    pub action-none : ¬ (n ≡ 1) → ¬ (n ≡ 2) → ¬ (n ≡ 3) → ¬ (n ≡ 4) → ¬ (n ≡ 5) → ¬ (n ≡ 6) → ¬ (n ≡ 8) → walk unfit p ≡ walkOf (readAction s ws p)
-    action-none n1 n2 n3 n4 n5 n6 n8 = last-code (by s ws p) t n1 n2 n3 n4 n5 n6 (λ e. refl) (λ e. absurd (n8 e)) refl
+    pub action-none : NoneOf n 8 → walk unfit p ≡ walkOf (readAction s ws p)
+    action-none k = last-code (by s ws p) t 8 k (λ e. refl) (λ e. absurd (k .last e)) refl
 
 -- ---- a rule
 

@@ -182,23 +182,28 @@ pub then-then : {A B C : Type 0} (x : Res A) (f : A → Res B) (g : B → Res C)
 then-then (ok a) f g = refl
 then-then (refuse n p) f g = refl
 
-module _ {A : Type 0} (ws : List ℕ) (x : Res (Read A)) (went : Went ws 0 1 x) {w : Walk} (e : w ≡ walkOf x) where
-  pub whole-stops : ¬ (w .refused ≡ 0) → w ≡ wholeOf ws (_>>=_ x (allRead ws))
-  whole-stops h = go x e
+-- what x reads from index 0 on is the whole record, y, if nothing is behind it
+pub record Whole {A : Type 0} (ws : List ℕ) (x : Res (Read A)) (y : Res A) : Type 0 where
+  pub went : Went ws 0 1 x
+  pub is : y ≡ _>>=_ x (allRead ws)
+
+module _ {A : Type 0} {ws : List ℕ} {x : Res (Read A)} {y : Res A} (k : Whole ws x y) {w : Walk} (e : w ≡ walkOf x) where
+  pub whole-stops : ¬ (w .refused ≡ 0) → w ≡ wholeOf ws y
+  whole-stops h = rw (k .is) (go x e)
     where
       go : (y : Res (Read A)) → w ≡ walkOf y → w ≡ wholeOf ws (_>>=_ y (allRead ws))
       go (ok r) k = absurd (h (ap (λ (v : Walk). v .refused) k))
       go (refuse n p) k = k
 
-  pub surplus : w .refused ≡ 0 → w .at < length ws → walk unfit (w .at) ≡ wholeOf ws (_>>=_ x (allRead ws))
-  surplus h l = go x went e
+  pub surplus : w .refused ≡ 0 → w .at < length ws → walk unfit (w .at) ≡ wholeOf ws y
+  surplus h l = rw (k .is) (go x (k .went) e)
     where
       go : (y : Res (Read A)) → Went ws 0 1 y → w ≡ walkOf y → walk unfit (w .at) ≡ wholeOf ws (_>>=_ y (allRead ws))
       go (ok r) g k = let same : w .at ≡ r .at = ap (λ (v : Walk). v .at) k in rw (same, lt-leb (length ws) (r .at) (omega arith)) refl
       go (refuse n p) g k = let z : n ≡ 0 = sym (ap (λ (v : Walk). v .refused) k) ∙ h in absurd (omega arith)
 
-  pub all-read : w .refused ≡ 0 → length ws ≤ w .at → w ≡ wholeOf ws (_>>=_ x (allRead ws))
-  all-read h l = go x went e
+  pub all-read : w .refused ≡ 0 → length ws ≤ w .at → w ≡ wholeOf ws y
+  all-read h l = rw (k .is) (go x (k .went) e)
     where
       go : (y : Res (Read A)) → Went ws 0 1 y → w ≡ walkOf y → w ≡ wholeOf ws (_>>=_ y (allRead ws))
       go (ok r) g k =

@@ -12,16 +12,17 @@ use Rattle.rules.specs.Words.{Code, aLet, aSet, aDelete, aSubsume, aUnion, aPan
 use Rattle.rules.specs.Refusals.{Res, _>>=_}
 use Rattle.rules.specs.Signature.{Sig, heads}
 use Rattle.rules.specs.Written.{Fact, Action, Read, Reader, Expr, shapeAt, readShape, readWord, readRow, readMany, readExpr, readTarget, readHolds, readFact}
-use Rattle.rules.specs.Written.{readCode, codeAt, readAction, readWritten, allRead}
+use Rattle.rules.specs.Written.{readCode, codeAt, readAction, readWritten}
 use Rattle.records.specs.Written.{withHeads, readRule}
-use Rattle.records.proofs.WrittenWalk.{then-same}
-use Rattle.records.proofs.WrittenEnds.{went-fact}
+use Rattle.records.proofs.WrittenWalk.{then-same, Whole}
+use Rattle.records.proofs.WrittenEnds.{went-fact, went-rule}
 use Rattle.records.proofs.Expected.{heads-with, headed-whole}
 
 -- ---- a whole rule
 
-pub written-read : (s : Sig) (ws : List ℕ) → readWritten s ws ≡ _>>=_ (readRule s ws 0) (allRead ws)
-written-read s ws = headed-whole ws (readFact s ws) (readAction s ws) (went-fact s ws) (λ fs xs. record { facts = fs; actions = xs })
+pub written-whole : (s : Sig) (ws : List ℕ) → Whole ws (readRule s ws 0) (readWritten s ws)
+written-whole s ws =
+    record { went = went-rule s ws 0; is = headed-whole ws (readFact s ws) (readAction s ws) (went-fact s ws) (λ fs xs. record { facts = fs; actions = xs }) }
 
 -- ---- the signature: two of as many heads read alike
 

@@ -28,7 +28,7 @@ use Rattle.records.specs.declared.written.Walk.{Walk}
 use Rattle.records.specs.Written.{withHeads, walk, walkOf, leafWord}
 use Rattle.records.proofs.WrittenWalk.{Went, stops, made, both, row, then-then}
 use Rattle.records.proofs.Expected.{There, NotKind, word-fits, word-unfit, heads-with, heads-most, head-with, head-other, head-high, head-fits, head-count}
-use Rattle.records.proofs.Expected.{no-code, as-code, change-code, last-code, header-other, first-stops, then-second}
+use Rattle.records.proofs.Expected.{no-code, as-code, change-code, NoneOf, last-code, header-other, first-stops, then-second}
 use Rattle.records.proofs.flat.Ends.{went-term, went-target, went-terms, went-atom}
 use Rattle.words.specs.declared.Word.the-variants as Said
 use Rattle.records.specs.declared.flat.First.the-variants as First
@@ -335,9 +335,8 @@ module _ (s : Sig) {ws : List ℕ} {p : ℕ} where
     panic-goes six e = action-by 6 six (e ∙ sym (made (readWord ws isLiteralWord (p + 1)) _))
 
   -- 8 is not flat, and the other numbers are no codes
-  pub action-none : {n : ℕ} → There ws p (Said.Action n) → ¬ (n ≡ 1) → ¬ (n ≡ 2) → ¬ (n ≡ 3) → ¬ (n ≡ 4) → ¬ (n ≡ 5) → ¬ (n ≡ 6) → ¬ (n ≡ 7)
-      → walk unfit p ≡ walkOf (readCoreAction s ws p)
-  action-none t n1 n2 n3 n4 n5 n6 n7 = last-code (by s ws p) t n1 n2 n3 n4 n5 n6 (λ e. absurd (n7 e)) (λ e. refl) refl
+  pub action-none : {n : ℕ} → There ws p (Said.Action n) → NoneOf n 7 → walk unfit p ≡ walkOf (readCoreAction s ws p)
+  action-none t k = last-code (by s ws p) t 7 k (λ e. absurd (k .last e)) (λ e. refl) refl
 
 -- ---- a rule
 

@@ -9,19 +9,20 @@ use Rattle.rules.specs.Words.{limit12, isHeadWord, isHeaderWord, countOf, facts
 use Rattle.rules.specs.Words.{Code, aLet, aSet, aDelete, aSubsume, aUnion, aPanic, aCall, anExpression, noCode}
 use Rattle.rules.specs.Refusals.{Res, _>>=_}
 use Rattle.rules.specs.Signature.{Sig, heads}
-use Rattle.rules.specs.Written.{Read, Reader, readWord, readRow, codeAt, allRead}
+use Rattle.rules.specs.Written.{Read, Reader, readWord, readRow, codeAt}
 use Rattle.rules.specs.Flat.{Atom, CoreAction, AtomShape, isPair, isOdd, isTable, isEmpty, isNone, isTarget, atomShapeAt, readTerm, readTerms, readAtomShape}
 use Rattle.rules.specs.Flat.{readAtom, readCoreCode, readCoreAction, readFlat}
 use Rattle.records.specs.Written.{withHeads}
 use Rattle.records.specs.Flat.{readFlatRule}
-use Rattle.records.proofs.WrittenWalk.{then-same}
+use Rattle.records.proofs.WrittenWalk.{then-same, Whole}
 use Rattle.records.proofs.Expected.{heads-with, headed-whole}
-use Rattle.records.proofs.flat.Ends.{went-atom}
+use Rattle.records.proofs.flat.Ends.{went-atom, went-rule}
 
 -- ---- a whole rule
 
-pub flat-read : (s : Sig) (ws : List ℕ) → readFlat s ws ≡ _>>=_ (readFlatRule s ws 0) (allRead ws)
-flat-read s ws = headed-whole ws (readAtom s ws) (readCoreAction s ws) (went-atom s ws) (λ as′ xs. record { atoms = as′; actions = xs })
+pub flat-whole : (s : Sig) (ws : List ℕ) → Whole ws (readFlatRule s ws 0) (readFlat s ws)
+flat-whole s ws =
+    record { went = went-rule s ws 0; is = headed-whole ws (readAtom s ws) (readCoreAction s ws) (went-atom s ws) (λ as′ xs. record { atoms = as′; actions = xs }) }
 
 -- ---- the signature: two of as many heads read alike
 

@@ -1,6 +1,4 @@
 -- The word at the index says which code the action has, and by its code the walk is the one behind the word; any other word is refused. Assumes nothing.
-use Prim.Native.Nat.{ℕ}
-use mathlib.Core.List.{List}
 use native.Mathlib.Omega.{arith}
 use lib.Dec.{lit<}
 use Rattle.octets.specs.Words.{words}
@@ -8,14 +6,11 @@ use Rattle.octets.proofs.Words.{length-words}
 use Rattle.rules.specs.Signature.{Sig}
 use Rattle.words.specs.declared.Word.the-variants.{Action}
 use Rattle.records.specs.Written.{withHeads}
-use Rattle.records.proofs.Expected.{There, there, not-kind}
+use Rattle.records.proofs.Expected.{There, there, not-kind, none-of}
 use Rattle.records.proofs.flat.Laws.{action-other, action-by, change-goes, union-goes, panic-goes, action-none}
 use borrow.Author.Needs.{needs}
 use Rattle.records.proofs.flat.action.Statement.{statement}
 use Rattle.records.proofs.flat.action.Tie as tie
-
-abbrev ws : tie.Start → List ℕ
-ws c = words (c .args .rule .now)
 
 abbrev start : tie.After-word-at → tie.Start
 start c = c .before .before
@@ -38,7 +33,7 @@ told c = c .before .before .before
 abbrev sig : tie.After-known-told → Sig
 sig c = withHeads (start (told c) .args .heads)
 
-at-word : (c : tie.After-known-told) → There (ws (start (told c))) (start (told c) .args .at) (Action (c .before .w .given .0 .0))
+at-word : (c : tie.After-known-told) → let a = start (told c) .args in There (words (a .rule .now)) (a .at) (Action (c .before .w .given .0 .0))
 at-word c = there (told c .word-at .ensures) (c .before .w .given .1) (lit< tt)
 
 add-next : tie.Need-add-next
@@ -86,16 +81,10 @@ returns-7 c = let t = rest-told (c .before .before .before) in change-goes (sig 
 
 -- no code is left
 returns-8 : tie.Need-returns-8
-returns-8 c =
-    let m = c .before in
-    let r = m .match2 .rest in
-    action-none (sig (rest-told m)) (at-word (rest-told m)) (r .0 .0 .0 .0 .1) (r .0 .0 .0 .1) (λ e. omega arith) (λ e. omega arith) (r .0 .0 .1) (r .0 .1) (r .1)
+returns-8 c = let m = c .before in action-none (sig (rest-told m)) (at-word (rest-told m)) (none-of (m .match2 .rest) (λ e. omega arith) (λ e. omega arith))
 
 returns-9 : tie.Need-returns-9
-returns-9 c =
-    let m = c .before .before in
-    let r = m .match2 .rest in
-    action-none (sig (rest-told m)) (at-word (rest-told m)) (r .0 .0 .0 .0 .1) (r .0 .0 .0 .1) (λ e. omega arith) (λ e. omega arith) (r .0 .0 .1) (r .0 .1) (r .1)
+returns-9 c = let m = c .before .before in action-none (sig (rest-told m)) (at-word (rest-told m)) (none-of (m .match2 .rest) (λ e. omega arith) (λ e. omega arith))
 
 pub action-spec : {M : Type 1} → statement M
 action-spec =

@@ -1,6 +1,4 @@
 -- The word at the index says which code the action has, and by its code the walk is the one behind the word; any other word is refused. Assumes nothing.
-use Prim.Native.Nat.{ℕ}
-use mathlib.Core.List.{List}
 use native.Mathlib.Omega.{arith}
 use lib.Dec.{lit<}
 use Rattle.octets.specs.Words.{words}
@@ -9,7 +7,7 @@ use Rattle.rules.specs.Signature.{Sig}
 use Rattle.words.proofs.Ranges.{past}
 use Rattle.words.specs.declared.Word.the-variants.{Action}
 use Rattle.records.specs.Written.{withHeads}
-use Rattle.records.proofs.Expected.{There, there, not-kind}
+use Rattle.records.proofs.Expected.{There, there, not-kind, none-of}
 use Rattle.records.proofs.WrittenLaws.{action-other, action-by, union-goes, expression-goes, change-goes, action-none}
 use borrow.Author.Needs.{needs}
 use Rattle.records.proofs.written.action.Statement.{statement}
@@ -91,16 +89,10 @@ returns-7 c =
 
 -- no code is left
 returns-8 : tie.Need-returns-8
-returns-8 c =
-    let m = c .before in
-    let r = m .match2 .rest in
-    action-none (sig (rest-told m)) (at-word (rest-told m)) (r .0 .0 .0 .0 .1) (r .0 .0 .0 .1) (λ e. omega arith) (λ e. omega arith) (r .0 .0 .1) (r .0 .1) (r .1)
+returns-8 c = let m = c .before in action-none (sig (rest-told m)) (at-word (rest-told m)) (none-of (m .match2 .rest) (λ e. omega arith) (λ e. omega arith))
 
 returns-9 : tie.Need-returns-9
-returns-9 c =
-    let m = c .before .before in
-    let r = m .match2 .rest in
-    action-none (sig (rest-told m)) (at-word (rest-told m)) (r .0 .0 .0 .0 .1) (r .0 .0 .0 .1) (λ e. omega arith) (λ e. omega arith) (r .0 .0 .1) (r .0 .1) (r .1)
+returns-9 c = let m = c .before .before in action-none (sig (rest-told m)) (at-word (rest-told m)) (none-of (m .match2 .rest) (λ e. omega arith) (λ e. omega arith))
 
 pub action-spec : {M : Type 1} → statement M
 action-spec =

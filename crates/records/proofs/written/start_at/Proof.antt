@@ -1,18 +1,22 @@
--- `records::written::start_at` meets its contract, by cases on the word. In the arm `_` the match says only that the word's tag is none of
--- the other arms'. Assumes nothing.
-use mathlib.Core.Path.{_≡_, refl}
+-- The answer is told by the word there: `startWith` says it for each kind of word, and `start-at` that this is the definition. In the arm `_` the match says
+-- only that the word's tag is none of the other arms'. Assumes nothing.
+use mathlib.Core.Path.{_≡_, refl, sym, ap, _∙_}
+use mathlib.Core.Bool.{cond}
 use mathlib.Core.List.{List, _∷_, []}
 use Prim.Native.Nat.{ℕ}
+use lib.Dec.{ltb}
+use lib.ListN.{getD}
 use borrow.Author.Needs.{needs}
 use borrow.Author.Tests.{lt-ltb, le-ltb}
 use types.Run.{OneOf, miss}
-use denote.Ref.{now}
 use denote.Enum.Declared.{tagOf}
 use Rattle.octets.specs.Words.{words}
+use Rattle.rules.specs.Written.{shapeAt}
 use Rattle.words.proofs.Word.{the-type}
 use Rattle.words.specs.declared.Word.{Word}
 use Rattle.words.specs.declared.Word.the-variants.{Fresh, Name, Literal, Head, Equality, Header, Action, Signature, Unfit}
-use Rattle.records.specs.declared.written.Start.the-variants.{Other}
+use Rattle.records.specs.Written.{withHeads, startOf}
+use Rattle.records.specs.declared.written.Start.the-variants.{Takes, Other}
 use Rattle.records.proofs.WrittenLaws.{startWith, start-at}
 use Rattle.records.proofs.written.start_at.Statement.{statement}
 use Rattle.records.proofs.written.start_at.Tie as tie
@@ -31,6 +35,16 @@ others H (Action n) k = refl
 others H (Signature n) k = refl
 others H Unfit k = refl
 
+abbrev start : tie.After-word-at → tie.Start
+start c = c .before .before
+
+-- the answer is that of the word there
+by-word : (c : tie.After-word-at)
+    → let a = start c .args in
+    let ws = words (a .rule .now) in
+    startWith (a .heads) (c .word-at .result) ≡ startOf (shapeAt (withHeads (a .heads)) ws (a .at)) (getD ws (a .at) 0)
+by-word c = let a = start c .args in ap (startWith (a .heads)) (c .word-at .ensures) ∙ start-at (words (a .rule .now)) (a .heads) (a .at)
+
 word-at-requires : tie.Need-word-at-requires
 word-at-requires c κs = search needs
 
@@ -43,30 +57,32 @@ enum-told-2 c = search needs
 enum-known-w : tie.Need-enum-known-w
 enum-known-w c = search needs
 
+-- a name, a literal
 returns : tie.Need-returns
-returns c =
-    let a = c .before .before .before .before .args in
-    rw (← start-at (words (now (a .rule))) (a .heads) (a .at), ← c .before .before .word-at .ensures, c .enum-told .given .1)
+returns c = let w = c .before .before in ap (startWith (start w .args .heads)) (sym (c .enum-told .given .1)) ∙ by-word w
 
 returns-2 : tie.Need-returns-2
-returns-2 c =
-    let a = c .before .before .before .before .args in
-    rw (← start-at (words (now (a .rule))) (a .heads) (a .at), ← c .before .before .word-at .ensures, c .enum-told2 .given .1)
+returns-2 c = let w = c .before .before in ap (startWith (start w .args .heads)) (sym (c .enum-told2 .given .1)) ∙ by-word w
+
+-- a head, below H or not
+abbrev told : tie.After-known-told → tie.After-word-at
+told c = c .before .before .before
+
+by-head : (c : tie.After-known-told)
+    → let h = start (told c) .args .heads in
+    let g = c .before .w .given .0 in
+    cond (ltb (g .0) h) (Takes (g .1 .0)) Other ≡ startWith h (told c .word-at .result)
+by-head c = ap (startWith (start (told c) .args .heads)) (sym (c .before .w .given .1))
 
 returns-3 : tie.Need-returns-3
-returns-3 c =
-    let a = c .before .before .before .before .before .before .args in
-    rw (← start-at (words (now (a .rule))) (a .heads) (a .at), ← c .before .before .before .before .word-at .ensures, c .before .before .w .given .1, lt-ltb _ _ (c .if1 .taken))
+returns-3 c = let t = c .before in rw (lt-ltb _ _ (c .if1 .taken)) at (by-head t) ∙ by-word (told t)
 
 returns-4 : tie.Need-returns-4
-returns-4 c =
-    let a = c .before .before .before .before .before .before .args in
-    rw (← start-at (words (now (a .rule))) (a .heads) (a .at), ← c .before .before .before .before .word-at .ensures, c .before .before .w .given .1, le-ltb _ _ (c .if1 .left))
+returns-4 c = let t = c .before in rw (le-ltb _ _ (c .if1 .left)) at (by-head t) ∙ by-word (told t)
 
+-- any other word
 returns-5 : tie.Need-returns-5
-returns-5 c =
-    let a = c .before .before .before .args in
-    rw (← start-at (words (now (a .rule))) (a .heads) (a .at), ← c .before .word-at .ensures) (others (a .heads) (c .before .word-at .result) (c .match .keys4))
+returns-5 c = let w = c .before in others (start w .args .heads) (w .word-at .result) (c .match .keys4) ∙ by-word w
 
 pub start-at-spec : {M : Type 1} → statement M
 start-at-spec =

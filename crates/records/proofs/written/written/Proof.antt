@@ -1,23 +1,12 @@
 -- A whole rule is one that begins at index 0 and has nothing behind it: the walk's refusal stands, and else its end is tested. Assumes nothing.
-use Prim.Native.Nat.{ℕ}
-use mathlib.Core.List.{List}
 use native.Mathlib.Omega.{arith}
 use Rattle.octets.specs.Words.{words}
-use Rattle.rules.specs.Signature.{Sig}
-use Rattle.records.specs.Written.{withHeads, readRule}
+use Rattle.records.specs.Written.{withHeads}
 use Rattle.records.proofs.WrittenWalk.{whole-stops, surplus, all-read}
-use Rattle.records.proofs.WrittenEnds.{went-rule}
-use Rattle.records.proofs.WrittenWhole.{written-read}
+use Rattle.records.proofs.WrittenWhole.{written-whole}
 use borrow.Author.Needs.{needs}
 use Rattle.records.proofs.written.written.Statement.{statement}
 use Rattle.records.proofs.written.written.Tie as tie
-
-module _ (c : tie.After-rule-at) where
-  abbrev s : Sig
-  s = withHeads (c .before .before .args .heads)
-
-  abbrev ws : List ℕ
-  ws = words (c .before .before .args .rule .now)
 
 rule-at-requires : tie.Need-rule-at-requires
 rule-at-requires c κs = search needs
@@ -25,7 +14,8 @@ rule-at-requires c κs = search needs
 returns : tie.Need-returns
 returns c =
     let r = c .before .before in
-    rw (written-read (s r) (ws r)) (whole-stops (ws r) (readRule (s r) (ws r) 0) (went-rule (s r) (ws r) 0) (r .rule-at .ensures) (c .if1 .taken))
+    let a = r .before .before .args in
+    whole-stops (written-whole (withHeads (a .heads)) (words (a .rule .now))) (r .rule-at .ensures) (c .if1 .taken)
 
 count-requires : tie.Need-count-requires
 count-requires c κs = search needs
@@ -36,12 +26,14 @@ read-at c = c .before .before .before
 returns-2 : tie.Need-returns-2
 returns-2 c =
     let r = read-at (c .before .before) in
-    rw (written-read (s r) (ws r)) (surplus (ws r) (readRule (s r) (ws r) 0) (went-rule (s r) (ws r) 0) (r .rule-at .ensures) (omega arith) (omega arith))
+    let a = r .before .before .args in
+    surplus (written-whole (withHeads (a .heads)) (words (a .rule .now))) (r .rule-at .ensures) (omega arith) (omega arith)
 
 returns-3 : tie.Need-returns-3
 returns-3 c =
     let r = read-at (c .before .before) in
-    rw (written-read (s r) (ws r)) (all-read (ws r) (readRule (s r) (ws r) 0) (went-rule (s r) (ws r) 0) (r .rule-at .ensures) (omega arith) (omega arith))
+    let a = r .before .before .args in
+    all-read (written-whole (withHeads (a .heads)) (words (a .rule .now))) (r .rule-at .ensures) (omega arith) (omega arith)
 
 pub written-spec : {M : Type 1} → statement M
 written-spec = tie.close (tie.spec rule-at-requires returns count-requires returns-2 returns-3)
