@@ -10,7 +10,7 @@ use Rattle.rules.specs.Refusals.{Res, ok, refuse, _>>=_}
 use Rattle.rules.specs.Signature.{Sig}
 use Rattle.rules.specs.Written.{panic′, expr′}
 use Rattle.rules.specs.ToCoreActions.{Done, lowerAction}
-use Rattle.walks.specs.Steps.{Piece, nothing, Kept, Walked, InAnswer, Room, ExprAt}
+use Rattle.walks.specs.Steps.{Piece, nothing, Kept, Walked, InAnswer, ExprAt}
 use Rattle.walks.specs.declared.Walk.{Walk}
 use Rattle.walks.proofs.Frames.{kept-wide}
 use Rattle.walks.proofs.Steps.{went, stop, none-walked, written}

@@ -12,7 +12,7 @@ use Rattle.rules.specs.Refusals.{Res, ok, _>>=_, usedUp}
 use Rattle.rules.specs.Signature.{Sig, heads}
 use Rattle.rules.specs.ToQuery.{Fresh, fresh}
 use Rattle.walks.specs.Log.{Taken}
-use Rattle.walks.specs.Steps.{Piece, Walked, OnStack, Room, ExprsAt}
+use Rattle.walks.specs.Steps.{Piece, OnStack, ExprsAt}
 use Rattle.walks.specs.declared.Walk.{Walk}
 use Rattle.walks.proofs.Steps.{went, stop, Own, full-last, last-done}
 use Rattle.walks.proofs.Read.{exprs-many, recount}
@@ -118,14 +118,15 @@ module _ {k : Site} {size n : ℕ} {X : Res Piece} {s1 cs1 : List ℕ} {a : Walk
   Counts q = q .count ≡ a .log - k .lg + 1
 
   module _ {w : ℕ} {s2 cs2 : List ℕ} {u : ℕ} (o : Used w (a .log) s1 cs1 s2 cs2 u) where
+    -- its counter is used up
     pub closed-full : (count : ℕ) → u ≡ 0
         → WalkedAt k 0 (λ q. q .count ≡ count) (_>>=_ X (closing code more p (headOf w))) size (k .at) s2 cs2
         (record { next = p; to = a .to; log = a .log; term = 0; refused = usedUp })
     closed-full count z =
-        full-last (t .behind) size (k .at + 2) (k .at) (k .to) (k .sp) (k .lg) (headOf w) p u (k .s) (k .cs) s1 cs1 s2 cs2 a (a .to) X (changePiece code more (headOf w))
-        (omega (arith, t .whole))
-        (t .walk) (t .fine) (o .taken p) z
+        full-last (t .behind) size (k .at + 2) (k .at) (k .to) (k .sp) (k .lg) (headOf w) p u (k .s) (k .cs) s1 cs1 s2 cs2 a (a .to)
+        X (changePiece code more (headOf w)) (omega (arith, t .whole)) (t .walk) (t .fine) (o .taken p) z
 
+    -- the words are written, up to e, which leaves s3
     pub closed : {s3 : List ℕ} {e : ℕ} → headBase ≤ w → n ≡ countOf w + more → (u ≡ 0 → ⊥)
         → (e ≡ a .to + 2 + n) × (s3 ≡ splice s2 (a .to) (code ∷ w ∷ part s2 (k .sp) n))
         → WalkedAt k 0 Counts (_>>=_ X (closing code more p (headOf w))) size (k .at) s3 cs2
@@ -141,8 +142,8 @@ module _ {k : Site} {size n : ℕ} {X : Res Piece} {s1 cs1 : List ℕ} {a : Walk
         let kept : length s2 ≡ length (k .s) = o .size ∙ t .walk .kept .size in
         let ly : length ys ≡ n + 2 = omega (arith, length-part s2 (k .sp) n (omega arith)) in
         last-done (t .behind) size (k .at + 2) (k .at) (k .to) (k .sp) (k .lg) (headOf w) p u (k .s) (k .cs) s1 cs1 s2 cs2 a n 0 Counts s3 ys e 0
-        r1 r2 r3 (omega arith) many (omega arith) (omega arith) (o .counters) (put .1) (omega (arith, put .0)) X (changePiece code more (headOf w)) (t .walk) (t .fine)
-        (o .taken p) some own
+        r1 r2 r3 (omega arith) many (omega arith) (omega arith) (o .counters) (put .1) (omega (arith, put .0)) X (changePiece code more (headOf w))
+        (t .walk) (t .fine) (o .taken p) some own
       where
         ys : List ℕ
         ys = code ∷ w ∷ part s2 (k .sp) n
@@ -210,12 +211,28 @@ module _ {k : Site} {code more w : ℕ} (h : Changing k code more w) where
           room = m .begun .room;
         }
 
-    module _ (fine : a .refused ≡ 0) {s2 cs2 : List ℕ} {u : ℕ} (o : Used w (a .log) s1 cs1 s2 cs2 u) where
-      pub change-full : u ≡ 0 → Changes k code more s2 cs2 (ended (record { next = k .at + 1; to = a .to; log = a .log; term = 0; refused = usedUp }))
-      change-full z = answers refl (λ t. closed-full (termed fine t) code more (k .at + 1) o 0 z)
+-- ---- one count of the head is used, which leaves s2 and cs2
 
-      pub change-done : {s3 : List ℕ} {e : ℕ} → (u ≡ 0 → ⊥)
-          → (e ≡ a .to + 2 + (countOf w + more)) × (s3 ≡ splice s2 (a .to) (code ∷ w ∷ part s2 (k .sp) (countOf w + more)))
-          → Changes k code more s3 cs2
-          (record { walk = record { next = a .next; to = e; log = a .log + 1; term = 0; refused = 0 }; names = 0; count = a .log - k .lg + 1 })
-      change-done some put = answers refl (λ t. closed (termed fine t) code more (k .at + 1) o (t .it .high) refl some put)
+pub record Counting (k : Site) (code more w : ℕ) (a : Walk) (s2 cs2 : List ℕ) (u : ℕ) : Type 0 where
+  pub changing : Changing k code more w
+  pub s1 : List ℕ
+  pub cs1 : List ℕ
+  pub args : Argued k 2 maxDepth (countOf w + more) w s1 cs1 a
+  pub fine : Fine args
+  pub used : Used w (a .log) s1 cs1 s2 cs2 u
+
+pub counting : {k : Site} {code more w : ℕ} {a : Walk} {s1 cs1 s2 cs2 : List ℕ} {u : ℕ} → Changing k code more w
+    → (m : Argued k 2 maxDepth (countOf w + more) w s1 cs1 a) → Fine m → Used w (a .log) s1 cs1 s2 cs2 u → Counting k code more w a s2 cs2 u
+counting {s1 = s1} {cs1 = cs1} h m f o = record { changing = h; s1 = s1; cs1 = cs1; args = m; fine = f; used = o }
+
+module _ {k : Site} {code more w : ℕ} {a : Walk} {s2 cs2 : List ℕ} {u : ℕ} (c : Counting k code more w a s2 cs2 u) where
+  pub change-full : u ≡ 0 → Changes k code more s2 cs2 (ended (record { next = k .at + 1; to = a .to; log = a .log; term = 0; refused = usedUp }))
+  change-full z = answers (c .changing) refl (λ t. closed-full (termed (c .changing) (c .args) (c .fine .fine) t) code more (k .at + 1) (c .used) 0 z)
+
+  -- the action is written, up to e, which leaves s3
+  pub change-done : {s3 : List ℕ} {e : ℕ} → (u ≡ 0 → ⊥)
+      → (e ≡ a .to + 2 + (countOf w + more)) × (s3 ≡ splice s2 (a .to) (code ∷ w ∷ part s2 (k .sp) (countOf w + more)))
+      → Changes k code more s3 cs2
+      (record { walk = record { next = a .next; to = e; log = a .log + 1; term = 0; refused = 0 }; names = 0; count = a .log - k .lg + 1 })
+  change-done some put =
+      answers (c .changing) refl (λ t. closed (termed (c .changing) (c .args) (c .fine .fine) t) code more (k .at + 1) (c .used) (t .it .high) refl some put)

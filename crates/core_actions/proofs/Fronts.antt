@@ -14,7 +14,7 @@ use Rattle.rules.specs.Refusals.{Res}
 use Rattle.rules.specs.Signature.{Sig}
 use Rattle.rules.specs.Written.{Expr, Exprs}
 use Rattle.walks.specs.Leaves.{leavesUpTo}
-use Rattle.walks.specs.Steps.{Piece, Walked, OnStack, Kept, Room, ExprsAt}
+use Rattle.walks.specs.Steps.{Piece, OnStack, Kept, Room, ExprsAt}
 use Rattle.walks.specs.declared.Walk.{Walk}
 use Rattle.walks.proofs.LeavesUpTo.{Leaf, leaves-most, leaves-each}
 use Rattle.walks.proofs.Log.{undone-none}
@@ -22,7 +22,6 @@ use Rattle.walks.proofs.Read.{exprs-many}
 use Rattle.walks.proofs.Rows.{Rowed, Left, left-all, left-next}
 use Rattle.core_actions.specs.Scopes.{Scoped}
 use Rattle.core_actions.specs.Lowered.{lowered, loweredAll}
-use Rattle.core_actions.specs.declared.scope.Scope.{Scope}
 use Rattle.core_actions.proofs.Scopes.{scoped-kept, reads-low}
 use Rattle.core_actions.proofs.Pieces.{lowered-row}
 use Rattle.core_actions.proofs.Expressions.{standing, read-way}

@@ -13,7 +13,7 @@ use Rattle.rules.specs.Refusals.{Res, ok, refuse, _>>=_, alreadyDefined}
 use Rattle.rules.specs.Signature.{Sig, elem}
 use Rattle.rules.specs.Flat.{Let}
 use Rattle.rules.specs.ToCoreActions.{Low, lowerExpr, lowerLet}
-use Rattle.walks.specs.Steps.{Piece, Walked, InAnswer, Room, ExprAt}
+use Rattle.walks.specs.Steps.{Piece, InAnswer, ExprAt}
 use Rattle.walks.specs.declared.Walk.{Walk}
 use Rattle.walks.proofs.Frames.{kept-none}
 use Rattle.walks.proofs.Steps.{stop, stored, Own, written}

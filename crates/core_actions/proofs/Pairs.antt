@@ -12,12 +12,12 @@ use Rattle.rules.specs.Refusals.{Res, ok, _>>=_}
 use Rattle.rules.specs.Signature.{Sig}
 use Rattle.rules.specs.Written.{readExpr}
 use Rattle.rules.specs.ToCoreActions.{Done, lowerUnion}
-use Rattle.walks.specs.Steps.{Piece, both, andThen, Walked, InAnswer, Room, ExprAt}
+use Rattle.walks.specs.Steps.{Piece, both, andThen, InAnswer, ExprAt}
 use Rattle.walks.specs.declared.Walk.{Walk}
 use Rattle.walks.proofs.Steps.{went, stop, walk-then, written}
 use Rattle.walks.proofs.Read.{moved}
 use Rattle.walks.proofs.Asks.{counted-kept, right-there}
-use Rattle.core_actions.specs.Scopes.{Scoped, ScopeRoom}
+use Rattle.core_actions.specs.Scopes.{Scoped}
 use Rattle.core_actions.specs.Lowered.{lowered}
 use Rattle.core_actions.specs.Acts.{PairAt, Gave}
 use Rattle.core_actions.specs.declared.actions.Acted.{Acted}

@@ -9,8 +9,8 @@ use Rattle.octets.proofs.Words.{length-words, length-words-kept}
 use Rattle.rules.specs.Words.{maxDepth, countOf}
 use Rattle.core_actions.specs.Acts.{ChangeAt}
 use Rattle.core_actions.proofs.Sites.{Site, site-of, begun, begun-as}
-use Rattle.core_actions.proofs.Changes.{exprs-ask, Argued, argued, Fine, is-fine, Used}
-use Rattle.core_actions.proofs.Changes.{change-at, Changing, change-refused, change-full, change-done}
+use Rattle.core_actions.proofs.Changes.{exprs-ask, Argued, argued, Fine, is-fine}
+use Rattle.core_actions.proofs.Changes.{change-at, Changing, change-refused, Counting, counting, change-full, change-done}
 use borrow.Author.Needs.{needs}
 use Rattle.core_actions.proofs.actions.lower_change.Statement.{statement}
 use Rattle.core_actions.proofs.actions.lower_change.Tie as tie
@@ -105,12 +105,14 @@ abbrev take-else : tie.After-take → tie.Else1
 take-else c = c .before .before .before
 
 at-take : (c : tie.After-take)
-    → let a = else-args (take-else c) .lower-arguments in
-    Used (args-get (else-args (take-else c)) .get .result) (a .result .log) (words (a .last .1 .1 .1 .1 .1 .1 .0)) (words (a .last .1 .1 .1 .1 .1 .0))
+    → let g = args-get (else-args (take-else c)) in
+    Counting (site (start g)) (start g .args .code) (start g .args .more) (g .get .result) (else-args (take-else c) .lower-arguments .result)
     (words (c .take .last .1 .0)) (words (c .take .last .0)) (c .take .result)
 at-take c =
     let t = c .take in
-    record { taken = t .ensures; size = length-words-kept _ _ (t .kept .1 .0); counters = length-words-kept _ _ (t .kept .0) }
+    let a = else-args (take-else c) in
+    counting (at-get (args-get a)) (at-args a) (at-else (take-else c))
+    (record { taken = t .ensures; size = length-words-kept _ _ (t .kept .1 .0); counters = length-words-kept _ _ (t .kept .0) })
 
 -- both slices are as long as at the start
 counters-kept : (c : tie.After-take) → length (c .take .last .0) ≡ length (start (args-get (else-args (take-else c))) .args .counters .now)
@@ -125,7 +127,7 @@ abbrev then-take : tie.Then2 → tie.After-take
 then-take c = c .before .before .before .before .before
 
 add-t29 : tie.Need-add-t29
-add-t29 c = omega (arith, at-else (take-else (then-take c)))
+add-t29 c = omega (arith, at-take (then-take c) .fine)
 
 same-length-3 : tie.Need-same-length-3
 same-length-3 c = counters-kept (then-take c)
@@ -134,10 +136,7 @@ same-length-4 : tie.Need-same-length-4
 same-length-4 c = scratch-kept (then-take c)
 
 returns-2 : tie.Need-returns-2
-returns-2 c =
-    let t = then-take c in
-    let a = else-args (take-else t) in
-    change-full (at-get (args-get a)) (at-args a) (take-else t .if1 .left) (at-take t) (c .if2 .taken)
+returns-2 c = change-full (at-take (then-take c)) (c .if2 .taken)
 
 -- ---- the action is written
 
@@ -149,18 +148,17 @@ put-else c = c .before .before
 
 put-terms-requires : tie.Need-put-terms-requires
 put-terms-requires c κs =
-    let t = else-take (c .before) in
-    let f = at-else (take-else t) in
-    (f .words, omega (arith, f .stack, at-take t .size))
+    let t = at-take (else-take (c .before)) in
+    (t .fine .words, omega (arith, t .fine .stack, t .used .size))
 
 add-t17 : tie.Need-add-t17
-add-t17 c = omega (arith, at-else (take-else (else-take (put-else (c .before .before .before)))))
+add-t17 c = omega (arith, at-take (else-take (put-else (c .before .before .before))) .fine)
 
 sub-t34 : tie.Need-sub-t34
-sub-t34 c = at-else (take-else (else-take (put-else (c .before .before .before .before)))) .logged
+sub-t34 c = at-take (else-take (put-else (c .before .before .before .before))) .fine .logged
 
 add-t35 : tie.Need-add-t35
-add-t35 c = omega (arith, at-else (take-else (else-take (put-else (c .before .before .before .before)))))
+add-t35 c = omega (arith, at-take (else-take (put-else (c .before .before .before .before))) .fine)
 
 same-length-5 : tie.Need-same-length-5
 same-length-5 c = counters-kept (else-take (put-else (c .before .before .before .before)))
@@ -171,9 +169,7 @@ same-length-6 c = let p = c .before .before .before .before in p .put-terms .kep
 returns-3 : tie.Need-returns-3
 returns-3 c =
     let p = c .before .before .before .before in
-    let t = else-take (put-else p) in
-    let a = else-args (take-else t) in
-    change-done (at-get (args-get a)) (at-args a) (take-else t .if1 .left) (at-take t) (put-else p .if2 .left) (p .put-terms .ensures)
+    change-done (at-take (else-take (put-else p))) (put-else p .if2 .left) (p .put-terms .ensures)
 
 pub lower-change-spec : {M : Type 1} → statement M
 lower-change-spec =
