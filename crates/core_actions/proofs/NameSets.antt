@@ -1,6 +1,6 @@
 -- A union of a name and a call that becomes a set. The call's arguments are those of an action with a head (`Changes`), and the name is one more
 -- term behind them. What is known at each step of `set_name`, and each way out. Assumes nothing.
-use mathlib.Core.Path.{_≡_, refl, sym, ap, subst}
+use mathlib.Core.Path.{_≡_, refl, sym, ap, _∙_, subst}
 use mathlib.Core.Bool.{Bool, true, false}
 use mathlib.Core.List.{List, _∷_}
 use Prim.Native.Nat.{ℕ, _+_, _-_, _*_, _≤_, _<_}
@@ -69,6 +69,10 @@ abbrev pub Answers : Site → List ℕ → List ℕ → Acted → Type 0
 Answers k s′ cs′ r =
     Every k (λ sig. NameCallAt sig (k .ws) (k .at))
     (λ sig x bound. Does k sig (set-of k (second k) (third k) sig bound (x .exprs .value)) (3 + x .exprs .size) s′ cs′ r)
+
+-- what the test of the name says, with s1 left behind
+abbrev pub Test : Site → (s1 : List ℕ) (v : ℕ) → Bool → Type 0
+Test k s1 v b = (sig : Sig) (bound : List ℕ) → Scoped sig bound s1 (k .scope) → v < freshBase → b ≡ readable sig bound v
 
 -- ---- what the definition makes of it
 
@@ -149,7 +153,7 @@ module _ {k : Site} {v w : ℕ} (h : Naming k v w) where
           (k .at + 2) s1 cs1 (early t)
       first t = placed (k .at + 2) (early t) (args t) (walk t) (f .fine) refl refl refl refl (λ p u. record { size = u .size; terms = u .terms; uses = u .uses })
 
-      module _ {b : Bool} (test : (sig : Sig) (bound : List ℕ) → Scoped sig bound s1 (k .scope) → v < freshBase → b ≡ readable sig bound v) where
+      module _ {b : Bool} (test : Test k s1 v b) where
         tested : (t : Tree k (NameCall k v w)) → b ≡ readable (t .sig) (t .bound) v
         tested t =
             let x = t .it .call .exprs in
@@ -181,7 +185,7 @@ module _ {k : Site} {v w : ℕ} (h : Naming k v w) where
                 (first t) refl (second t) (λ p q t u. u) in
                 stop (3 + x .size) (k .at) (andThen (args t) (name t)) (closing (actionWord 2) 1 (k .at + 2) (headOf w)) halted (λ z. omega arith) (omega arith)
 
-        -- ---- the name is put behind them, which leaves s2, and a fresh variable u is taken
+        -- ---- the name is put behind them, which leaves s2
 
         module _ (may : b ≡ true) {s2 : List ℕ} (push : s2 ≡ set s1 (k .sp + countOf w) v) where
           -- the answer as it is when the name is read, too
@@ -220,13 +224,40 @@ module _ {k : Site} {v w : ℕ} (h : Naming k v w) where
               (first t) refl there (λ p q y u. stacked p q (countOf w + 1) refl (omega arith) refl (there .kept) y u) in
               record { behind = x .size + 1; whole = omega arith; walk = all; fine = refl; many = omega arith; inside = omega arith; room = r }
 
-          module _ {s3 cs2 : List ℕ} {u : ℕ} (o : Used w (a .log) s2 cs1 s3 cs2 u) where
-            pub used-up : u ≡ 0 → Answers k s3 cs2 (ended (record { next = k .at + 2; to = a .to; log = a .log; term = 0; refused = usedUp }))
-            used-up z = answers (λ t. refused t (closed-full (termed t) (actionWord 2) 1 (k .at + 2) o 0 z) (λ y. omega arith))
+-- ---- one count of the head is used, which leaves s3 and cs2
 
-            -- the set is written, up to e, which leaves s4
-            pub set-done : {s4 : List ℕ} {e : ℕ} → (u ≡ 0 → ⊥)
-                → (e ≡ a .to + 2 + (countOf w + 1)) × (s4 ≡ splice s3 (a .to) (actionWord 2 ∷ w ∷ part s3 (k .sp) (countOf w + 1)))
-                → Answers k s4 cs2
-                (record { walk = record { next = a .next; to = e; log = a .log + 1; term = 0; refused = 0 }; names = 0; count = a .log - k .lg + 1 })
-            set-done some put = answers (λ t. done t (closed (termed t) (actionWord 2) 1 (k .at + 2) o (t .it .call .high) refl some put) refl)
+pub record Counting (k : Site) (v w : ℕ) (a : Walk) (s3 cs2 : List ℕ) (u : ℕ) : Type 0 where
+  pub naming : Naming k v w
+  pub s1 : List ℕ
+  pub cs1 : List ℕ
+  pub s2 : List ℕ
+  pub args : Argued k 3 (maxDepth - 1) (countOf w) w s1 cs1 a
+  pub fine : Fine args
+  pub b : Bool
+  pub test : Test k s1 v b
+  pub may : b ≡ true
+  pub push : s2 ≡ set s1 (k .sp + countOf w) v
+  pub used : Used w (a .log) s2 cs1 s3 cs2 u
+  pub size : length s3 ≡ length s1
+
+pub counting : {k : Site} {v w : ℕ} {a : Walk} {s1 cs1 s2 s3 cs2 : List ℕ} {b : Bool} {u : ℕ} → Naming k v w → (m : Argued k 3 (maxDepth - 1) (countOf w) w s1 cs1 a)
+    → Fine m → Test k s1 v b → b ≡ true → s2 ≡ set s1 (k .sp + countOf w) v → length s2 ≡ length s1 → Used w (a .log) s2 cs1 s3 cs2 u → Counting k v w a s3 cs2 u
+counting {s1 = s1} {cs1 = cs1} {s2 = s2} {b = b} h m f test may push same o =
+    record { naming = h; s1 = s1; cs1 = cs1; s2 = s2; args = m; fine = f; b = b; test = test; may = may; push = push; used = o; size = o .size ∙ same }
+
+module _ {k : Site} {v w : ℕ} {a : Walk} {s3 cs2 : List ℕ} {u : ℕ} (c : Counting k v w a s3 cs2 u) where
+  name-termed : (t : Tree k (NameCall k v w))
+      → Termed k (3 + t .it .call .exprs .size) (countOf w + 1) (andThen (args (c .naming) t) (name (c .naming) t)) (c .s2) (c .cs1)
+      (record { next = a .next; to = a .to; log = a .log; term = v; refused = 0 })
+  name-termed = termed (c .naming) (c .args) (c .fine) (c .test) (c .may) (c .push)
+
+  pub used-up : u ≡ 0 → Answers k s3 cs2 (ended (record { next = k .at + 2; to = a .to; log = a .log; term = 0; refused = usedUp }))
+  used-up z = answers (c .naming) (λ t. refused (c .naming) t (closed-full (name-termed t) (actionWord 2) 1 (k .at + 2) (c .used) 0 z) (λ y. omega arith))
+
+  -- the set is written, up to e, which leaves s4
+  pub set-done : {s4 : List ℕ} {e : ℕ} → (u ≡ 0 → ⊥)
+      → (e ≡ a .to + 2 + (countOf w + 1)) × (s4 ≡ splice s3 (a .to) (actionWord 2 ∷ w ∷ part s3 (k .sp) (countOf w + 1)))
+      → Answers k s4 cs2
+      (record { walk = record { next = a .next; to = e; log = a .log + 1; term = 0; refused = 0 }; names = 0; count = a .log - k .lg + 1 })
+  set-done some put =
+      answers (c .naming) (λ t. done (c .naming) t (closed (name-termed t) (actionWord 2) 1 (k .at + 2) (c .used) (t .it .call .high) refl some put) refl)

@@ -9,8 +9,8 @@ use Rattle.octets.proofs.Words.{length-words, length-words-kept}
 use Rattle.rules.specs.Words.{maxDepth, countOf}
 use Rattle.core_actions.specs.Acts.{NameCallAt}
 use Rattle.core_actions.proofs.Sites.{Site, site-of, begun, begun-as}
-use Rattle.core_actions.proofs.Changes.{exprs-ask, Argued, argued, Fine, is-fine, Used}
-use Rattle.core_actions.proofs.NameSets.{name-call-at, Naming, args-refused, name-asks, name-refused, used-up, set-done}
+use Rattle.core_actions.proofs.Changes.{exprs-ask, Argued, argued, Fine, is-fine}
+use Rattle.core_actions.proofs.NameSets.{name-call-at, Naming, args-refused, name-asks, name-refused, Counting, counting, used-up, set-done}
 use borrow.Author.Needs.{needs}
 use Rattle.core_actions.proofs.actions.set_name.Statement.{statement}
 use Rattle.core_actions.proofs.actions.set_name.Tie as tie
@@ -138,12 +138,16 @@ abbrev take-else : tie.After-take → tie.Else1
 take-else c = then-else (put-then (take-put c))
 
 at-take : (c : tie.After-take)
-    → let a = else-args (take-else c) .lower-arguments in
-    Used (args-call (else-args (take-else c)) .get2 .result) (a .result .log) (words (take-put c .put .last .0)) (words (a .last .1 .1 .1 .1 .1 .0))
+    → let g = args-call (else-args (take-else c)) in
+    Counting (site (start (g .before))) (g .before .get .result) (g .get2 .result) (else-args (take-else c) .lower-arguments .result)
     (words (c .take .last .1 .0)) (words (c .take .last .0)) (c .take .result)
 at-take c =
     let t = c .take in
-    record { taken = t .ensures; size = length-words-kept _ _ (t .kept .1 .0); counters = length-words-kept _ _ (t .kept .0) }
+    let p = take-put c in
+    let d = put-then p in
+    let a = else-args (then-else d) in
+    counting (at-get (args-call a)) (at-args a) (at-else (then-else d)) (d .before .may-read .ensures) (d .if2 .taken) (p .put .ensures) (at-put p)
+    (record { taken = t .ensures; size = length-words-kept _ _ (t .kept .1 .0); counters = length-words-kept _ _ (t .kept .0) })
 
 -- both slices are as long as at the start
 counters-kept : (c : tie.After-take) → length (c .take .last .0) ≡ length (start (args-call (else-args (take-else c)) .before) .args .counters .now)
@@ -158,7 +162,7 @@ abbrev then-take : tie.Then3 → tie.After-take
 then-take c = c .before .before .before .before .before
 
 add-t36 : tie.Need-add-t36
-add-t36 c = omega (arith, at-else (take-else (then-take c)))
+add-t36 c = omega (arith, at-take (then-take c) .fine)
 
 same-length-3 : tie.Need-same-length-3
 same-length-3 c = counters-kept (then-take c)
@@ -167,12 +171,7 @@ same-length-4 : tie.Need-same-length-4
 same-length-4 c = scratch-kept (then-take c)
 
 returns-2 : tie.Need-returns-2
-returns-2 c =
-    let t = then-take c in
-    let d = put-then (take-put t) in
-    let a = else-args (then-else d) in
-    used-up (at-get (args-call a)) (at-args a) (at-else (then-else d)) (d .before .may-read .ensures) (d .if2 .taken)
-    (take-put t .put .ensures) (at-take t) (c .if3 .taken)
+returns-2 c = used-up (at-take (then-take c)) (c .if3 .taken)
 
 -- ---- the set is written
 
@@ -183,22 +182,21 @@ abbrev terms-else : tie.After-put-terms → tie.Else3
 terms-else c = c .before .before
 
 add-put-terms : tie.Need-add-put-terms
-add-put-terms c = omega (arith, at-else (take-else (else-take (c .before))))
+add-put-terms c = omega (arith, at-take (else-take (c .before)) .fine)
 
 put-terms-requires : tie.Need-put-terms-requires
 put-terms-requires c κs =
-    let t = else-take (c .before) in
-    let f = at-else (take-else t) in
-    (f .words, omega (arith, f .stack, at-put (take-put t), at-take t .size))
+    let t = at-take (else-take (c .before)) in
+    (t .fine .words, omega (arith, t .fine .stack, t .size))
 
 add-t30 : tie.Need-add-t30
-add-t30 c = omega (arith, at-else (take-else (else-take (terms-else (c .before .before .before)))))
+add-t30 c = omega (arith, at-take (else-take (terms-else (c .before .before .before))) .fine)
 
 sub-t41 : tie.Need-sub-t41
-sub-t41 c = at-else (take-else (else-take (terms-else (c .before .before .before .before)))) .logged
+sub-t41 c = at-take (else-take (terms-else (c .before .before .before .before))) .fine .logged
 
 add-t42 : tie.Need-add-t42
-add-t42 c = omega (arith, at-else (take-else (else-take (terms-else (c .before .before .before .before)))))
+add-t42 c = omega (arith, at-take (else-take (terms-else (c .before .before .before .before))) .fine)
 
 same-length-5 : tie.Need-same-length-5
 same-length-5 c = counters-kept (else-take (terms-else (c .before .before .before .before)))
@@ -209,11 +207,7 @@ same-length-6 c = let p = c .before .before .before .before in p .put-terms .kep
 returns-3 : tie.Need-returns-3
 returns-3 c =
     let p = c .before .before .before .before in
-    let t = else-take (terms-else p) in
-    let d = put-then (take-put t) in
-    let a = else-args (then-else d) in
-    set-done (at-get (args-call a)) (at-args a) (at-else (then-else d)) (d .before .may-read .ensures) (d .if2 .taken)
-    (take-put t .put .ensures) (at-take t) (terms-else p .if3 .left) (p .put-terms .ensures)
+    set-done (at-take (else-take (terms-else p))) (terms-else p .if3 .left) (p .put-terms .ensures)
 
 -- ---- the name may not be read
 
