@@ -12,7 +12,7 @@ use Rattle.rules.specs.Words.{maxDepth, freshBase, actionWord}
 use Rattle.rules.specs.Refusals.{Res, ok, refuse, _>>=_, alreadyDefined}
 use Rattle.rules.specs.Signature.{Sig, elem}
 use Rattle.rules.specs.Flat.{Let}
-use Rattle.rules.specs.ToCoreActions.{Low, lowerExpr, lowerLet}
+use Rattle.rules.specs.ToCoreActions.{Low, Done, lowerExpr, lowerLet}
 use Rattle.walks.specs.Steps.{Piece, InAnswer, ExprAt}
 use Rattle.walks.specs.declared.Walk.{Walk}
 use Rattle.walks.proofs.Frames.{kept-none}
@@ -27,16 +27,19 @@ use Rattle.core_actions.proofs.Does.{Does, second}
 use Rattle.core_actions.proofs.Sites.{Site, Asks, Every, WalkedAt, Tree, tree, Begun, begun-as, asks}
 use Rattle.core_actions.proofs.Acting.{ended, acts-stop, LowAt, Fine, is-fine}
 
+abbrev pub LetThere : Site → Sig → Type 0
+LetThere k sig = LetAt sig (k .ws) (k .at)
+
 -- what the contract says of an answer
 abbrev pub Answers : Site → List ℕ → List ℕ → Acted → Type 0
 Answers k s′ cs′ r =
-    Every k (λ sig. LetAt sig (k .ws) (k .at))
+    Every k (LetThere k)
     (λ sig x bound. Does k sig (lowerLet (elem (second k) bound) sig bound (k .at) (second k) (x .expr .value) (k .cs)) (2 + x .expr .size) s′ cs′ r)
 
 -- ---- the name is read as v
 
 pub record Letting (k : Site) (v : ℕ) : Type 0 where
-  pub begun : Begun k (λ sig. LetAt sig (k .ws) (k .at))
+  pub begun : Begun k (LetThere k)
   pub is : v ≡ second k
   pub end : k .scope .first + k .scope .names ≡ k .sp
 
@@ -49,128 +52,142 @@ module _ {k : Site} {v : ℕ} (h : Letting k v) where
   pub expr-asks : Asks k (λ sig. ExprAt sig (k .ws) maxDepth (k .at + 2)) (k .at + 2)
   expr-asks = asks (begun-as {Y = λ sig. ExprAt sig (k .ws) maxDepth (k .at + 2)} (h .begun) (λ sig x. x .expr)) (k .at + 2) (omega arith)
 
-  abbrev lets : Type 0
-  lets = Tree k (λ sig. LetAt sig (k .ws) (k .at))
+-- ---- whether the name is bound, b
 
-  -- ---- the name is bound where b is true
+-- what the test says
+abbrev pub Test : Site → ℕ → Bool → Type 0
+Test k v b = (sig : Sig) (bound : List ℕ) → Scoped sig bound (k .s) (k .scope) → v < freshBase → b ≡ elem v bound
 
-  abbrev Ends : Bool → List ℕ → List ℕ → Acted → lets → Type 0
-  Ends b s′ cs′ r t =
-      Does k (t .sig) (lowerLet b (t .sig) (t .bound) (k .at) v (t .it .expr .value) (k .cs)) (2 + t .it .expr .size) s′ cs′ r
+abbrev let-of : (k : Site) → ℕ → Bool → Tree k (LetThere k) → Res Done
+let-of k v b t = lowerLet b (t .sig) (t .bound) (k .at) v (t .it .expr .value) (k .cs)
 
-  module _ {b : Bool} (test : (sig : Sig) (bound : List ℕ) → Scoped sig bound (k .s) (k .scope) → v < freshBase → b ≡ elem v bound) where
-    answers : {s′ cs′ : List ℕ} {r : Acted} (b′ : Bool) → b ≡ b′ → ((t : lets) → Ends b′ s′ cs′ r t) → Answers k s′ cs′ r
-    answers {s′} {cs′} {r} b′ e f sig x bound n sc =
-        let there : b ≡ elem v bound = test sig bound sc (subst (λ (u : ℕ). u < freshBase) (sym (h .is)) (x .old)) in
-        subst
-        (λ (u : ℕ). Does k sig (lowerLet (elem u bound) sig bound (k .at) u (x .expr .value) (k .cs)) (2 + x .expr .size) s′ cs′ r) (h .is)
-        (subst (λ (u : Bool). Ends u s′ cs′ r (tree sig x bound n sc)) (sym e ∙ there) (f (tree sig x bound n sc)))
+abbrev Ends : (k : Site) → ℕ → Bool → List ℕ → List ℕ → Acted → Tree k (LetThere k) → Type 0
+Ends k v b s′ cs′ r t = Does k (t .sig) (let-of k v b t) (2 + t .it .expr .size) s′ cs′ r
 
-    pub let-twice : b ≡ true → Answers k (k .s) (k .cs) (ended (record { next = k .at; to = k .to; log = k .lg; term = 0; refused = alreadyDefined }))
-    let-twice e = answers true e twice
-      where
-        twice : (t : lets) → Ends true (k .s) (k .cs) (ended (record { next = k .at; to = k .to; log = k .lg; term = 0; refused = alreadyDefined })) t
-        twice t =
-            let m : ℕ = 2 + t .it .expr .size in
-            record {
-              piece =
-                  record {
-                    kept = kept-none (k .to) (k .to + 4 * m) (k .sp) (k .sp + m) (k .lg) (k .lg + m) (k .s) (k .cs) (omega arith);
-                    ended = record { number = refl; place = refl; some = omega arith };
-                  };
-              after = tt;
-            }
+module _ {k : Site} {v : ℕ} (h : Letting k v) {b : Bool} (test : Test k v b) where
+  answers : {s′ cs′ : List ℕ} {r : Acted} (b′ : Bool) → b ≡ b′ → ((t : Tree k (LetThere k)) → Ends k v b′ s′ cs′ r t) → Answers k s′ cs′ r
+  answers {s′} {cs′} {r} b′ e f sig x bound n sc =
+      let there : b ≡ elem v bound = test sig bound sc (subst (λ (u : ℕ). u < freshBase) (sym (h .is)) (x .old)) in
+      subst
+      (λ (u : ℕ). Does k sig (lowerLet (elem u bound) sig bound (k .at) u (x .expr .value) (k .cs)) (2 + x .expr .size) s′ cs′ r) (h .is)
+      (subst (λ (u : Bool). Ends k v u s′ cs′ r (tree sig x bound n sc)) (sym e ∙ there) (f (tree sig x bound n sc)))
 
-    -- ---- it is free, and the expression is lowered: e, with s1 and cs1 left behind
-
-    module _ (free : b ≡ false) {s1 cs1 : List ℕ} {e : Walk} (l : LowAt k (k .at + 2) s1 cs1 e) where
-      abbrev low : lets → Res Piece
-      low t = lowered (t .sig) (t .bound) (t .it .expr .value) (k .cs)
-
-      walk : (t : lets) → WalkedAt k 1 (InAnswer (k .lg) e) (low t) (t .it .expr .size) (k .at + 2) s1 cs1 e
-      walk t = l .walk (t .sig) (t .it .expr) (t .bound) (t .counted) (t .scoped)
-
-      pub let-refused : (e .refused ≡ 0 → ⊥) → Answers k s1 cs1 (ended e)
-      let-refused bad = answers false free stopped
-        where
-          stopped : (t : lets) → Ends false s1 cs1 (ended e) t
-          stopped t =
-              acts-stop (lowerLet false (t .sig) (t .bound) (k .at) v (t .it .expr .value) (k .cs))
-              (rw (done-let (t .sig) (t .bound) (k .at) v (t .it .expr .value) (k .cs))
-              (stop (2 + t .it .expr .size) (k .at) (low t) (λ q. ok (letPiece v q)) (walk t) bad (omega arith))) bad
-
-      -- ---- it is fine
-
-      pub let-fine : e .refused ≡ 0 → Fine k s1 e
-      let-fine fine = let t = h .begun .tree in is-fine (h .begun) (low t) (walk t) (omega arith) (t .it .expr .inside) fine
-
-      -- the action is written, up to to′, which leaves s2, and the name is put, which leaves s3
-      module _ (fine : e .refused ≡ 0) {s2 s3 : List ℕ} {to′ : ℕ}
-          (put : (to′ ≡ e .to + 3) × (s2 ≡ splice s1 (e .to) (actionWord 1 ∷ v ∷ e .term ∷ []))) (push : s3 ≡ set s2 (k .sp) v) where
-        abbrev answer : Acted
-        answer = record { walk = record { next = e .next; to = to′; log = e .log; term = 0; refused = 0 }; names = 1; count = e .log - k .lg + 1 }
-
-        abbrev Writes : List ℕ → lets → Type 0
-        Writes s′ t =
-            WalkedAt k 0 (Gave answer) (_>>=_ (low t) (λ q. ok (letPiece v q))) (2 + t .it .expr .size)
-            (k .at) s′ cs1 (answer .walk)
-
-        -- room for the whole let
-        record LetRoom (size : ℕ) : Type 0 where
-          pub words : k .to + 4 * (2 + size) ≤ k .sp
-          pub stack : k .sp + (2 + size) ≤ k .lg
-          pub log : k .lg + (2 + size) ≤ length (k .s)
-
-        let-room : (t : lets) → LetRoom (t .it .expr .size)
-        let-room t =
-            let r = h .begun .room in
-            let i = t .it .expr .inside in
-            record { words = omega (arith, r .words); stack = omega (arith, r .stack); log = omega (arith, r .log) }
-
-        action : (t : lets) → Writes s2 t
-        action t =
-            let r = let-room t in
-            let n : ℕ = t .it .expr .size in
-            let ys : List ℕ = actionWord 1 ∷ v ∷ e .term ∷ [] in
-            let own : (p : Piece) → InAnswer (k .lg) e p → Own (Gave answer) p ys (p .next) (letPiece v p) =
-            λ p u. record { words = λ j. p .words ++ actionWord 1 ∷ v ∷ u .term j; counters = refl; terms = gave p u } in
-            written 0 (Gave answer) n (2 + n) (k .at + 2) (k .at) (k .to) (k .sp) (k .lg) (k .s) (k .cs) s1 cs1 s2 ys e to′ 0 (low t) (letPiece v)
-            (r .words) (r .stack) (r .log) (omega arith) (omega arith) (omega arith) (walk t) fine (put .1) (put .0) own
-          where
-            gave : (p : Piece) → InAnswer (k .lg) e p → p .count + 1 ≡ e .log - k .lg + 1
-            gave p u = omega (arith, u .uses)
-
-        named : (t : lets) → Writes s3 t
-        named t =
-            let r = let-room t in
-            stored v (_>>=_ (low t) (λ q. ok (letPiece v q))) (action t) refl push (omega arith) (r .words) (r .stack) (r .log) (λ p here room u. u)
-
-        after : (t : lets) (y : Res Low)
-            → ScopeAfter (_>>=_ y (λ q. ok (record { acts = q .acts ++ Let v (q .term) ∷ []; bound = v ∷ t .bound; next = q .next })))
-            (t .sig) (k .scope) s3 answer
-        after t (refuse n p) = tt
-        after t (ok q) =
-            let r = let-room t in
-            let i = t .it .expr .inside in
-            let sr = h .begun .scopeRoom in
-            let stack = r .stack in
-            let log = r .log in
-            let end = h .end in
-            let z = action t .kept .size in
-            let kp = named t .kept in
-            let here : getD s3 (k .scope .first + k .scope .names) 0 ≡ v =
-            ap (λ (j : ℕ). getD s3 j 0) end ∙ ap (λ (l : List ℕ). getD l (k .sp) 0) push ∙ getD-set-same s2 (k .sp) v 0 (omega arith) in (
-              omega arith,
-              scope-let (t .sig) (t .bound) (k .s) s3 (k .scope) v (t .scoped) (kp .size) (omega arith) (λ j x. kp .below j (omega (arith, sr .body)))
-                  (λ j x y. kp .between j (omega (arith, sr .names)) (omega arith)) here,
-            )
-
-        pub let-done : Answers k s3 cs1 answer
-        let-done = answers false free done
-          where
-            done : (t : lets) → Ends false s3 cs1 answer t
-            done t =
+  pub let-twice : b ≡ true → Answers k (k .s) (k .cs) (ended (record { next = k .at; to = k .to; log = k .lg; term = 0; refused = alreadyDefined }))
+  let-twice e = answers true e twice
+    where
+      twice : (t : Tree k (LetThere k))
+          → Ends k v true (k .s) (k .cs) (ended (record { next = k .at; to = k .to; log = k .lg; term = 0; refused = alreadyDefined })) t
+      twice t =
+          let m : ℕ = 2 + t .it .expr .size in
+          record {
+            piece =
                 record {
-                  piece = rw (done-let (t .sig) (t .bound) (k .at) v (t .it .expr .value) (k .cs)) (named t);
-                  after = after t (lowerExpr (t .sig) (t .bound) (t .it .expr .value) (k .cs));
-                }
+                  kept = kept-none (k .to) (k .to + 4 * m) (k .sp) (k .sp + m) (k .lg) (k .lg + m) (k .s) (k .cs) (omega arith);
+                  ended = record { number = refl; place = refl; some = omega arith };
+                };
+            after = tt;
+          }
+
+-- it is free
+pub record Free (k : Site) (v : ℕ) : Type 0 where
+  pub letting : Letting k v
+  pub b : Bool
+  pub test : Test k v b
+  pub free : b ≡ false
+
+pub is-free : {k : Site} {v : ℕ} {b : Bool} → Letting k v → Test k v b → b ≡ false → Free k v
+is-free {b = b} h test free = record { letting = h; b = b; test = test; free = free }
+
+-- ---- the expression is lowered: e, with s1 and cs1 left behind
+
+module _ {k : Site} {v : ℕ} (f : Free k v) {s1 cs1 : List ℕ} {e : Walk} (l : LowAt k (k .at + 2) s1 cs1 e) where
+  abbrev low : Tree k (LetThere k) → Res Piece
+  low t = lowered (t .sig) (t .bound) (t .it .expr .value) (k .cs)
+
+  walk : (t : Tree k (LetThere k)) → WalkedAt k 1 (InAnswer (k .lg) e) (low t) (t .it .expr .size) (k .at + 2) s1 cs1 e
+  walk t = l .walk (t .sig) (t .it .expr) (t .bound) (t .counted) (t .scoped)
+
+  pub let-refused : (e .refused ≡ 0 → ⊥) → Answers k s1 cs1 (ended e)
+  let-refused bad = answers (f .letting) (f .test) false (f .free) stopped
+    where
+      stopped : (t : Tree k (LetThere k)) → Ends k v false s1 cs1 (ended e) t
+      stopped t =
+          acts-stop (let-of k v false t)
+          (rw (done-let (t .sig) (t .bound) (k .at) v (t .it .expr .value) (k .cs))
+          (stop (2 + t .it .expr .size) (k .at) (low t) (λ q. ok (letPiece v q)) (walk t) bad (omega arith))) bad
+
+  -- ---- it is fine
+
+  pub let-fine : e .refused ≡ 0 → Fine k s1 e
+  let-fine fine = let t = f .letting .begun .tree in is-fine (f .letting .begun) (low t) (walk t) (omega arith) (t .it .expr .inside) fine
+
+  -- the action is written, up to to′, which leaves s2, and the name is put, which leaves s3
+  module _ (fine : e .refused ≡ 0) {s2 s3 : List ℕ} {to′ : ℕ}
+      (put : (to′ ≡ e .to + 3) × (s2 ≡ splice s1 (e .to) (actionWord 1 ∷ v ∷ e .term ∷ []))) (push : s3 ≡ set s2 (k .sp) v) where
+    abbrev answer : Acted
+    answer = record { walk = record { next = e .next; to = to′; log = e .log; term = 0; refused = 0 }; names = 1; count = e .log - k .lg + 1 }
+
+    abbrev Writes : List ℕ → Tree k (LetThere k) → Type 0
+    Writes s′ t =
+        WalkedAt k 0 (Gave answer) (_>>=_ (low t) (λ q. ok (letPiece v q))) (2 + t .it .expr .size)
+        (k .at) s′ cs1 (answer .walk)
+
+    -- room for the whole let
+    record LetRoom (size : ℕ) : Type 0 where
+      pub words : k .to + 4 * (2 + size) ≤ k .sp
+      pub stack : k .sp + (2 + size) ≤ k .lg
+      pub log : k .lg + (2 + size) ≤ length (k .s)
+
+    let-room : (t : Tree k (LetThere k)) → LetRoom (t .it .expr .size)
+    let-room t =
+        let r = f .letting .begun .room in
+        let i = t .it .expr .inside in
+        record { words = omega (arith, r .words); stack = omega (arith, r .stack); log = omega (arith, r .log) }
+
+    action : (t : Tree k (LetThere k)) → Writes s2 t
+    action t =
+        let r = let-room t in
+        let n : ℕ = t .it .expr .size in
+        let ys : List ℕ = actionWord 1 ∷ v ∷ e .term ∷ [] in
+        let own : (p : Piece) → InAnswer (k .lg) e p → Own (Gave answer) p ys (p .next) (letPiece v p) =
+        λ p u. record { words = λ j. p .words ++ actionWord 1 ∷ v ∷ u .term j; counters = refl; terms = gave p u } in
+        written 0 (Gave answer) n (2 + n) (k .at + 2) (k .at) (k .to) (k .sp) (k .lg) (k .s) (k .cs) s1 cs1 s2 ys e to′ 0 (low t) (letPiece v)
+        (r .words) (r .stack) (r .log) (omega arith) (omega arith) (omega arith) (walk t) fine (put .1) (put .0) own
+      where
+        gave : (p : Piece) → InAnswer (k .lg) e p → p .count + 1 ≡ e .log - k .lg + 1
+        gave p u = omega (arith, u .uses)
+
+    named : (t : Tree k (LetThere k)) → Writes s3 t
+    named t =
+        let r = let-room t in
+        stored v (_>>=_ (low t) (λ q. ok (letPiece v q))) (action t) refl push (omega arith) (r .words) (r .stack) (r .log) (λ p here room u. u)
+
+    after : (t : Tree k (LetThere k)) (y : Res Low)
+        → ScopeAfter (_>>=_ y (λ q. ok (record { acts = q .acts ++ Let v (q .term) ∷ []; bound = v ∷ t .bound; next = q .next })))
+        (t .sig) (k .scope) s3 answer
+    after t (refuse n p) = tt
+    after t (ok q) =
+        let r = let-room t in
+        let i = t .it .expr .inside in
+        let sr = f .letting .begun .scopeRoom in
+        let stack = r .stack in
+        let log = r .log in
+        let end = f .letting .end in
+        let z = action t .kept .size in
+        let kp = named t .kept in
+        let here : getD s3 (k .scope .first + k .scope .names) 0 ≡ v =
+        ap (λ (j : ℕ). getD s3 j 0) end ∙ ap (λ (l : List ℕ). getD l (k .sp) 0) push ∙ getD-set-same s2 (k .sp) v 0 (omega arith) in (
+          omega arith,
+          scope-let (t .sig) (t .bound) (k .s) s3 (k .scope) v (t .scoped) (kp .size) (omega arith) (λ j x. kp .below j (omega (arith, sr .body)))
+              (λ j x y. kp .between j (omega (arith, sr .names)) (omega arith)) here,
+        )
+
+    pub let-done : Answers k s3 cs1 answer
+    let-done = answers (f .letting) (f .test) false (f .free) done
+      where
+        done : (t : Tree k (LetThere k)) → Ends k v false s3 cs1 answer t
+        done t =
+            record {
+              piece = rw (done-let (t .sig) (t .bound) (k .at) v (t .it .expr .value) (k .cs)) (named t);
+              after = after t (lowerExpr (t .sig) (t .bound) (t .it .expr .value) (k .cs));
+            }

@@ -8,7 +8,7 @@ use Rattle.octets.specs.Words.{words}
 use Rattle.octets.proofs.Words.{length-words, length-words-kept}
 use Rattle.core_actions.proofs.Sites.{Site, site-of, begun}
 use Rattle.core_actions.proofs.Acting.{LowAt, Fine}
-use Rattle.core_actions.proofs.Lets.{Letting, name-asks, expr-asks, let-twice, let-refused, let-fine, let-done}
+use Rattle.core_actions.proofs.Lets.{Letting, name-asks, expr-asks, let-twice, Free, is-free, let-refused, let-fine, let-done}
 use borrow.Author.Needs.{needs}
 use Rattle.core_actions.proofs.actions.lower_let.Statement.{statement}
 use Rattle.core_actions.proofs.actions.lower_let.Tie as tie
@@ -56,6 +56,9 @@ returns c = let t = c .before in let-twice (at-get (t .before .before)) (t .take
 abbrev else-get : tie.Else1 → tie.After-get
 else-get c = c .before .before .before
 
+at-free : (c : tie.Else1) → Free (site (start (else-get c))) (else-get c .get .result)
+at-free c = is-free (at-get (else-get c)) (c .before .taken .ensures) (c .if1 .left)
+
 add-lower : tie.Need-add-lower
 add-lower c = omega (arith, at-get (else-get c) .begun)
 
@@ -82,8 +85,7 @@ same-length-3 c = search needs
 returns-2 : tie.Need-returns-2
 returns-2 c =
     let l = c .before .before .before .before .before .before in
-    let f = low-else l in
-    let-refused (at-get (else-get f)) (f .before .taken .ensures) (f .if1 .left) (at-lower l) (c .if2 .taken)
+    let-refused (at-free (low-else l)) (at-lower l) (c .if2 .taken)
 
 -- ---- it is fine: the action, and the name behind those let
 
@@ -92,9 +94,7 @@ else-low c = c .before .before .before .before .before .before
 
 at-else : (c : tie.Else2)
     → let e = else-low c .lower in Fine (site (start (else-get (low-else (else-low c))))) (words (e .last .1 .1 .1 .1 .1 .0)) (e .result)
-at-else c =
-    let f = low-else (else-low c) in
-    let-fine (at-get (else-get f)) (f .before .taken .ensures) (f .if1 .left) (at-lower (else-low c)) (c .if2 .left)
+at-else c = let-fine (at-free (low-else (else-low c))) (at-lower (else-low c)) (c .if2 .left)
 
 put-three-requires : tie.Need-put-three-requires
 put-three-requires c κs = at-else (c .before) .words
@@ -129,8 +129,7 @@ returns-3 : tie.Need-returns-3
 returns-3 c =
     let p = c .before .before .before in
     let q = three-else (put-three p) in
-    let f = low-else (else-low q) in
-    let-done (at-get (else-get f)) (f .before .taken .ensures) (f .if1 .left) (at-lower (else-low q)) (q .if2 .left) (put-three p .put-three .ensures) (p .put .ensures)
+    let-done (at-free (low-else (else-low q))) (at-lower (else-low q)) (q .if2 .left) (put-three p .put-three .ensures) (p .put .ensures)
 
 pub lower-let-spec : {M : Type 1} → statement M
 lower-let-spec =
