@@ -40,124 +40,130 @@ pub left-asks : {k : Site} → Begun k (Pair k)
     → Asks k (λ sig. ExprAt sig (k .ws) maxDepth (k .at + 1)) (k .at + 1)
 left-asks {k} g = asks (begun-as {Y = λ sig. ExprAt sig (k .ws) maxDepth (k .at + 1)} g (λ sig x. x .left)) (k .at + 1) (omega arith)
 
+-- what both sides are lowered to, the right one from the counters that the left one leaves
+module _ {k : Site} (t : Tree k (Pair k)) where
+  abbrev X : Res Piece
+  X = lowered (t .sig) (t .bound) (t .it .left .value) (k .cs)
+
+  abbrev Y : List ℕ → Res Piece
+  Y = lowered (t .sig) (t .bound) (t .it .right .value)
+
+  abbrev size : ℕ
+  size = t .it .left .size + t .it .right .size
+
+  abbrev union : Res Done
+  union = lowerUnion (t .sig) (t .bound) none (t .it .left .value) (t .it .right .value) (k .cs)
+
+  abbrev Ends : List ℕ → List ℕ → Acted → Type 0
+  Ends s′ cs′ r = Does k (t .sig) union (1 + size) s′ cs′ r
+
+  -- a walk over both sides that stops
+  refused : {m p : ℕ} {T : Piece → Type 0} {s′ cs′ : List ℕ} {a : Walk} (n : ℕ) → WalkedAt k m T (andThen X Y) n p s′ cs′ a → n ≤ 1 + size → (a .refused ≡ 0 → ⊥)
+      → Ends s′ cs′ (ended a)
+  refused n w h bad =
+      acts-stop union
+      (rw (done-union (t .sig) (t .bound) (t .it .left .value) (t .it .right .value) (k .cs))
+      (stop (1 + size) (k .at) (andThen X Y) (λ q. ok (unionPiece q)) w bad h)) bad
+
 -- ---- the left side is lowered: l, with s1 and cs1 left behind
+
+module _ {k : Site} {s1 cs1 : List ℕ} {l : Walk} (left : LowAt k (k .at + 1) s1 cs1 l) where
+  walk : (t : Tree k (Pair k)) → WalkedAt k 1 (InAnswer (k .lg) l) (X t) (t .it .left .size) (k .at + 1) s1 cs1 l
+  walk t = left .walk (t .sig) (t .it .left) (t .bound) (t .counted) (t .scoped)
+
+  pub left-refused : (l .refused ≡ 0 → ⊥) → Answers k s1 cs1 (ended l)
+  left-refused bad sig x bound n sc = stopped (tree sig x bound n sc)
+    where
+      stopped : (t : Tree k (Pair k)) → Ends t s1 cs1 (ended l)
+      stopped t =
+          let one : WalkedAt k 0 (Gave (ended l)) (andThen (X t) (Y t)) (1 + size t) (k .at) s1 cs1 l =
+          stop (1 + size t) (k .at) (X t) (λ p. _>>=_ (Y t (p .next)) (λ q. ok (both p q))) (walk t) bad (omega arith) in
+          refused t (1 + size t) one (omega arith) bad
+
+-- ---- it is fine
+
+pub record LeftDone (k : Site) (s1 cs1 : List ℕ) (l : Walk) : Type 0 where
+  pub begun : Begun k (Pair k)
+  pub low : LowAt k (k .at + 1) s1 cs1 l
+  pub fine : l .refused ≡ 0
 
 -- the site of the right side
 abbrev pub behind : Site → (s1 cs1 : List ℕ) → Walk → Site
 behind k s1 cs1 l = site-of (k .ws) s1 cs1 (l .next) (l .to) (k .sp) (l .log) (k .scope)
 
-module _ {k : Site} (g : Begun k (Pair k)) {s1 cs1 : List ℕ} {l : Walk} (left : LowAt k (k .at + 1) s1 cs1 l) where
-  abbrev X : Tree k (Pair k) → Res Piece
-  X t = lowered (t .sig) (t .bound) (t .it .left .value) (k .cs)
+module _ {k : Site} {s1 cs1 : List ℕ} {l : Walk} (d : LeftDone k s1 cs1 l) where
+  scoped : (t : Tree k (Pair k)) → Scoped (t .sig) (t .bound) s1 (k .scope)
+  scoped t =
+      let i = t .it .right .inside in
+      let sr = d .begun .scopeRoom in
+      let here : ScopeRoomAt k (k .at + 1) = record { few = sr .few; body = sr .body; names = omega (arith, sr .names); top = sr .top } in
+      scope-after (length (k .ws)) (t .it .left .size) here (omega arith) (walk (d .low) t .kept) (t .scoped)
 
-  abbrev Y : Tree k (Pair k) → List ℕ → Res Piece
-  Y t = lowered (t .sig) (t .bound) (t .it .right .value)
+  -- the right side, where the walk stands
+  abbrev right : Tree k (Pair k) → Tree (behind k s1 cs1 l) (λ sig. ExprAt sig (k .ws) maxDepth (l .next))
+  right t =
+      let there = went (X t) (walk (d .low) t) (d .fine) .next in
+      tree (t .sig) (moved (readExpr (t .sig) (k .ws) maxDepth) (k .ws) (k .at + 1 + t .it .left .size) (l .next) (sym there) (t .it .right))
+      (t .bound) (counted-kept (t .counted) (d .low .counters)) (scoped t)
 
-  abbrev size : Tree k (Pair k) → ℕ
-  size t = t .it .left .size + t .it .right .size
+  -- what lowering it asks
+  pub right-asks : Asks (behind k s1 cs1 l) (λ sig. ExprAt sig (k .ws) maxDepth (l .next)) (l .next)
+  right-asks =
+      let g = d .begun in
+      let t = right (g .tree) in
+      let o = went (X (g .tree)) (walk (d .low) (g .tree)) (d .fine) in
+      let sr = g .scopeRoom in
+      let n = o .next in
+      let u = o .upTo in
+      let f = o .from in (
+        record { sig = t .sig; known = (t .it, t .counted, record { bound = t .bound; scoped = t .scoped }) },
+        (
+          right-there (t .sig) (k .ws) maxDepth (length s1) (g .tree .it .left .size) (g .room) (d .low .size) o (g .tree .it .right) .room,
+          record { few = sr .few; body = omega (arith, sr .body); names = omega (arith, sr .names); top = sr .top },
+        ),
+      )
 
-  abbrev union : Tree k (Pair k) → Res Done
-  union t = lowerUnion (t .sig) (t .bound) none (t .it .left .value) (t .it .right .value) (k .cs)
+  -- ---- the right side is lowered: r, with s2 and cs2 left behind
 
-  abbrev Ends : List ℕ → List ℕ → Acted → Tree k (Pair k) → Type 0
-  Ends s′ cs′ r t = Does k (t .sig) (union t) (1 + size t) s′ cs′ r
+  module _ {s2 cs2 : List ℕ} {r : Walk} (low : LowAt (behind k s1 cs1 l) (l .next) s2 cs2 r) where
+    record Sides (p : Piece) : Type 0 where
+      pub terms : p .terms ≡ l .term ∷ r .term ∷ []
+      pub uses : r .log ≡ k .lg + p .count
 
-  walk : (t : Tree k (Pair k)) → WalkedAt k 1 (InAnswer (k .lg) l) (X t) (t .it .left .size) (k .at + 1) s1 cs1 l
-  walk t = left .walk (t .sig) (t .it .left) (t .bound) (t .counted) (t .scoped)
-
-  -- a walk over both sides that stops
-  refused : {m at′ : ℕ} {T : Piece → Type 0} {s′ cs′ : List ℕ} {a : Walk} (n : ℕ) (t : Tree k (Pair k))
-      → WalkedAt k m T (andThen (X t) (Y t)) n at′ s′ cs′ a → n ≤ 1 + size t → (a .refused ≡ 0 → ⊥) → Ends s′ cs′ (ended a) t
-  refused n t w h bad =
-      acts-stop (union t)
-      (rw (done-union (t .sig) (t .bound) (t .it .left .value) (t .it .right .value) (k .cs))
-      (stop (1 + size t) (k .at) (andThen (X t) (Y t)) (λ q. ok (unionPiece q)) w bad h)) bad
-
-  pub left-refused : (l .refused ≡ 0 → ⊥) → Answers k s1 cs1 (ended l)
-  left-refused bad sig x bound n sc = stopped (tree sig x bound n sc)
-    where
-      stopped : (t : Tree k (Pair k)) → Ends s1 cs1 (ended l) t
-      stopped t =
-          let one : WalkedAt k 0 (Gave (ended l)) (andThen (X t) (Y t)) (1 + size t) (k .at) s1 cs1 l =
-          stop (1 + size t) (k .at) (X t) (λ p. _>>=_ (Y t (p .next)) (λ q. ok (both p q))) (walk t) bad (omega arith) in
-          refused (1 + size t) t one (omega arith) bad
-
-  -- ---- it is fine
-
-  module _ (fine : l .refused ≡ 0) where
-    scoped : (t : Tree k (Pair k)) → Scoped (t .sig) (t .bound) s1 (k .scope)
-    scoped t =
+    sides : (t : Tree k (Pair k)) → WalkedAt k 2 Sides (andThen (X t) (Y t)) (size t) (k .at + 1) s2 cs2 r
+    sides t =
+        let u = right t in
         let i = t .it .right .inside in
-        let sr = g .scopeRoom in
-        let here : ScopeRoomAt k (k .at + 1) =
-        record { few = sr .few; body = sr .body; names = omega (arith, sr .names); top = sr .top } in
-        scope-after (length (k .ws)) (t .it .left .size) here (omega arith) (walk t .kept) (t .scoped)
+        walk-then (t .it .left .size) (t .it .right .size) (k .at + 1) (k .to) (k .sp) (k .sp) (k .lg) (k .s) (k .cs) s1 cs1 s2 cs2 l r
+        (omega (arith, d .begun .room .stack)) (omega arith) (omega arith) 2 Sides (X t) (Y t) (omega arith) (walk (d .low) t) (d .fine)
+        (low .walk (u .sig) (u .it) (u .bound) (u .counted) (u .scoped))
+        (λ p q t u. record { terms = λ i. t .term i ++ u .term i; uses = omega (arith, t .uses, u .uses) })
 
-    -- the right side, where the walk stands
-    abbrev right : Tree k (Pair k) → Tree (behind k s1 cs1 l) (λ sig. ExprAt sig (k .ws) maxDepth (l .next))
-    right t =
-        tree (t .sig)
-        (moved (readExpr (t .sig) (k .ws) maxDepth) (k .ws) (k .at + 1 + t .it .left .size) (l .next) (sym (went (X t) (walk t) fine .next)) (t .it .right))
-        (t .bound) (counted-kept (t .counted) (left .counters)) (scoped t)
+    pub right-refused : (r .refused ≡ 0 → ⊥) → Answers k s2 cs2 (ended r)
+    right-refused bad sig x bound n sc = let t : Tree k (Pair k) = tree sig x bound n sc in refused t (size t) (sides t) (omega arith) bad
 
-    -- what lowering it asks
-    pub right-asks : Asks (behind k s1 cs1 l) (λ sig. ExprAt sig (k .ws) maxDepth (l .next)) (l .next)
-    right-asks =
-        let t = right (g .tree) in
-        let o = went (X (g .tree)) (walk (g .tree)) fine in
-        let sr = g .scopeRoom in
-        let n = o .next in
-        let u = o .upTo in
-        let f = o .from in (
-          record { sig = t .sig; known = (t .it, t .counted, record { bound = t .bound; scoped = t .scoped }) },
-          (
-            right-there (t .sig) (k .ws) maxDepth (length s1) (g .tree .it .left .size) (g .room) (left .size) o (g .tree .it .right) .room,
-            record { few = sr .few; body = omega (arith, sr .body); names = omega (arith, sr .names); top = sr .top },
-          ),
-        )
+    pub both-fine : r .refused ≡ 0 → Fine k s2 r
+    both-fine fine =
+        let t = d .begun .tree in
+        let i = t .it .right .inside in
+        is-fine (d .begun) (andThen (X t) (Y t)) (sides t) (omega arith) (omega arith) fine
 
-    -- ---- the right side is lowered: r, with s2 and cs2 left behind
+    -- the action is written, up to e, which leaves s3
+    module _ (fine : r .refused ≡ 0) {s3 : List ℕ} {e : ℕ} (put : (e ≡ r .to + 3) × (s3 ≡ splice s2 (r .to) (actionWord 5 ∷ l .term ∷ r .term ∷ []))) where
+      abbrev answer : Acted
+      answer = record { walk = record { next = r .next; to = e; log = r .log; term = 0; refused = 0 }; names = 0; count = r .log - k .lg + 1 }
 
-    module _ {s2 cs2 : List ℕ} {r : Walk} (low : LowAt (behind k s1 cs1 l) (l .next) s2 cs2 r) where
-      record Sides (p : Piece) : Type 0 where
-        pub terms : p .terms ≡ l .term ∷ r .term ∷ []
-        pub uses : r .log ≡ k .lg + p .count
-
-      sides : (t : Tree k (Pair k)) → WalkedAt k 2 Sides (andThen (X t) (Y t)) (size t) (k .at + 1) s2 cs2 r
-      sides t =
-          let u = right t in
-          let i = t .it .right .inside in
-          walk-then (t .it .left .size) (t .it .right .size) (k .at + 1) (k .to) (k .sp) (k .sp) (k .lg) (k .s) (k .cs) s1 cs1 s2 cs2 l r
-          (omega (arith, g .room .stack)) (omega arith) (omega arith) 2 Sides (X t) (Y t) (omega arith) (walk t) fine
-          (low .walk (u .sig) (u .it) (u .bound) (u .counted) (u .scoped))
-          (λ p q t u. record { terms = λ i. t .term i ++ u .term i; uses = omega (arith, t .uses, u .uses) })
-
-      pub right-refused : (r .refused ≡ 0 → ⊥) → Answers k s2 cs2 (ended r)
-      right-refused bad sig x bound n sc = let t : Tree k (Pair k) = tree sig x bound n sc in refused (size t) t (sides t) (omega arith) bad
-
-      pub both-fine : r .refused ≡ 0 → Fine k s2 r
-      both-fine fine2 =
-          let t = g .tree in
-          let i = t .it .right .inside in
-          is-fine g (andThen (X t) (Y t)) (sides t) (omega arith) (omega arith) fine2
-
-      -- the action is written, up to e, which leaves s3
-      module _ (fine2 : r .refused ≡ 0) {s3 : List ℕ} {e : ℕ}
-          (put : (e ≡ r .to + 3) × (s3 ≡ splice s2 (r .to) (actionWord 5 ∷ l .term ∷ r .term ∷ []))) where
-        abbrev answer : Acted
-        answer = record { walk = record { next = r .next; to = e; log = r .log; term = 0; refused = 0 }; names = 0; count = r .log - k .lg + 1 }
-
-        pub union-done : Answers k s3 cs2 answer
-        union-done sig x bound n sc = done (tree sig x bound n sc)
-          where
-            done : (t : Tree k (Pair k)) → Ends s3 cs2 answer t
-            done t =
-                let i = t .it .right .inside in
-                let q = g .room in
-                acts-same (t .sig) (t .bound) (k .scope) (length (k .ws)) (union t)
-                (same-union (t .sig) (t .bound) (t .it .left .value) (t .it .right .value) (k .cs)) refl (g .scopeRoom) (omega arith) (t .scoped)
-                (rw (done-union (t .sig) (t .bound) (t .it .left .value) (t .it .right .value) (k .cs))
-                (written 0 (Gave answer) (size t) (1 + size t) (k .at + 1) (k .at) (k .to) (k .sp) (k .lg) (k .s) (k .cs) s2 cs2 s3
-                (actionWord 5 ∷ l .term ∷ r .term ∷ []) r e 0 (andThen (X t) (Y t)) unionPiece
-                (omega (arith, q .words)) (omega (arith, q .stack)) (omega (arith, q .log)) (omega arith) (omega arith) (omega arith) (sides t) fine2 (put .1) (put .0)
-                (λ p u. record { words = λ i. p .words ++ actionWord 5 ∷ u .terms i; counters = refl; terms = omega (arith, u .uses) })))
+      pub union-done : Answers k s3 cs2 answer
+      union-done sig x bound n sc = done (tree sig x bound n sc)
+        where
+          done : (t : Tree k (Pair k)) → Ends t s3 cs2 answer
+          done t =
+              let i = t .it .right .inside in
+              let q = d .begun .room in
+              acts-same (t .sig) (t .bound) (k .scope) (length (k .ws)) (union t)
+              (same-union (t .sig) (t .bound) (t .it .left .value) (t .it .right .value) (k .cs)) refl (d .begun .scopeRoom) (omega arith) (t .scoped)
+              (rw (done-union (t .sig) (t .bound) (t .it .left .value) (t .it .right .value) (k .cs))
+              (written 0 (Gave answer) (size t) (1 + size t) (k .at + 1) (k .at) (k .to) (k .sp) (k .lg) (k .s) (k .cs) s2 cs2 s3
+              (actionWord 5 ∷ l .term ∷ r .term ∷ []) r e 0 (andThen (X t) (Y t)) unionPiece
+              (omega (arith, q .words)) (omega (arith, q .stack)) (omega (arith, q .log)) (omega arith) (omega arith) (omega arith) (sides t) fine (put .1) (put .0)
+              (λ p u. record { words = λ i. p .words ++ actionWord 5 ∷ u .terms i; counters = refl; terms = omega (arith, u .uses) })))

@@ -8,7 +8,7 @@ use Rattle.octets.specs.Words.{words}
 use Rattle.octets.proofs.Words.{length-words, length-words-kept}
 use Rattle.core_actions.proofs.Sites.{Site, site-of, Begun, begun}
 use Rattle.core_actions.proofs.Acting.{LowAt, Fine}
-use Rattle.core_actions.proofs.Pairs.{Pair, left-asks, behind, left-refused, right-asks, right-refused, both-fine, union-done}
+use Rattle.core_actions.proofs.Pairs.{Pair, left-asks, left-refused, LeftDone, behind, right-asks, right-refused, both-fine, union-done}
 use borrow.Author.Needs.{needs}
 use Rattle.core_actions.proofs.actions.unite.Statement.{statement}
 use Rattle.core_actions.proofs.actions.unite.Tie as tie
@@ -49,17 +49,20 @@ same-length-2 c = search needs
 returns : tie.Need-returns
 returns c =
     let l = c .before .before .before .before .before .before in
-    left-refused (at-start (start l)) (at-left l) (c .if1 .taken)
+    left-refused (at-left l) (c .if1 .taken)
 
 -- ---- it is fine: the right side
 
 abbrev else-left : tie.Else1 → tie.After-lower
 else-left c = c .before .before .before .before .before .before
 
+at-else1 : (c : tie.Else1)
+    → let l = else-left c .lower in
+    LeftDone (site (start (else-left c))) (words (l .last .1 .1 .1 .1 .1 .0)) (words (l .last .1 .1 .1 .1 .0)) (l .result)
+at-else1 c = record { begun = at-start (start (else-left c)); low = at-left (else-left c); fine = c .if1 .left }
+
 lower-requires-2 : tie.Need-lower-requires-2
-lower-requires-2 c κs =
-    let e = c .before .before in
-    right-asks (at-start (start (else-left e))) (at-left (else-left e)) (e .if1 .left)
+lower-requires-2 c κs = right-asks (at-else1 (c .before .before))
 
 abbrev right-else : tie.After-lower2 → tie.Else1
 right-else c = c .before .before .before
@@ -90,33 +93,28 @@ same-length-4 : tie.Need-same-length-4
 same-length-4 c = scratch-kept (then-right c)
 
 returns-2 : tie.Need-returns-2
-returns-2 c =
-    let r = then-right c in
-    let e = right-else r in
-    right-refused (at-start (start (else-left e))) (at-left (else-left e)) (e .if1 .left) (at-right r) (c .if2 .taken)
+returns-2 c = right-refused (at-else1 (right-else (then-right c))) (at-right (then-right c)) (c .if2 .taken)
 
 -- ---- both are fine: the action
 
 abbrev else-right : tie.Else2 → tie.After-lower2
 else-right c = c .before .before .before .before .before .before
 
-at-else : (c : tie.Else2)
+at-else2 : (c : tie.Else2)
     → let r = else-right c .lower2 in Fine (site (start (else-left (right-else (else-right c))))) (words (r .last .1 .1 .1 .1 .1 .0)) (r .result)
-at-else c =
-    let e = right-else (else-right c) in
-    both-fine (at-start (start (else-left e))) (at-left (else-left e)) (e .if1 .left) (at-right (else-right c)) (c .if2 .left)
+at-else2 c = both-fine (at-else1 (right-else (else-right c))) (at-right (else-right c)) (c .if2 .left)
 
 put-three-requires : tie.Need-put-three-requires
-put-three-requires c κs = at-else (c .before) .words
+put-three-requires c κs = at-else2 (c .before) .words
 
 abbrev three-else : tie.After-put-three → tie.Else2
 three-else c = c .before .before
 
 sub-t12 : tie.Need-sub-t12
-sub-t12 c = at-else (three-else (c .before .before .before)) .logged
+sub-t12 c = at-else2 (three-else (c .before .before .before)) .logged
 
 add-t25 : tie.Need-add-t25
-add-t25 c = omega (arith, at-else (three-else (c .before .before .before)))
+add-t25 c = omega (arith, at-else2 (three-else (c .before .before .before)))
 
 same-length-5 : tie.Need-same-length-5
 same-length-5 c = counters-kept (else-right (three-else (c .before .before .before)))
@@ -128,8 +126,7 @@ returns-3 : tie.Need-returns-3
 returns-3 c =
     let p = c .before .before .before in
     let q = three-else p in
-    let e = right-else (else-right q) in
-    union-done (at-start (start (else-left e))) (at-left (else-left e)) (e .if1 .left) (at-right (else-right q)) (q .if2 .left) (p .put-three .ensures)
+    union-done (at-else1 (right-else (else-right q))) (at-right (else-right q)) (q .if2 .left) (p .put-three .ensures)
 
 pub unite-spec : {M : Type 1} → statement M
 unite-spec =
