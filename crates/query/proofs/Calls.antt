@@ -12,7 +12,7 @@ use Rattle.walks.specs.declared.Walk.{Walk}
 use Rattle.walks.proofs.Asks.{counted-kept}
 use Rattle.walks.proofs.LeavesUpTo.{leaves-most}
 use Rattle.query.proofs.Spots.{Spot, RoomAt, KnownExprs, ExprAnswers, ExprsAnswers}
-use Rattle.query.proofs.Direct.{walked-anew, leaves-walked}
+use Rattle.query.proofs.Direct.{Behind, walked-anew, leaves-walked}
 use Rattle.query.proofs.Exprs.{Begun, Named, inner, inner-room, Walked-on, walked-stop, walked-room, walked-done}
 
 -- ---- of its arguments k, which are names and literals, are written behind the place of its head word, which leaves sl
@@ -24,8 +24,10 @@ pub record Fronted {p : Spot} {d w : ℕ} {g : Begun p d w} {v : ℕ} {s1 cs1 : 
   pub left : length sl ≡ length s1
 
 module _ {p : Spot} {d w : ℕ} {g : Begun p d w} {v : ℕ} {s1 cs1 : List ℕ} {o : Named g v s1 cs1} {k : ℕ} {sl : List ℕ} (f : Fronted o k sl) where
-  most : k ≤ countOf w
-  most = omega (arith, f .run, leaves-most (f .bound) (p .ws) (p .at + 1) (countOf w) (g .atom .inside))
+  behind : Behind (inner o s1) (countOf w) k sl
+  behind =
+      let m = leaves-most (f .bound) (p .ws) (p .at + 1) (countOf w) (g .atom .inside) in
+      record { room = inner-room o s1 refl; most = omega (arith, f .run); put = f .put }
 
   -- the atom around them has room
   pub around-room : p .to + countOf w + 2 ≤ length sl
@@ -36,11 +38,7 @@ module _ {p : Spot} {d w : ℕ} {g : Begun p d w} {v : ℕ} {s1 cs1 : List ℕ} 
   whole all =
       let r = around-room in
       let hl = f .left in
-      record {
-        walk =
-            λ sig es c. leaves-walked sig (p .ws) (d - 1) (countOf w) k (p .at + 1) (p .to) (p .sp) (p .lg + 1) s1 cs1 sl es
-            (inner-room o s1 refl) most (f .put) (f .bound) (c .few) (omega arith) (f .run) all;
-      }
+      record { walk = λ sig es c. leaves-walked behind sig (d - 1) es (f .bound) (c .few) (omega arith) (f .run) all }
 
   -- and the atom around them is the call's
   pub leaves-answer : (s3 : List ℕ) (e : ℕ) → k ≡ countOf w → e ≡ p .to + countOf w + 2
@@ -66,12 +64,7 @@ module _ {p : Spot} {d w : ℕ} {g : Begun p d w} {v : ℕ} {s1 cs1 : List ℕ} 
     (m : Argued f s2 cs2 a) where
   -- over what was written of them
   anew : Walked-on o (p .sp) s2 cs2 a
-  anew =
-      record {
-        walk =
-            λ sig es c. walked-anew sig (p .ws) (d - 1) (countOf w) k (p .at + 1) (p .to) (p .sp) (p .lg + 1) s1 cs1 sl es (inner-room o s1 refl) (most f) (f .put)
-            (m .walk sig es (counted-kept c (o .counters)));
-      }
+  anew = record { walk = λ sig es c. walked-anew (behind f) sig (d - 1) es (m .walk sig es (counted-kept c (o .counters))) }
 
   -- an argument that is refused refuses the call
   pub args-refused : (a .refused ≡ 0 → ⊥) → ExprAnswers p d s2 cs2 a

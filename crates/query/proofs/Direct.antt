@@ -11,7 +11,7 @@ use Rattle.rules.specs.Words.{limit12, literalBase}
 use Rattle.rules.specs.Refusals.{Res, ok}
 use Rattle.rules.specs.Signature.{Sig, heads}
 use Rattle.rules.specs.Written.{Exprs, leaf, _then_}
-use Rattle.walks.specs.Steps.{Piece, Kept, Walked, OnStack, Room, ExprsAt}
+use Rattle.walks.specs.Steps.{Piece, Kept, Walked, OnStack, ExprsAt}
 use Rattle.walks.specs.Leaves.{leavesUpTo}
 use Rattle.walks.specs.declared.Walk.{Walk}
 use Rattle.walks.proofs.Frames.{kept-none, kept-then, kept-put, spliced}
@@ -19,6 +19,7 @@ use Rattle.walks.proofs.Read.{exprs-many, leaf-cases, first-cases, none-cases, 
 use Rattle.walks.proofs.LeavesUpTo.{part-first, leaves-each}
 use Rattle.query.specs.Flattened.{flattenedAll}
 use Rattle.query.proofs.Pieces.{flattened-leaf, flattened-row}
+use Rattle.query.proofs.Spots.{Spot, RoomAt}
 
 -- ---- a row of names and literals: they are their own terms, and nothing is written
 
@@ -75,61 +76,73 @@ around l m k at head n out room size first last =
     splice-put _ _ _ _ _ terms last (omega (arith, length-part l (at + 1) n (omega arith))) (omega arith)
 
 -- room for its atom, which has two words more than it has arguments
-pub record AtomRoom (ws s : List ℕ) (n at to : ℕ) : Type 0 where
-  pub inside : at + 1 + n ≤ length ws
-  pub words : to + n + 2 ≤ length s
+pub record AtomRoom (p : Spot) (n : ℕ) : Type 0 where
+  pub inside : p .at + 1 + n ≤ length (p .ws)
+  pub words : p .to + n + 2 ≤ length (p .s)
 
-pub atom-room-in : (sig : Sig) (ws s : List ℕ) (d n at to sp lg : ℕ) → ExprsAt sig ws d n (at + 1) → Room (length ws) at to sp lg (length s) → AtomRoom ws s n at to
-atom-room-in sig ws s d n at to sp lg es room =
+pub atom-room : (p : Spot) (sig : Sig) (d n : ℕ) → ExprsAt sig (p .ws) d n (p .at + 1) → RoomAt p → AtomRoom p n
+atom-room p sig d n es room =
     let i = es .inside in
-    let m = exprs-many sig ws d n (at + 1) es in
+    let m = exprs-many sig (p .ws) d n (p .at + 1) es in
     record { inside = omega arith; words = omega (arith, room .words, room .stack, room .log) }
 
--- k of n arguments are written behind the place of its head word, and all are yet to be walked
-module _ (sig : Sig) (ws : List ℕ) (d n k at to sp lg : ℕ) (s cs s1 : List ℕ) (es : ExprsAt sig ws d n at) (room : Room (length ws) at to sp lg (length s))
-    (most : k ≤ n) (put : s1 ≡ splice s (to + 1) (part ws at k)) where
-  within : (at + n ≤ length ws) × (n ≤ es .size)
+-- from p on n arguments stand. k of them are written one word behind p's `to`, which leaves s1, and all are yet to be walked
+pub record Behind (p : Spot) (n k : ℕ) (s1 : List ℕ) : Type 0 where
+  pub room : RoomAt p
+  pub most : k ≤ n
+  pub put : s1 ≡ splice (p .s) (p .to + 1) (part (p .ws) (p .at) k)
+
+module _ {p : Spot} {n k : ℕ} {s1 : List ℕ} (b : Behind p n k s1) (sig : Sig) (d : ℕ) (es : ExprsAt sig (p .ws) d n (p .at)) where
+  within : (p .at + n ≤ length (p .ws)) × (n ≤ es .size)
   within =
       let i = es .inside in
-      let m = exprs-many sig ws d n at es in
+      let m = exprs-many sig (p .ws) d n (p .at) es in
       (omega arith, m)
 
-  leaves-kept : (k : ℕ) → k ≤ n → s1 ≡ splice s (to + 1) (part ws at k) → Kept to (to + 4 * es .size) sp (sp + es .size) lg (lg + es .size) s cs s1 cs lg
+  abbrev Left-alone : List ℕ → Type 0
+  Left-alone x = Kept (p .to) (p .to + 4 * es .size) (p .sp) (p .sp + es .size) (p .lg) (p .lg + es .size) (p .s) (p .cs) x (p .cs) (p .lg)
+
+  leaves-kept : (k : ℕ) → k ≤ n → s1 ≡ splice (p .s) (p .to + 1) (part (p .ws) (p .at) k) → Left-alone s1
   leaves-kept zero h e =
-      subst (λ (x : List ℕ). Kept to (to + 4 * es .size) sp (sp + es .size) lg (lg + es .size) s cs x cs lg) (sym (e ∙ splice-nil s (to + 1)))
-      (kept-none to (to + 4 * es .size) sp (sp + es .size) lg (lg + es .size) s cs (omega arith))
+      subst Left-alone (sym (e ∙ splice-nil (p .s) (p .to + 1)))
+      (kept-none (p .to) (p .to + 4 * es .size) (p .sp) (p .sp + es .size) (p .lg) (p .lg + es .size) (p .s) (p .cs) (omega arith))
   leaves-kept (suc j) h e =
+      let r = b .room in
       let i = es .inside in
       let w = within in
-      let l = length-part ws at (suc j) (omega (arith, w .0)) in
-      kept-put to (to + 4 * es .size) sp (sp + es .size) lg (lg + es .size) (to + 1) (part ws at (suc j)) s cs s1 (omega arith) (omega (arith, w .1)) (omega (arith, room .words))
-      (omega arith) (omega (arith, room .stack, room .log)) (omega arith) e
+      let l = length-part (p .ws) (p .at) (suc j) (omega (arith, w .0)) in
+      kept-put (p .to) (p .to + 4 * es .size) (p .sp) (p .sp + es .size) (p .lg) (p .lg + es .size) (p .to + 1) (part (p .ws) (p .at) (suc j)) (p .s) (p .cs) s1
+      (omega arith) (omega (arith, w .1)) (omega (arith, r .words)) (omega arith) (omega (arith, r .stack, r .log)) (omega arith) e
 
   -- a walk of them writes over these words
   pub walked-anew : {m : ℕ} {T : Piece → Type 0} {x : Res Piece} {s2 cs2 : List ℕ} {a : Walk}
-      → Walked m T x (es .size) at to sp lg s1 cs s2 cs2 a → Walked m T x (es .size) at to sp lg s cs s2 cs2 a
+      → Walked m T x (es .size) (p .at) (p .to) (p .sp) (p .lg) s1 (p .cs) s2 cs2 a
+      → Walked m T x (es .size) (p .at) (p .to) (p .sp) (p .lg) (p .s) (p .cs) s2 cs2 a
   walked-anew w =
+      let r = b .room in
       let i = es .inside in
-      record { kept = kept-then (omega (arith, room .stack)) (leaves-kept k most put) (w .kept); ended = w .ended }
+      record { kept = kept-then (omega (arith, r .stack)) (leaves-kept k (b .most) (b .put)) (w .kept); ended = w .ended }
 
   -- where these are all, they are walked: their terms stand there
-  pub leaves-walked : (bound : ℕ) → heads sig ≤ limit12 → to + 1 ≤ length s → k ≡ leavesUpTo bound (part ws at n) → k ≡ n
-      → let a : Walk = record { next = at + k; to = to; log = lg; term = 0; refused = 0 } in
-      Walked n (OnStack (to + 1) n lg s1 a) (flattenedAll (es .value) cs) (es .size) at to sp lg s cs s1 cs a
+  pub leaves-walked : (bound : ℕ) → heads sig ≤ limit12 → p .to + 1 ≤ length (p .s) → k ≡ leavesUpTo bound (part (p .ws) (p .at) n) → k ≡ n
+      → let a : Walk = record { next = p .at + k; to = p .to; log = p .lg; term = 0; refused = 0 } in
+      Walked n (OnStack (p .to + 1) n (p .lg) s1 a) (flattenedAll (es .value) (p .cs)) (es .size) (p .at) (p .to) (p .sp) (p .lg) (p .s) (p .cs) s1 (p .cs) a
   leaves-walked bound few more run all =
       let i = es .inside in
       let w = within in
-      let low : (i : ℕ) → i < n → literalBase ≤ getD ws (at + i) 0 = λ i h. leaves-each bound ws at n (w .0) i (subst (_<_ i) (sym all ∙ run) h) .low in
-      let l = leaves-row sig ws few d n at es low in
-      let z = length-part ws at n (w .0) in
+      let row = part (p .ws) (p .at) n in
+      let low : (i : ℕ) → i < n → literalBase ≤ getD (p .ws) (p .at + i) 0 =
+      λ i h. leaves-each bound (p .ws) (p .at) n (w .0) i (subst (_<_ i) (sym all ∙ run) h) .low in
+      let l = leaves-row sig (p .ws) few d n (p .at) es low in
+      let z = length-part (p .ws) (p .at) n (w .0) in
       let e = l .each in
-      let there : part s1 (to + 1) (length (part ws at n)) ≡ part ws at n =
-      spliced s s1 (part ws at n) (to + 1) more (put ∙ ap (λ (j : ℕ). splice s (to + 1) (part ws at j)) all) in
-      rw (l .flat cs)
+      let there : part s1 (p .to + 1) (length row) ≡ row =
+      spliced (p .s) s1 row (p .to + 1) more (b .put ∙ ap (λ (j : ℕ). splice (p .s) (p .to + 1) (part (p .ws) (p .at) j)) all) in
+      rw (l .flat (p .cs))
       (record {
-        kept = leaves-kept k most put;
+        kept = leaves-kept k (b .most) (b .put);
         ended = (
           record { fine = refl; next = omega arith; to = omega arith; counters = refl; written = refl; fits = omega arith },
-          record { size = z; terms = ap (part s1 (to + 1)) (sym z) ∙ there; uses = omega arith },
+          record { size = z; terms = ap (part s1 (p .to + 1)) (sym z) ∙ there; uses = omega arith },
         );
       })

@@ -23,7 +23,7 @@ use Rattle.walks.proofs.Words.{head-word}
 use Rattle.query.specs.Flattened.{flattened, flattenedAll}
 use Rattle.query.proofs.Pieces.{callPiece, flattened-leaf, flattened-call}
 use Rattle.query.proofs.Spots.{Spot, RoomAt, Held, KnownExpr, ExprWalked, ExprAnswers}
-use Rattle.query.proofs.Direct.{AtomRoom, atom-room-in}
+use Rattle.query.proofs.Direct.{AtomRoom, atom-room}
 
 -- a name or a literal is its own term
 pub leaf-answer : (p : Spot) (d w : ℕ) → w ≡ getD (p .ws) (p .at) 0 → literalBase ≤ w
@@ -49,7 +49,7 @@ pub record Begun (p : Spot) (d w : ℕ) : Type 0 where
   pub is : w ≡ getD (p .ws) (p .at) 0
   pub low : w < literalBase
   pub facts : CallFacts (known .sig) (p .ws) d (p .at) w (p .cs)
-  pub atom : AtomRoom (p .ws) (p .s) (countOf w) (p .at) (p .to)
+  pub atom : AtomRoom p (countOf w)
   pub log : p .lg < length (p .s)
 
 -- so it is where the word is below the literals
@@ -63,7 +63,7 @@ begun {p} {d} {w} q room held is low =
       is = is;
       low = low;
       facts = f;
-      atom = atom-room-in (q .sig) (p .ws) (p .s) (d - 1) (countOf w) (p .at) (p .to) (p .sp) (p .lg) (f .args) room;
+      atom = atom-room p (q .sig) (d - 1) (countOf w) (f .args) room;
       log = omega (arith, room .log, f .inside);
     }
 
