@@ -136,17 +136,21 @@ module _ (ws : List ℕ) (p : ℕ) where
   unfolding firstAt
   first-missing l = rw (le-ltb p (length ws) l)
 
-  pub first-low : p < length ws → getD ws p 0 < equalityBase → First.Other ≡ firstAt ws p
-  unfolding firstAt
-  first-low i l = rw (lt-ltb p (length ws) i, lt-leb equalityBase (getD ws p 0) l)
+  -- w is the word there
+  module _ {w : ℕ} (i : p < length ws) (is : w ≡ getD ws p 0) where
+    pub first-low : w < equalityBase → First.Other ≡ firstAt ws p
+    unfolding firstAt
+    first-low l = rw (lt-ltb p (length ws) i, lt-leb equalityBase (getD ws p 0) (omega arith))
 
-  pub first-high : p < length ws → literalBase ≤ getD ws p 0 → First.Other ≡ firstAt ws p
-  unfolding firstAt
-  first-high i l = rw (lt-ltb p (length ws) i, le-leb equalityBase (getD ws p 0) (omega arith), le-ltb (getD ws p 0) literalBase l)
+    pub first-high : literalBase ≤ w → First.Other ≡ firstAt ws p
+    unfolding firstAt
+    first-high l = rw (lt-ltb p (length ws) i, le-leb equalityBase (getD ws p 0) (omega arith), le-ltb (getD ws p 0) literalBase (omega arith))
 
-  pub first-here : p < length ws → equalityBase ≤ getD ws p 0 → getD ws p 0 < literalBase → First.Atom (atomOf (getD ws p 0)) ≡ firstAt ws p
-  unfolding firstAt
-  first-here i lo hi = rw (lt-ltb p (length ws) i, le-leb equalityBase (getD ws p 0) lo, lt-ltb (getD ws p 0) literalBase hi)
+    pub first-here : equalityBase ≤ w → w < literalBase → First.Atom (atomOf w) ≡ firstAt ws p
+    unfolding firstAt
+    first-here lo hi =
+        ap (λ (u : ℕ). First.Atom (atomOf u)) is
+        ∙ rw (lt-ltb p (length ws) i, le-leb equalityBase (getD ws p 0) (omega arith), lt-ltb (getD ws p 0) literalBase (omega arith)) refl
 
   -- and back: the word that begins an atom is there, and is of kind 3 or 4
   first-there : {a : Begun} → firstAt ws p ≡ First.Atom a → (p < length ws) × (equalityBase ≤ getD ws p 0) × (getD ws p 0 < literalBase) × (a ≡ atomOf (getD ws p 0))
@@ -195,7 +199,7 @@ module _ (H : ℕ) (ws : List ℕ) (p : ℕ) where
   atom-other read is = go (ltb p (length ws)) refl
     where
       out : p < length ws → equalityBase ≤ w → w < literalBase → ⊥
-      out i lo hi = let z : _≡_ {A = ℕ} 0 1 = cc (first-here ws p i lo hi, read, is) in omega arith
+      out i lo hi = let z : _≡_ {A = ℕ} 0 1 = cc (first-here ws p i refl lo hi, read, is) in omega arith
 
       no-equality : p < length ws → (b : Bool) → isEqualityWord w ≡ b → b ≡ false
       no-equality i true e = let r = within-true equalityBase equalityBase w e in absurd (out i (r .0) (omega arith))

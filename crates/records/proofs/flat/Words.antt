@@ -10,9 +10,12 @@ use lib.Dec.{ltb, leb, eqb}
 use borrow.Author.Tests.{ltb-true, leb-true, eqb-true, eqb-false}
 use Rattle.rules.specs.Refusals.{ok, demand, unfit}
 use Rattle.rules.specs.Signature.{Sig, heads}
-use Rattle.rules.specs.Words.{limit12, limit16, headBase, headerBase, headWord, headerWord, equalityWord, actionWord, isHeadWord, isEqualityWord, isLiteralWord, isHeaderWord, headOf, countOf, factsOf, actionsOf, Code, aLet, aSet, aDelete, aSubsume, aUnion, aPanic, aCall, anExpression, noCode, codeOf}
+use Rattle.rules.specs.Words.{limit12, limit16, headBase, headerBase, headWord, headerWord, equalityWord, actionWord, isHeadWord, isEqualityWord}
+use Rattle.rules.specs.Words.{isLiteralWord, isHeaderWord, headOf, countOf, factsOf, actionsOf}
+use Rattle.rules.specs.Words.{Code, aLet, aSet, aDelete, aSubsume, aUnion, aPanic, aCall, anExpression, noCode, codeOf}
 use Rattle.rules.specs.Written.{Read, Reader, readWord, readRow}
-use Rattle.rules.specs.Flat.{Atom, CoreAction, FlatRule, Terms, isTarget, readTerms, readCoreCode, readCoreAction, readFlat, actionWords, isPair, isOdd, isTable, isEmpty, isNone, isTerm, readTerm, readAtomShape, readAtom, atomWords, wordsOf}
+use Rattle.rules.specs.Flat.{Atom, CoreAction, FlatRule, Terms, isTarget, readTerms, readCoreCode, readCoreAction, readFlat, actionWords}
+use Rattle.rules.specs.Flat.{isPair, isOdd, isTable, isEmpty, isNone, isTerm, readTerm, readAtomShape, readAtom, atomWords, wordsOf}
 use Rattle.words.proofs.Ranges.{within-true}
 use Rattle.meaning.proofs.Results.{ok-inj, bind-ok, demand-ok}
 
@@ -92,7 +95,8 @@ module _ (ws : List ℕ) where
     atom-spelled p r e =
         go (ltb p (length ws)) refl (isEqualityWord (getD ws p 0)) (eqb (getD ws p 0) equalityWord) refl (isHeadWord (heads s) (getD ws p 0)) refl (eqb (countOf (getD ws p 0)) 0) refl e
       where
-        go : (i : Bool) → ltb p (length ws) ≡ i → (q two : Bool) → eqb (getD ws p 0) equalityWord ≡ two → (h : Bool) → isHeadWord (heads s) (getD ws p 0) ≡ h → (n : Bool) → eqb (countOf (getD ws p 0)) 0 ≡ n
+        go : (i : Bool) → ltb p (length ws) ≡ i → (q two : Bool) → eqb (getD ws p 0) equalityWord ≡ two → (h : Bool) → isHeadWord (heads s) (getD ws p 0) ≡ h
+            → (n : Bool) → eqb (countOf (getD ws p 0)) 0 ≡ n
             → readAtomShape s ws (cond i (cond q (cond two isPair isOdd) (cond h (cond n isEmpty isTable) isNone)) isNone) (getD ws p 0) p ≡ ok r
             → drop p ws ≡ atomWords (r .value) ++ drop (r .at) ws
         go true i true true t h eh n en k = pair-spelled p r (drop-cons ws p 0 (ltb-true p (length ws) i) ∙ ap (λ x. x ∷ drop (suc p) ws) (eqb-true (getD ws p 0) equalityWord t)) k
@@ -118,21 +122,15 @@ Coded w noCode = w ≡ w
 
 coded : (w : ℕ) → Coded w (codeOf w)
 coded w =
-    go (eqb w (actionWord 1)) refl (eqb w (actionWord 2)) refl (eqb w (actionWord 3)) refl (eqb w (actionWord 4)) refl (eqb w (actionWord 5)) refl (eqb w (actionWord 6)) refl
-    (eqb w (actionWord 7)) refl (eqb w (actionWord 8)) refl
+    go 1 aLet _ (λ e. e) (go 2 aSet _ (λ e. e) (go 3 aDelete _ (λ e. e) (go 4 aSubsume _ (λ e. e) (go 5 aUnion _ (λ e. e)
+    (go 6 aPanic _ (λ e. e) (go 7 aCall _ (λ e. e) (go 8 anExpression noCode (λ e. e) refl)))))))
   where
-    go : (b1 : Bool) → eqb w (actionWord 1) ≡ b1 → (b2 : Bool) → eqb w (actionWord 2) ≡ b2 → (b3 : Bool) → eqb w (actionWord 3) ≡ b3 → (b4 : Bool) → eqb w (actionWord 4) ≡ b4
-        → (b5 : Bool) → eqb w (actionWord 5) ≡ b5 → (b6 : Bool) → eqb w (actionWord 6) ≡ b6 → (b7 : Bool) → eqb w (actionWord 7) ≡ b7 → (b8 : Bool) → eqb w (actionWord 8) ≡ b8
-        → Coded w (cond b1 aLet (cond b2 aSet (cond b3 aDelete (cond b4 aSubsume (cond b5 aUnion (cond b6 aPanic (cond b7 aCall (cond b8 anExpression noCode))))))))
-    go true e _ _ _ _ _ _ _ _ _ _ _ _ _ _ = eqb-true w (actionWord 1) e
-    go false _ true e _ _ _ _ _ _ _ _ _ _ _ _ = eqb-true w (actionWord 2) e
-    go false _ false _ true e _ _ _ _ _ _ _ _ _ _ = eqb-true w (actionWord 3) e
-    go false _ false _ false _ true e _ _ _ _ _ _ _ _ = eqb-true w (actionWord 4) e
-    go false _ false _ false _ false _ true e _ _ _ _ _ _ = eqb-true w (actionWord 5) e
-    go false _ false _ false _ false _ false _ true e _ _ _ _ = eqb-true w (actionWord 6) e
-    go false _ false _ false _ false _ false _ false _ true e _ _ = eqb-true w (actionWord 7) e
-    go false _ false _ false _ false _ false _ false _ false _ true e = eqb-true w (actionWord 8) e
-    go false _ false _ false _ false _ false _ false _ false _ false e = refl
+    go : (n : ℕ) (c rest : Code) → (w ≡ actionWord n → Coded w c) → Coded w rest → Coded w (cond (eqb w (actionWord n)) c rest)
+    go n c rest f k = by (eqb w (actionWord n)) refl
+      where
+        by : (b : Bool) → eqb w (actionWord n) ≡ b → Coded w (cond b c rest)
+        by true e = f (eqb-true w (actionWord n) e)
+        by false e = k
 
 module _ (s : Sig) (ws : List ℕ) where
   -- a kind 3 word and its terms

@@ -1,4 +1,4 @@
--- `records::length_fits` meets its contract: its tests are those of the definition. Assumes nothing.
+-- The code's two tests are those of the definition. Assumes nothing.
 use borrow.Author.Tests.{le-leb, lt-leb}
 use borrow.Author.Needs.{needs}
 use Rattle.records.proofs.length_fits.Statement.{statement}

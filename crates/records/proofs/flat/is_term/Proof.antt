@@ -1,4 +1,4 @@
--- `flat::is_term` meets its contract, by its first test: below the fresh variables a name or a literal, and else the head tells. Assumes nothing.
+-- Below the fresh variables only a name or a literal is a term, and from there on the head tells. Assumes nothing.
 use mathlib.Core.Path.{_∙_}
 use borrow.Author.Needs.{needs}
 use Rattle.records.proofs.flat.Laws.{leaf-term, fresh-term}

@@ -12,7 +12,10 @@ use borrow.Author.Needs.{needs}
 use Rattle.records.proofs.flat.name.Statement.{statement}
 use Rattle.records.proofs.flat.name.Tie as tie
 
-at-word : (c : tie.After-enum-told) → let a = c .before .before .before .before .args in There (words (a .rule .now)) (a .at) (Name (c .enum-told .given .0 .0))
+abbrev start : tie.After-enum-told → tie.Start
+start c = c .before .before .before .before
+
+at-word : (c : tie.After-enum-told) → let a = start c .args in There (words (a .rule .now)) (a .at) (Name (c .enum-told .given .0 .0))
 at-word c = there (c .before .before .word-at .ensures) (c .enum-told .given .1) (lit< tt)
 
 pub name-spec : {M : Type 1} → statement M
@@ -22,5 +25,5 @@ name-spec =
     (λ c κs. search needs)
     (λ c. search needs)
     (λ c. kind-refused isNameWord 1 name-kind (not-kind (c .before .word-at .ensures) 1 tt (c .match .keys2)))
-    (λ c. omega (arith, at-word c .inside, length-words (c .before .before .before .before .args .rule .now)))
+    (λ c. omega (arith, at-word c .inside, length-words (start c .args .rule .now)))
     (λ c. kind-taken isNameWord 1 name-kind (at-word c) refl))

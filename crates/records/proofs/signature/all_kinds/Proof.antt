@@ -1,9 +1,8 @@
--- `signature::all_kinds` meets its contract. The invariant: the words passed are kinds, or the flag is down. Assumes nothing.
+-- The words passed are kinds, or the flag is down; one word more is one test more. Assumes nothing.
 use mathlib.Core.Path.{_≡_, refl}
 use Prim.Native.Nat.{_-_, _≤_, suc}
 use native.Mathlib.Omega.{arith}
 use native.Mathlib.Numerals.{add-one}
-use denote.Ref.{now}
 use Rattle.octets.specs.Words.{words}
 use Rattle.records.specs.Signature.{allKinds, isKindAt}
 use Rattle.records.proofs.signature.Laws.{all-kinds-next, kind-here}
@@ -35,8 +34,9 @@ loop-less c = search needs
 
 loop-again : tie.Need-loop-again Inv-loop μ-loop
 loop-again c =
-    let l = c .before .before .before .loop in
-    let ws = words (now (c .before .before .before .before .before .args .signature)) in
+    let t = c .before .before .before in
+    let l = t .loop in
+    let ws = words (t .before .before .args .signature .now) in
     let i = l .i in
     let more : suc i - 4 ≡ suc (i - 4) = omega arith in
     let here : c .is-kind .result ≡ isKindAt ws i = kind-here ws i (omega arith) (c .before .get .ensures .is) (c .is-kind .ensures) in

@@ -1,8 +1,7 @@
--- `signature::bad_before` meets its contract: where all are kinds, the first bad index is the end. Assumes nothing.
+-- Where all are kinds the first bad index is the end; else it is looked for. Assumes nothing.
 use mathlib.Core.Path.{sym, _∙_}
 use Prim.Native.Nat.{_-_}
 use native.Mathlib.Omega.{arith}
-use denote.Ref.{now}
 use Rattle.octets.specs.Words.{words}
 use Rattle.records.proofs.signature.Laws.{first-bad-end}
 use borrow.Author.Needs.{needs}
@@ -15,7 +14,7 @@ all-kinds-requires c κs = search needs
 returns : tie.Need-returns
 returns c =
     let a = c .before .before .before .args in
-    let e = first-bad-end (words (now (a .signature))) (a .end - 4) 4 (sym (c .before .all-kinds .ensures) ∙ c .if1 .taken) in
+    let e = first-bad-end (words (a .signature .now)) (a .end - 4) 4 (sym (c .before .all-kinds .ensures) ∙ c .if1 .taken) in
     omega arith
 
 find-bad-requires : tie.Need-find-bad-requires

@@ -1,12 +1,12 @@
--- `signature::find_bad` meets its contract. The invariant: the first bad index is the same from `i` on. Assumes nothing.
+-- The first bad index is the same from `i` on as from 4 on: a kind is passed, and a word that is none is the first. Assumes nothing.
+use mathlib.Core.List.{List}
 use mathlib.Core.Path.{_≡_, refl, sym, _∙_}
-use Prim.Native.Nat.{_-_, _≤_, suc}
+use Prim.Native.Nat.{ℕ, _-_, _≤_, suc}
 use native.Mathlib.Omega.{arith}
 use native.Mathlib.Numerals.{add-one}
 use borrow.Author.Tests.{not-true, not-false}
-use denote.Ref.{now}
 use Rattle.octets.specs.Words.{words}
-use Rattle.records.specs.Signature.{firstBad}
+use Rattle.records.specs.Signature.{firstBad, isKindAt}
 use Rattle.records.proofs.signature.Laws.{first-bad-next, first-bad-here, first-bad-none, kind-here}
 use borrow.Author.Needs.{needs}
 use Rattle.records.proofs.signature.find_bad.Statement.{statement}
@@ -27,15 +27,31 @@ get-requires c κs = search needs
 is-kind-requires : tie.Need-is-kind-requires Inv-loop μ-loop
 is-kind-requires c κs = search needs
 
+-- ---- word i is looked at
+
+abbrev Seen : Type 0
+Seen = tie.After-is-kind Inv-loop μ-loop
+
+abbrev turn : Seen → tie.At-loop Inv-loop μ-loop
+turn c = c .before .before .before
+
+module _ (c : Seen) where
+  abbrev ws : List ℕ
+  ws = words (turn c .before .before .args .signature .now)
+
+  abbrev end : ℕ
+  end = turn c .before .before .args .end
+
+  abbrev i : ℕ
+  i = turn c .loop .i
+
+  is-here : c .is-kind .result ≡ isKindAt ws i
+  is-here = kind-here ws i (omega arith) (c .before .get .ensures .is) (c .is-kind .ensures)
+
 returns : tie.Need-returns Inv-loop μ-loop
 returns c =
-    let a = c .before .before .before .before .before .before .args in
-    let l = c .before .before .before .before .loop in
-    let ws = words (now (a .signature)) in
-    let i = l .i in
-    sym (first-bad-here ws (a .end - i) (a .end - suc i) i (omega arith)
-    (sym (kind-here ws i (omega arith) (c .before .before .get .ensures .is) (c .before .is-kind .ensures)) ∙ not-true _ (c .if1 .taken)))
-    ∙ l .inv .2
+    let k = c .before in
+    sym (first-bad-here (ws k) (end k - i k) (end k - suc (i k)) (i k) (omega arith) (sym (is-here k) ∙ not-true _ (c .if1 .taken))) ∙ turn k .loop .inv .2
 
 add-i : tie.Need-add-i Inv-loop μ-loop
 add-i c = search needs
@@ -45,23 +61,17 @@ loop-less c = search needs
 
 loop-again : tie.Need-loop-again Inv-loop μ-loop
 loop-again c =
-    let a = c .before .before .before .before .before .before .args in
-    let l = c .before .before .before .before .loop in
-    let ws = words (now (a .signature)) in
-    let i = l .i in (
-      omega arith,
-      omega arith,
-      rw add-one
-          (sym (first-bad-next ws (a .end - i) (a .end - suc i) i (omega arith)
-          (sym (kind-here ws i (omega arith) (c .before .before .get .ensures .is) (c .before .is-kind .ensures)) ∙ not-false _ (c .if1 .left)))
-          ∙ l .inv .2),
-    )
+    let k = c .before in
+    let next = first-bad-next (ws k) (end k - i k) (end k - suc (i k)) (i k) (omega arith) (sym (is-here k) ∙ not-false _ (c .if1 .left)) in
+    (omega arith, omega arith, rw add-one (sym next ∙ turn k .loop .inv .2))
+
+-- ---- all are kinds
 
 returns-2 : tie.Need-returns-2 Inv-loop μ-loop
 returns-2 c =
     let a = c .before .before .before .args in
     let l = c .before .loop in
-    sym (first-bad-none (words (now (a .signature))) (a .end - l .i) (l .i) (omega arith)) ∙ l .inv .2
+    sym (first-bad-none (words (a .signature .now)) (a .end - l .i) (l .i) (omega arith)) ∙ l .inv .2
 
 pub find-bad-spec : {M : Type 1} → statement M
 find-bad-spec =

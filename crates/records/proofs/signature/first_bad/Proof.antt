@@ -1,8 +1,7 @@
--- `signature::first_bad` meets its contract: what is behind the last word is no kind. Assumes nothing.
+-- What is behind the last word is no kind, so no more than the words are looked at. Assumes nothing.
 use mathlib.Core.Path.{sym, _∙_}
 use Prim.Native.Nat.{_-_}
 use native.Mathlib.Omega.{arith}
-use denote.Ref.{now}
 use Rattle.octets.specs.Words.{words}
 use Rattle.records.proofs.signature.Laws.{first-bad-short}
 use borrow.Author.Needs.{needs}
@@ -17,8 +16,9 @@ bad-before-requires c κs = search needs
 
 returns : tie.Need-returns
 returns c =
-    let a = c .before .before .before .before .args in
-    c .bad-before .ensures ∙ sym (first-bad-short (words (now (a .signature))) (c .before .before .count .result - 4) (a .end - 4) 4 (omega arith) (omega arith))
+    let n = c .before .before in
+    let a = n .before .before .args in
+    c .bad-before .ensures ∙ sym (first-bad-short (words (a .signature .now)) (n .count .result - 4) (a .end - 4) 4 (omega arith) (omega arith))
 
 bad-before-requires-2 : tie.Need-bad-before-requires-2
 bad-before-requires-2 c κs = search needs

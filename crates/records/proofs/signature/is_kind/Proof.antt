@@ -1,4 +1,4 @@
--- `signature::is_kind` meets its contract. Assumes nothing.
+-- The code's two tests are those of `within`. Assumes nothing.
 use borrow.Author.Tests.{le-leb, lt-leb}
 use Rattle.records.proofs.signature.is_kind.Statement.{statement}
 use Rattle.records.proofs.signature.is_kind.Tie as tie

@@ -1,6 +1,6 @@
 -- The number of words left and the depth left fall together, and `arguments`, which calls `expression` at its own place, has one more: the one proof of
 -- their cycle. An expression is read by how it begins, and what is left of a row answers as the whole does. Assumes nothing.
-use mathlib.Core.Path.{_≡_, refl, sym, _∙_}
+use mathlib.Core.Path.{refl, sym, _∙_}
 use Prim.Native.Nat.{ℕ, _+_, _-_, _≤_, _<_}
 use native.Mathlib.Omega.{arith}
 use lib.ListN.{length}
@@ -11,7 +11,6 @@ use borrow.Fn.Kinds.{In}
 use borrow.Fn.PlainCycle.{Measures, is, falls, and}
 use Rattle.octets.specs.Words.{words}
 use Rattle.octets.proofs.Words.{length-words}
-use Rattle.rules.specs.Signature.{Sig}
 use Rattle.rules.specs.Written.{readExpr}
 use Rattle.records.specs.Written.{withHeads}
 use Rattle.records.proofs.WrittenWalk.{walk-ends, Left, left-start, left-stops, left-next, left-end, none-left}

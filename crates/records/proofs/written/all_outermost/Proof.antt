@@ -1,4 +1,4 @@
--- `records::written::all_outermost` meets its contract: by the scan where it settles them, and else by the walk. Assumes nothing.
+-- Where the scan settles them it says what the walk would, and else the walk is made. Assumes nothing.
 use borrow.Author.Needs.{needs}
 use Rattle.records.proofs.written.all_outermost.Statement.{statement}
 use Rattle.records.proofs.written.all_outermost.Tie as tie

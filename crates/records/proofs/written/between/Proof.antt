@@ -1,4 +1,4 @@
--- `records::written::between` meets its contract, by its first test. Assumes nothing.
+-- Where the first test fails the second is not made, and the definition fails too. Assumes nothing.
 use borrow.Author.Tests.{le-leb, lt-leb}
 use Rattle.records.proofs.written.between.Statement.{statement}
 use Rattle.records.proofs.written.between.Tie as tie

@@ -1,4 +1,4 @@
--- `records::written::is_call` meets its contract, by its first test: from there on, the head tells. Assumes nothing.
+-- Below the kind 3 words there is no call, and from there on the head tells. Assumes nothing.
 use mathlib.Core.Path.{sym}
 use borrow.Author.Tests.{lt-leb}
 use Rattle.rules.specs.Words.{headBase}

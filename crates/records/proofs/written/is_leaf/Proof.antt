@@ -1,4 +1,4 @@
--- `records::written::is_leaf` meets its contract: its two tests are those of the definition. Assumes nothing.
+-- The code's two tests are those of the definition. Assumes nothing.
 use borrow.Author.Needs.{needs}
 use Rattle.records.proofs.written.is_leaf.Statement.{statement}
 use Rattle.records.proofs.written.is_leaf.Tie as tie

@@ -1,11 +1,10 @@
--- `records::written::leaf_at` meets its contract, by the test of the index. Assumes nothing.
+-- Behind the record's end there is no word, and else the word there is tested. Assumes nothing.
 use mathlib.Core.Path.{_∙_}
 use Prim.Native.Nat.{_≤_, _<_}
 use native.Mathlib.Omega.{arith}
 use lib.ListN.{length}
 use borrow.Author.Tests.{lt-ltb, le-ltb}
 use borrow.Author.Needs.{needs}
-use denote.Ref.{now}
 use Rattle.octets.specs.Words.{words}
 use Rattle.records.proofs.written.leaf_at.Statement.{statement}
 use Rattle.records.proofs.written.leaf_at.Tie as tie
@@ -21,14 +20,15 @@ is-leaf-requires c κs = search needs
 
 returns : tie.Need-returns
 returns c =
-    let a = c .before .before .before .before .before .args in
-    let h : a .at < length (words (now (a .rule))) = omega arith in
-    c .is-leaf .ensures ∙ simp (lt-ltb _ _ h, c .before .get .ensures .is)
+    let g = c .before in
+    let a = g .before .before .before .before .args in
+    let h : a .at < length (words (a .rule .now)) = omega arith in
+    c .is-leaf .ensures ∙ simp (lt-ltb _ _ h, g .get .ensures .is)
 
 returns-2 : tie.Need-returns-2
 returns-2 c =
     let a = c .before .before .before .args in
-    let h : length (words (now (a .rule))) ≤ a .at = omega arith in
+    let h : length (words (a .rule .now)) ≤ a .at = omega arith in
     simp (le-ltb _ _ h)
 
 pub leaf-at-spec : {M : Type 1} → statement M

@@ -1,6 +1,5 @@
--- `records::written::outermost` meets its contract: it reads a row of one expression. Assumes nothing.
+-- One expression is a row of one. Assumes nothing.
 use mathlib.Core.Path.{_∙_}
-use denote.Ref.{now}
 use Rattle.octets.specs.Words.{words}
 use Rattle.rules.specs.Words.{maxDepth}
 use Rattle.rules.specs.Written.{readExpr}
@@ -16,7 +15,7 @@ all-outermost-requires c κs = search needs
 returns : tie.Need-returns
 returns c =
     let a = c .before .before .args in
-    c .all-outermost .ensures ∙ just-one (readExpr (withHeads (a .heads)) (words (now (a .rule))) maxDepth) (a .at)
+    c .all-outermost .ensures ∙ just-one (readExpr (withHeads (a .heads)) (words (a .rule .now)) maxDepth) (a .at)
 
 pub outermost-spec : {M : Type 1} → statement M
 outermost-spec = tie.close (tie.spec all-outermost-requires returns)

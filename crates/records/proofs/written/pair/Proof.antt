@@ -1,7 +1,6 @@
--- `records::written::pair` meets its contract: it reads a row of two expressions. Assumes nothing.
+-- The two sides are a row of two expressions. Assumes nothing.
 use mathlib.Core.Path.{_∙_}
 use native.Mathlib.Omega.{arith}
-use denote.Ref.{now}
 use Rattle.octets.specs.Words.{words}
 use Rattle.octets.proofs.Words.{length-words}
 use Rattle.records.specs.Written.{withHeads}
@@ -11,7 +10,7 @@ use Rattle.records.proofs.written.pair.Statement.{statement}
 use Rattle.records.proofs.written.pair.Tie as tie
 
 add-all-outermost : tie.Need-add-all-outermost
-add-all-outermost c = omega (arith, length-words (now (c .before .args .rule)))
+add-all-outermost c = omega (arith, length-words (c .before .args .rule .now))
 
 all-outermost-requires : tie.Need-all-outermost-requires
 all-outermost-requires c κs = search needs
@@ -19,7 +18,7 @@ all-outermost-requires c κs = search needs
 returns : tie.Need-returns
 returns c =
     let a = c .before .before .args in
-    c .all-outermost .ensures ∙ pair-goes (withHeads (a .heads)) (words (now (a .rule))) (a .at)
+    c .all-outermost .ensures ∙ pair-goes (withHeads (a .heads)) (words (a .rule .now)) (a .at)
 
 pub pair-spec : {M : Type 1} → statement M
 pair-spec = tie.close (tie.spec add-all-outermost all-outermost-requires returns)
