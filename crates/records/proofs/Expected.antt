@@ -26,7 +26,7 @@ use Rattle.words.proofs.Word.{the-type}
 use Rattle.words.proofs.WordLaws.{header-kind, header-numbers, head-numbers, head-below, no-head, no-action, said}
 use Rattle.records.specs.declared.written.Walk.{Walk}
 use Rattle.records.specs.Written.{withHeads, walk, walkOf, wordAt}
-use Rattle.records.proofs.WrittenWalk.{Went, went-row, stops, both, then-same, then-then}
+use Rattle.records.proofs.WrittenWalk.{Went, went-then, went-made, went-word, went-row, stops, both, then-same, then-then, Whole}
 
 -- ---- the word at an index
 
@@ -134,6 +134,15 @@ pub record NoneOf (n m : ℕ) : Type 0 where
 pub none-of : {n m : ℕ} {U : Type 0} → (((((U × ¬ (n ≡ 1)) × ¬ (n ≡ 2)) × ¬ (n ≡ 5)) × ¬ (n ≡ 6)) × ¬ (n ≡ m)) → ¬ (n ≡ 3) → ¬ (n ≡ 4) → NoneOf n m
 none-of r n3 n4 = record { one = r .0 .0 .0 .0 .1; two = r .0 .0 .0 .1; three = n3; four = n4; five = r .0 .0 .1; six = r .0 .1; last = r .1 }
 
+-- an action ends well, if it does by each code that a word there may have
+pub went-coded : {A : Type 0} (ws : List ℕ) (p : ℕ) (by : Code → Res (Read A)) → ((k : Code) → p < length ws → Went ws p 1 (by k)) → Went ws p 1 (by noCode)
+    → Went ws p 1 (by (codeAt ws p))
+went-coded ws p by h none = go (ltb p (length ws)) refl
+  where
+    go : (b : Bool) → ltb p (length ws) ≡ b → Went ws p 1 (by (cond b (codeOf (getD ws p 0)) noCode))
+    go true e = h (codeOf (getD ws p 0)) (ltb-true p (length ws) e)
+    go false e = none
+
 module _ {ws : List ℕ} {p : ℕ} where
   pub no-code : NotKind ws p 6 → codeAt ws p ≡ noCode
   no-code n = go (ltb p (length ws)) refl
@@ -174,7 +183,7 @@ module _ {ws : List ℕ} {p : ℕ} where
 
 -- ---- a rule: its header, a row of one thing, and a row of another
 
-module _ {A B C : Type 0} (ws : List ℕ) (one : Reader A) (two : Reader B) (went : (p : ℕ) → Went ws p 1 (one p)) (f : List A → List B → C) where
+module _ {A B C : Type 0} (ws : List ℕ) (f : List A → List B → C) (one : Reader A) (two : Reader B) where
   abbrev readHeaded : Reader C
   readHeaded p = do
     w ← readWord ws isHeaderWord p
@@ -182,34 +191,53 @@ module _ {A B C : Type 0} (ws : List ℕ) (one : Reader A) (two : Reader B) (wen
     ys ← readRow two (actionsOf (w .value)) (xs .at)
     ok (record { value = f (xs .value) (ys .value); at = ys .at })
 
-  pub header-other : {p : ℕ} → NotKind ws p 5 → walk unfit p ≡ walkOf (readHeaded p)
+  -- the whole record, with nothing behind it
+  abbrev pub wholeHeaded : Res C
+  wholeHeaded = do
+    w ← readWord ws isHeaderWord 0
+    xs ← readRow one (factsOf (w .value)) (w .at)
+    ys ← readRow two (actionsOf (w .value)) (xs .at)
+    allRead ws (record { value = f (xs .value) (ys .value); at = ys .at })
+
+module _ {A B C : Type 0} (ws : List ℕ) (f : List A → List B → C) (one : Reader A) (two : Reader B) (went : (p : ℕ) → Went ws p 1 (one p)) where
+  abbrev read : Reader C
+  read = readHeaded ws f one two
+
+  pub header-other : {p : ℕ} → NotKind ws p 5 → walk unfit p ≡ walkOf (read p)
   header-other n = rw (kind-unfit isHeaderWord 5 header-kind n) refl
 
   module _ {p a b : ℕ} (t : There ws p (Header a b)) where
     abbrev rest : Read (List A) → Res (Read C)
     rest xs = _>>=_ (readRow two b (xs .at)) (λ ys. ok (record { value = f (xs .value) (ys .value); at = ys .at }))
 
-    header-read : readHeaded p ≡ _>>=_ (readRow one a (suc p)) rest
+    header-read : read p ≡ _>>=_ (readRow one a (suc p)) rest
     header-read =
         let n = header-numbers (getD ws p 0) a b (t .says) in
         rw (kind-fits isHeaderWord 5 header-kind t refl, n .0, n .1) refl
 
-    pub first-stops : {w : Walk} → w ≡ walkOf (readRow one a (p + 1)) → ¬ (w .refused ≡ 0) → w ≡ walkOf (readHeaded p)
+    pub first-stops : {w : Walk} → w ≡ walkOf (readRow one a (p + 1)) → ¬ (w .refused ≡ 0) → w ≡ walkOf (read p)
     first-stops e h = rw header-read (stops (readRow one a (suc p)) rest (rw (add-one p) at e) h)
 
-    pub then-second : {w z : Walk} → w ≡ walkOf (readRow one a (p + 1)) → w .refused ≡ 0 → z ≡ walkOf (readRow two b (w .at)) → z ≡ walkOf (readHeaded p)
+    pub then-second : {w z : Walk} → w ≡ walkOf (readRow one a (p + 1)) → w .refused ≡ 0 → z ≡ walkOf (readRow two b (w .at)) → z ≡ walkOf (read p)
     then-second e h g =
         rw header-read
         (both ws (suc p) 0 (readRow one a (suc p)) (readRow two b) (λ xs ys. f (xs .value) (ys .value)) (went-row ws one went a (suc p)) (rw (add-one p) at e) h g)
 
-  -- a whole rule is one that begins at index 0 and has nothing behind it
-  pub headed-whole : (do
-    w ← readWord ws isHeaderWord 0
-    xs ← readRow one (factsOf (w .value)) (w .at)
-    ys ← readRow two (actionsOf (w .value)) (xs .at)
-    allRead ws (record { value = f (xs .value) (ys .value); at = ys .at })) ≡ _>>=_ (readHeaded 0) (allRead ws)
-  headed-whole =
-      then-same (readWord ws isHeaderWord 0) _ _ (λ w.
-      then-same (readRow one (factsOf (w .value)) (w .at)) _ _ (λ xs. then-then (readRow two (actionsOf (w .value)) (xs .at)) _ (allRead ws))
-      ∙ then-then (readRow one (factsOf (w .value)) (w .at)) _ (allRead ws))
-      ∙ then-then (readWord ws isHeaderWord 0) _ (allRead ws)
+  -- where it ends, if each of the second row goes on too
+  module _ (went2 : (p : ℕ) → Went ws p 1 (two p)) where
+    pub went-headed : (p : ℕ) → Went ws p 1 (read p)
+    went-headed p =
+        went-then ws p 1 0 (readWord ws isHeaderWord p) _ (went-word ws isHeaderWord p)
+        (λ w. went-then ws (w .at) 0 0 (readRow one (factsOf (w .value)) (w .at)) _ (went-row ws one went (factsOf (w .value)) (w .at))
+        (λ xs. went-made ws (xs .at) 0 (readRow two (actionsOf (w .value)) (xs .at)) _ (went-row ws two went2 (actionsOf (w .value)) (xs .at))))
+
+    -- a whole record is one that begins at index 0 and has nothing behind it
+    pub headed-whole : Whole ws (read 0) (wholeHeaded ws f one two)
+    headed-whole = record { went = went-headed 0; is = apart }
+      where
+        apart : wholeHeaded ws f one two ≡ _>>=_ (read 0) (allRead ws)
+        apart =
+            then-same (readWord ws isHeaderWord 0) _ _ (λ w.
+            then-same (readRow one (factsOf (w .value)) (w .at)) _ _ (λ xs. then-then (readRow two (actionsOf (w .value)) (xs .at)) _ (allRead ws))
+            ∙ then-then (readRow one (factsOf (w .value)) (w .at)) _ (allRead ws))
+            ∙ then-then (readWord ws isHeaderWord 0) _ (allRead ws)

@@ -7,14 +7,14 @@ use native.Mathlib.Omega.{arith}
 use lib.ListN.{length, getD}
 use lib.Dec.{ltb, eqb, lit≤}
 use borrow.Author.Tests.{ltb-true}
-use Rattle.rules.specs.Words.{maxDepth, equalityWord, isNameWord, isLiteralWord, isHeadWord, isHeaderWord, countOf, factsOf, actionsOf}
-use Rattle.rules.specs.Words.{Code, aLet, aSet, aDelete, aSubsume, aUnion, aPanic, aCall, anExpression, noCode, codeOf}
+use Rattle.rules.specs.Words.{maxDepth, equalityWord, isNameWord, isLiteralWord, isHeadWord, countOf}
+use Rattle.rules.specs.Words.{Code, aLet, aSet, aDelete, aSubsume, aUnion, aPanic, aCall, anExpression, noCode}
 use Rattle.rules.specs.Refusals.{Res, ok, refuse, _>>=_, tooDeep}
 use Rattle.rules.specs.Signature.{Sig, heads}
 use Rattle.rules.specs.Written.{Expr, Exprs, Read, Reader, Shape, isLeaf, isCall, isBad, shape, readWord, readRow, readMany, readShape, readExpr}
 use Rattle.rules.specs.Written.{readTarget, readEqual, readHolds, readFact, readCode, readAction}
-use Rattle.records.specs.Written.{readRule}
-use Rattle.records.proofs.WrittenWalk.{Went, went-then, went-made, went-less, went-from, went-word, behind, went-row, Several, many, row}
+use Rattle.records.proofs.WrittenWalk.{Went, went-then, went-made, went-less, went-from, went-word, behind, Several, many, row}
+use Rattle.records.proofs.Expected.{went-coded}
 
 module _ (s : Sig) (ws : List ℕ) where
   went-many : (one : Reader Expr) → ((p : ℕ) → Went ws p 1 (one p)) → (n p : ℕ) → Went ws p 0 (readMany one n p)
@@ -76,23 +76,7 @@ module _ (s : Sig) (ws : List ℕ) where
   went-code noCode p l = (omega arith, omega arith)
 
   pub went-action : (p : ℕ) → Went ws p 1 (readAction s ws p)
-  went-action p = go (ltb p (length ws)) refl
-    where
-      go : (a : Bool) → ltb p (length ws) ≡ a → Went ws p 1 (readCode s ws p (cond a (codeOf (getD ws p 0)) noCode) (suc p))
-      go true e = went-code (codeOf (getD ws p 0)) p (ltb-true p (length ws) e)
-      go false e = (omega arith, omega arith)
-
-  pub went-facts : (n p : ℕ) → Went ws p 0 (readRow (readFact s ws) n p)
-  went-facts = went-row ws (readFact s ws) went-fact
-
-  pub went-actions : (n p : ℕ) → Went ws p 0 (readRow (readAction s ws) n p)
-  went-actions = went-row ws (readAction s ws) went-action
-
-  pub went-rule : (p : ℕ) → Went ws p 1 (readRule s ws p)
-  went-rule p =
-      went-then ws p 1 0 (readWord ws isHeaderWord p) _ (went-word ws isHeaderWord p)
-      (λ w. went-then ws (w .at) 0 0 (readRow (readFact s ws) (factsOf (w .value)) (w .at)) _ (went-facts (factsOf (w .value)) (w .at))
-      (λ fs. went-made ws (fs .at) 0 (readRow (readAction s ws) (actionsOf (w .value)) (fs .at)) _ (went-actions (actionsOf (w .value)) (fs .at))))
+  went-action p = went-coded ws p (λ k. readCode s ws p k (suc p)) (λ k l. went-code k p l) (omega arith, omega arith)
 
   -- ---- so several of them are read one by one
 

@@ -284,16 +284,16 @@ module _ (s : Sig) {ws : List ℕ} {p : ℕ} where
 
 -- ---- a rule
 
-abbrev rule : List Fact → List Act → Rule
+abbrev pub rule : List Fact → List Act → Rule
 rule fs xs = record { facts = fs; actions = xs }
 
 module _ (s : Sig) {ws : List ℕ} {p : ℕ} where
   pub facts-other : NotKind ws p 5 → walk unfit p ≡ walkOf (readRule s ws p)
-  facts-other n = header-other ws (readFact s ws) (readAction s ws) (went-fact s ws) rule n
+  facts-other n = header-other ws rule (readFact s ws) (readAction s ws) (went-fact s ws) n
 
   module _ {a b : ℕ} (t : There ws p (Header a b)) {w : Walk} (e : w ≡ walkOf (readRow (readFact s ws) a (p + 1))) where
     pub facts-stop : ¬ (w .refused ≡ 0) → w ≡ walkOf (readRule s ws p)
-    facts-stop h = first-stops ws (readFact s ws) (readAction s ws) (went-fact s ws) rule t e h
+    facts-stop h = first-stops ws rule (readFact s ws) (readAction s ws) (went-fact s ws) t e h
 
     pub facts-go : {z : Walk} → w .refused ≡ 0 → z ≡ walkOf (readRow (readAction s ws) b (w .at)) → z ≡ walkOf (readRule s ws p)
-    facts-go h g = then-second ws (readFact s ws) (readAction s ws) (went-fact s ws) rule t e h g
+    facts-go h g = then-second ws rule (readFact s ws) (readAction s ws) (went-fact s ws) t e h g

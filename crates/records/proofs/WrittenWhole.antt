@@ -1,28 +1,28 @@
 -- A whole written rule: one that begins at index 0 and has nothing behind it. And what signature it is read under: only the count of its heads matters.
 -- Assumes nothing.
-use mathlib.Core.Path.{_≡_, refl, ap, _∙_}
+use mathlib.Core.Path.{_≡_, refl, ap, ap₂, _∙_}
 use mathlib.Core.Bool.{Bool, false, _&&_, cond}
 use mathlib.Core.List.{List}
 use Prim.Native.Nat.{ℕ, zero, suc, _≤_}
 use native.Mathlib.Nat.{min-eq-left}
 use lib.ListN.{length, getD}
 use lib.Dec.{ltb, eqb}
-use Rattle.rules.specs.Words.{limit12, maxDepth, equalityWord, isNameWord, isHeadWord, isHeaderWord, countOf, factsOf, actionsOf}
+use Rattle.rules.specs.Words.{limit12, maxDepth, equalityWord, isNameWord, isHeadWord, countOf}
 use Rattle.rules.specs.Words.{Code, aLet, aSet, aDelete, aSubsume, aUnion, aPanic, aCall, anExpression, noCode}
 use Rattle.rules.specs.Refusals.{Res, _>>=_}
 use Rattle.rules.specs.Signature.{Sig, heads}
-use Rattle.rules.specs.Written.{Fact, Action, Read, Reader, Expr, shapeAt, readShape, readWord, readRow, readMany, readExpr, readTarget, readHolds, readFact}
+use Rattle.rules.specs.Written.{Fact, Read, Reader, Expr, shapeAt, readShape, readWord, readMany, readExpr, readTarget, readHolds, readFact}
 use Rattle.rules.specs.Written.{readCode, codeAt, readAction, readWritten}
 use Rattle.records.specs.Written.{withHeads, readRule}
 use Rattle.records.proofs.WrittenWalk.{then-same, Whole}
-use Rattle.records.proofs.WrittenEnds.{went-fact, went-rule}
-use Rattle.records.proofs.Expected.{heads-with, headed-whole}
+use Rattle.records.proofs.WrittenEnds.{went-fact, went-action}
+use Rattle.records.proofs.Expected.{heads-with, wholeHeaded, headed-whole}
+use Rattle.records.proofs.WrittenLaws.{rule}
 
 -- ---- a whole rule
 
 pub written-whole : (s : Sig) (ws : List ℕ) → Whole ws (readRule s ws 0) (readWritten s ws)
-written-whole s ws =
-    record { went = went-rule s ws 0; is = headed-whole ws (readFact s ws) (readAction s ws) (went-fact s ws) (λ fs xs. record { facts = fs; actions = xs }) }
+written-whole s ws = headed-whole ws rule (readFact s ws) (readAction s ws) (went-fact s ws) (went-action s ws)
 
 -- ---- the signature: two of as many heads read alike
 
@@ -58,16 +58,8 @@ module _ (s t : Sig) (ws : List ℕ) (same : heads s ≡ heads t) where
   code-same aCall p q = refl
   code-same noCode p q = refl
 
-  facts-same : (n p : ℕ) → readRow (readFact s ws) n p ≡ readRow (readFact t ws) n p
-  facts-same n p = ap (λ (one : Reader Fact). readRow one n p) (λ i q. fact-same q i)
-
-  actions-same : (n p : ℕ) → readRow (readAction s ws) n p ≡ readRow (readAction t ws) n p
-  actions-same n p = ap (λ (one : Reader Action). readRow one n p) (λ i q. code-same (codeAt ws q) q (suc q) i)
-
   pub written-same : readWritten s ws ≡ readWritten t ws
-  written-same =
-      then-same (readWord ws isHeaderWord 0) _ _ (λ w. rw (facts-same (factsOf (w .value)) (w .at))
-      (then-same (readRow (readFact t ws) (factsOf (w .value)) (w .at)) _ _ (λ fs. rw (actions-same (actionsOf (w .value)) (fs .at)) refl)))
+  written-same = ap₂ (wholeHeaded ws rule) (λ i q. fact-same q i) (λ i q. code-same (codeAt ws q) q (suc q) i)
 
 -- so a signature's own heads stand for it
 pub written-with : (s : Sig) (ws : List ℕ) → heads s ≤ limit12 → readWritten (withHeads (heads s)) ws ≡ readWritten s ws

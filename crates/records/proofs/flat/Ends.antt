@@ -7,14 +7,14 @@ use native.Mathlib.Omega.{arith}
 use lib.ListN.{length, getD}
 use lib.Dec.{ltb}
 use borrow.Author.Tests.{ltb-true}
-use Rattle.rules.specs.Words.{isLiteralWord, isHeadWord, isHeaderWord, countOf, factsOf, actionsOf}
-use Rattle.rules.specs.Words.{Code, aLet, aSet, aDelete, aSubsume, aUnion, aPanic, aCall, anExpression, noCode, codeOf}
+use Rattle.rules.specs.Words.{isLiteralWord, isHeadWord, countOf}
+use Rattle.rules.specs.Words.{Code, aLet, aSet, aDelete, aSubsume, aUnion, aPanic, aCall, anExpression, noCode}
 use Rattle.rules.specs.Refusals.{Res, ok, refuse, _>>=_}
 use Rattle.rules.specs.Signature.{Sig, heads}
 use Rattle.rules.specs.Written.{Read, Reader, readWord, readRow}
 use Rattle.rules.specs.Flat.{AtomShape, isPair, isOdd, isTable, isEmpty, isNone, isTarget, isTerm, atomShape, readTerm, readAtomShape, readAtom, readTerms, readCoreCode, readCoreAction}
-use Rattle.records.specs.Flat.{readFlatRule}
 use Rattle.records.proofs.WrittenWalk.{Went, went-then, went-made, went-from, went-word, behind, went-row, Several, row}
+use Rattle.records.proofs.Expected.{went-coded}
 
 module _ (s : Sig) (ws : List ℕ) where
   pub went-term : (p : ℕ) → Went ws p 1 (readTerm s ws p)
@@ -66,23 +66,7 @@ module _ (s : Sig) (ws : List ℕ) where
   went-code noCode p l = (omega arith, omega arith)
 
   pub went-action : (p : ℕ) → Went ws p 1 (readCoreAction s ws p)
-  went-action p = go (ltb p (length ws)) refl
-    where
-      go : (a : Bool) → ltb p (length ws) ≡ a → Went ws p 1 (readCoreCode s ws p (cond a (codeOf (getD ws p 0)) noCode) (suc p))
-      go true e = went-code (codeOf (getD ws p 0)) p (ltb-true p (length ws) e)
-      go false e = (omega arith, omega arith)
-
-  pub went-atoms : (n p : ℕ) → Went ws p 0 (readRow (readAtom s ws) n p)
-  went-atoms = went-row ws (readAtom s ws) went-atom
-
-  pub went-actions : (n p : ℕ) → Went ws p 0 (readRow (readCoreAction s ws) n p)
-  went-actions = went-row ws (readCoreAction s ws) went-action
-
-  pub went-rule : (p : ℕ) → Went ws p 1 (readFlatRule s ws p)
-  went-rule p =
-      went-then ws p 1 0 (readWord ws isHeaderWord p) _ (went-word ws isHeaderWord p)
-      (λ w. went-then ws (w .at) 0 0 (readRow (readAtom s ws) (factsOf (w .value)) (w .at)) _ (went-atoms (factsOf (w .value)) (w .at))
-      (λ as′. went-made ws (as′ .at) 0 (readRow (readCoreAction s ws) (actionsOf (w .value)) (as′ .at)) _ (went-actions (actionsOf (w .value)) (as′ .at))))
+  went-action p = went-coded ws p (λ k. readCoreCode s ws p k (suc p)) (λ k l. went-code k p l) (omega arith, omega arith)
 
   -- ---- so several of them are read one by one
 

@@ -344,16 +344,16 @@ module _ (s : Sig) {ws : List ℕ} {p : ℕ} where
 
 -- ---- a rule
 
-abbrev flatRule : List Atom → List CoreAction → FlatRule
+abbrev pub flatRule : List Atom → List CoreAction → FlatRule
 flatRule as′ xs = record { atoms = as′; actions = xs }
 
 module _ (s : Sig) {ws : List ℕ} {p : ℕ} where
   pub atoms-other : NotKind ws p 5 → walk unfit p ≡ walkOf (readFlatRule s ws p)
-  atoms-other n = header-other ws (readAtom s ws) (readCoreAction s ws) (went-atom s ws) flatRule n
+  atoms-other n = header-other ws flatRule (readAtom s ws) (readCoreAction s ws) (went-atom s ws) n
 
   module _ {a b : ℕ} (t : There ws p (Said.Header a b)) {w : Walk} (e : w ≡ walkOf (readRow (readAtom s ws) a (p + 1))) where
     pub atoms-stop : ¬ (w .refused ≡ 0) → w ≡ walkOf (readFlatRule s ws p)
-    atoms-stop h = first-stops ws (readAtom s ws) (readCoreAction s ws) (went-atom s ws) flatRule t e h
+    atoms-stop h = first-stops ws flatRule (readAtom s ws) (readCoreAction s ws) (went-atom s ws) t e h
 
     pub atoms-go : {z : Walk} → w .refused ≡ 0 → z ≡ walkOf (readRow (readCoreAction s ws) b (w .at)) → z ≡ walkOf (readFlatRule s ws p)
-    atoms-go h g = then-second ws (readAtom s ws) (readCoreAction s ws) (went-atom s ws) flatRule t e h g
+    atoms-go h g = then-second ws flatRule (readAtom s ws) (readCoreAction s ws) (went-atom s ws) t e h g

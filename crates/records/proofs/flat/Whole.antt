@@ -1,28 +1,28 @@
 -- A whole flat rule: one that begins at index 0 and has nothing behind it. And what signature it is read under: only the count of its heads matters.
 -- Assumes nothing.
-use mathlib.Core.Path.{_≡_, refl, ap, _∙_}
+use mathlib.Core.Path.{_≡_, refl, ap, ap₂, _∙_}
 use mathlib.Core.List.{List}
 use Prim.Native.Nat.{ℕ, suc, _-_, _≤_}
 use native.Mathlib.Nat.{min-eq-left}
 use lib.ListN.{getD}
-use Rattle.rules.specs.Words.{limit12, isHeadWord, isHeaderWord, countOf, factsOf, actionsOf}
+use Rattle.rules.specs.Words.{limit12, isHeadWord, countOf}
 use Rattle.rules.specs.Words.{Code, aLet, aSet, aDelete, aSubsume, aUnion, aPanic, aCall, anExpression, noCode}
 use Rattle.rules.specs.Refusals.{Res, _>>=_}
 use Rattle.rules.specs.Signature.{Sig, heads}
 use Rattle.rules.specs.Written.{Read, Reader, readWord, readRow, codeAt}
-use Rattle.rules.specs.Flat.{Atom, CoreAction, AtomShape, isPair, isOdd, isTable, isEmpty, isNone, isTarget, atomShapeAt, readTerm, readTerms, readAtomShape}
+use Rattle.rules.specs.Flat.{AtomShape, isPair, isOdd, isTable, isEmpty, isNone, isTarget, atomShapeAt, readTerm, readTerms, readAtomShape}
 use Rattle.rules.specs.Flat.{readAtom, readCoreCode, readCoreAction, readFlat}
 use Rattle.records.specs.Written.{withHeads}
 use Rattle.records.specs.Flat.{readFlatRule}
 use Rattle.records.proofs.WrittenWalk.{then-same, Whole}
-use Rattle.records.proofs.Expected.{heads-with, headed-whole}
-use Rattle.records.proofs.flat.Ends.{went-atom, went-rule}
+use Rattle.records.proofs.Expected.{heads-with, wholeHeaded, headed-whole}
+use Rattle.records.proofs.flat.Ends.{went-atom, went-action}
+use Rattle.records.proofs.flat.Laws.{flatRule}
 
 -- ---- a whole rule
 
 pub flat-whole : (s : Sig) (ws : List ℕ) → Whole ws (readFlatRule s ws 0) (readFlat s ws)
-flat-whole s ws =
-    record { went = went-rule s ws 0; is = headed-whole ws (readAtom s ws) (readCoreAction s ws) (went-atom s ws) (λ as′ xs. record { atoms = as′; actions = xs }) }
+flat-whole s ws = headed-whole ws flatRule (readAtom s ws) (readCoreAction s ws) (went-atom s ws) (went-action s ws)
 
 -- ---- the signature: two of as many heads read alike
 
@@ -67,16 +67,8 @@ module _ (s t : Sig) (ws : List ℕ) (same : heads s ≡ heads t) where
   code-same anExpression p q = refl
   code-same noCode p q = refl
 
-  atoms-same : (n p : ℕ) → readRow (readAtom s ws) n p ≡ readRow (readAtom t ws) n p
-  atoms-same n p = ap (λ (one : Reader Atom). readRow one n p) (λ i q. atom-same q i)
-
-  actions-same : (n p : ℕ) → readRow (readCoreAction s ws) n p ≡ readRow (readCoreAction t ws) n p
-  actions-same n p = ap (λ (one : Reader CoreAction). readRow one n p) (λ i q. code-same (codeAt ws q) q (suc q) i)
-
   pub flat-same : readFlat s ws ≡ readFlat t ws
-  flat-same =
-      then-same (readWord ws isHeaderWord 0) _ _ (λ w. rw (atoms-same (factsOf (w .value)) (w .at))
-      (then-same (readRow (readAtom t ws) (factsOf (w .value)) (w .at)) _ _ (λ as′. rw (actions-same (actionsOf (w .value)) (as′ .at)) refl)))
+  flat-same = ap₂ (wholeHeaded ws flatRule) (λ i q. atom-same q i) (λ i q. code-same (codeAt ws q) q (suc q) i)
 
 -- so a signature's own heads stand for it
 pub flat-with : (s : Sig) (ws : List ℕ) → heads s ≤ limit12 → readFlat (withHeads (heads s)) ws ≡ readFlat s ws

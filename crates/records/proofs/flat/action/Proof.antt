@@ -15,12 +15,6 @@ use Rattle.records.proofs.flat.action.Tie as tie
 abbrev start : tie.After-word-at → tie.Start
 start c = c .before .before
 
-word-at-requires : tie.Need-word-at-requires
-word-at-requires c κs = search needs
-
-enum-known-w : tie.Need-enum-known-w
-enum-known-w c = search needs
-
 -- it is no action's
 returns : tie.Need-returns
 returns c = let w = c .before in action-other (withHeads (start w .args .heads)) (not-kind (w .word-at .ensures) 6 tt (c .match .keys2))
@@ -38,24 +32,6 @@ at-word c = there (told c .word-at .ensures) (c .before .w .given .1) (lit< tt)
 
 add-next : tie.Need-add-next
 add-next c = omega (arith, at-word c .inside, length-words (start (told c) .args .rule .now))
-
-let-action-requires : tie.Need-let-action-requires
-let-action-requires c κs = search needs
-
-set-action-requires : tie.Need-set-action-requires
-set-action-requires c κs = search needs
-
-terms-requires : tie.Need-terms-requires
-terms-requires c κs = search needs
-
-literal-requires : tie.Need-literal-requires
-literal-requires c κs = search needs
-
-call-action-requires : tie.Need-call-action-requires
-call-action-requires c κs = search needs
-
-head-terms-requires : tie.Need-head-terms-requires
-head-terms-requires c κs = search needs
 
 -- by its code
 returns-2 : tie.Need-returns-2
@@ -90,16 +66,16 @@ pub action-spec : {M : Type 1} → statement M
 action-spec =
     tie.close
     (tie.spec
-    word-at-requires
-    enum-known-w
+    (λ c κs. search needs)
+    (λ c. search needs)
     returns
     add-next
-    let-action-requires
-    set-action-requires
-    terms-requires
-    literal-requires
-    call-action-requires
-    head-terms-requires
+    (λ c κs. search needs)
+    (λ c κs. search needs)
+    (λ c κs. search needs)
+    (λ c κs. search needs)
+    (λ c κs. search needs)
+    (λ c κs. search needs)
     returns-2
     returns-3
     returns-4
