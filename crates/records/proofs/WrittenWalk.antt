@@ -75,7 +75,7 @@ goes ws p j (ok r) f l e h g = g r (sym (ap (λ (v : Walk). v .at) e))
 goes ws p j (refuse n q) f l e h g = let z : n ≡ 0 = sym (ap (λ (v : Walk). v .refused) e) ∙ h in absurd (omega arith)
 
 -- and where it begins again is known
-pub walk-ends : {A : Type 0} (ws : List ℕ) (p j : ℕ) (x : Res (Read A)) {w : Walk}
+walk-ends : {A : Type 0} (ws : List ℕ) (p j : ℕ) (x : Res (Read A)) {w : Walk}
     → Went ws p j x → w ≡ walkOf x → w .refused ≡ 0 → (p + j ≤ w .at) × (w .at - p ≤ length ws - p)
 walk-ends ws p j (ok r) l e h = let same = ap (λ (v : Walk). v .at) e in (omega arith, omega arith)
 walk-ends ws p j (refuse n q) l e h = let z : n ≡ 0 = sym (ap (λ (v : Walk). v .refused) e) ∙ h in absurd (omega arith)
@@ -136,6 +136,10 @@ module _ {A B : Type 0} {ws : List ℕ} {one : Reader A} {several : ℕ → Read
         go (suc n) z =
             let down : suc n - 1 ≡ n = omega arith in
             goes ws next 1 (one next) (λ x. several n (x .at)) (k .went next) e h (λ r same. rw (down, same)) ∙ sym (k .more n next)
+
+    -- and the one after it stands behind
+    pub left-on : {w : Walk} → w ≡ walkOf (one next) → w .refused ≡ 0 → next < w .at
+    left-on e h = omega (arith, walk-ends ws next 1 (one next) (k .went next) e h .0)
 
     pub left-end : left ≡ 0 → walk 0 next ≡ walkOf (several count at)
     left-end none = sym (k .none next) ∙ ap (λ (n : ℕ). walkOf (several n next)) (sym none) ∙ l .same

@@ -11,10 +11,9 @@ use borrow.Fn.Kinds.{In}
 use borrow.Fn.PlainCycle.{Measures, is, falls, and}
 use Rattle.octets.specs.Words.{words}
 use Rattle.octets.proofs.Words.{length-words}
-use Rattle.rules.specs.Written.{readExpr}
 use Rattle.records.specs.Written.{withHeads}
-use Rattle.records.proofs.WrittenWalk.{walk-ends, Left, left-start, left-stops, left-next, left-end, none-left}
-use Rattle.records.proofs.WrittenEnds.{went-expr, exprs}
+use Rattle.records.proofs.WrittenWalk.{Left, left-start, left-stops, left-next, left-on, left-end, none-left}
+use Rattle.records.proofs.WrittenEnds.{exprs}
 use Rattle.records.proofs.WrittenLaws.{Starts, starts, no-expression, too-deep, one-deeper, both-true, leaf-starts}
 use Rattle.records.proofs.written.arguments.Reads as arguments
 use Rattle.records.proofs.written.arguments.Kinds as arguments-kinds
@@ -100,7 +99,8 @@ arguments-loop-again : (t : ℕ) → arguments-lts.Need-loop-again (arguments-ca
 arguments-loop-again t c =
     let l = leaf-turn t (c .before) .loop in
     let h = at-leaf t c in
-    (left-next (l .inv .0) (omega arith) (one-deeper (h .0) (leaf-turn t (c .before) .before .before .args .depth) (λ z. omega (arith, h .1))) refl, omega (arith, l .inv .1))
+    let one = one-deeper (h .0) (leaf-turn t (c .before) .before .before .args .depth) (λ z. omega (arith, h .1)) in
+    (left-next (l .inv .0) (omega arith) one refl, omega (arith, l .inv .1))
 
 arguments-expression-requires : (t : ℕ) → arguments-lts.Need-expression-requires (arguments-calls t) (arguments-at t) arguments.Post arguments-Inv-loop arguments-μ-loop
 arguments-expression-requires t c κs =
@@ -117,13 +117,9 @@ arguments-loop-less-2 t c = omega arith
 arguments-loop-again-2 : (t : ℕ) → arguments-lts.Need-loop-again-2 (arguments-calls t) (arguments-at t) arguments.Post arguments-Inv-loop arguments-μ-loop
 arguments-loop-again-2 t c =
     let x = c .before .before in
-    let l = read-turn t x in
-    let a = l .before .before .args in
-    let s = withHeads (a .heads) in
-    let ws = words (a .rule .now) in
-    let p = l .loop .next in
-    let on = walk-ends ws p 1 (readExpr s ws (a .depth) p) (went-expr s ws (a .depth) p) (x .expression .ensures) (c .if2 .left) in
-    (left-next (l .loop .inv .0) (omega arith) (x .expression .ensures) (c .if2 .left), omega (arith, l .loop .inv .1))
+    let l = read-turn t x .loop in
+    let on = left-on (l .inv .0) (x .expression .ensures) (c .if2 .left) in
+    (left-next (l .inv .0) (omega arith) (x .expression .ensures) (c .if2 .left), omega (arith, l .inv .1))
 
 arguments-returns-2 : (t : ℕ) → arguments-lts.Need-returns-2 (arguments-calls t) (arguments-at t) arguments.Post arguments-Inv-loop arguments-μ-loop
 arguments-returns-2 t c = left-end (c .before .loop .inv .0) (omega arith)

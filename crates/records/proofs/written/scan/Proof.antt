@@ -31,8 +31,11 @@ loop-holds c = scanning-start (omega arith)
 abbrev Loop : Type 0
 Loop = tie.At-loop Inv-loop μ-loop
 
-addressed : (c : Loop) → length (words (c .before .before .before .before .args .rule .now)) < 2 ^ 62
-addressed c = let s = c .before .before .before .before in omega (arith, length-words (s .args .rule .now), s .good)
+abbrev start : Loop → tie.Start Inv-loop μ-loop
+start c = c .before .before .before .before
+
+addressed : (c : Loop) → length (words (start c .args .rule .now)) < 2 ^ 62
+addressed c = omega (arith, length-words (start c .args .rule .now), start c .good)
 
 sub-if2 : tie.Need-sub-if2 Inv-loop μ-loop
 sub-if2 c = search needs
@@ -46,7 +49,7 @@ get-requires c κs = search needs
 abbrev turn : tie.After-get Inv-loop μ-loop → Loop
 turn c = c .before .before .before
 
-here : (c : tie.After-get Inv-loop μ-loop) → turn c .loop .next < length (words (turn c .before .before .before .before .args .rule .now))
+here : (c : tie.After-get Inv-loop μ-loop) → turn c .loop .next < length (words (start (turn c) .args .rule .now))
 here c = omega arith
 
 sub-left : tie.Need-sub-left Inv-loop μ-loop
