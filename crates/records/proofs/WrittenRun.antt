@@ -4,9 +4,7 @@ use mathlib.Core.Bool.{Bool, true, _&&_}
 use mathlib.Core.List.{List}
 use Prim.Native.Nat.{ℕ, zero, suc, _+_, _-_, _%_, _≤_, _<_}
 use native.Mathlib.Omega.{arith}
-use lib.Dec.{leb}
 use lib.ListN.{length, getD}
-use borrow.Author.Tests.{leb-true}
 use Rattle.rules.specs.Words.{limit16, maxDepth, literalBase, isHeadWord}
 use Rattle.rules.specs.Signature.{Sig}
 use Rattle.rules.specs.Written.{readMany, readExpr}
@@ -132,7 +130,5 @@ module _ {H : ℕ} {ws : List ℕ} {count at left next calls : ℕ} {good : Bool
         go zero l k st q j r = absurd (omega arith)
         go (suc n) l k st q j r = k q j (leaf st (with-left n (let e : suc n - 1 ≡ n = omega arith in e) r))
 
-  pub scanning-end : (m : ℕ) → m < maxDepth → left ≡ 0 → (good && leb calls m) ≡ true → walk 0 next ≡ walkOf (readMany (readExpr (withHeads H) ws maxDepth) count at)
-  scanning-end m deep none h =
-      let few = leb-true calls m (and-right good (leb calls m) h) in
-      run-read maxDepth (omega arith) (g .goes (and-left good (leb calls m) h) next 0 (with-left left (sym none) done))
+  pub scanning-end : left ≡ 0 → calls < maxDepth → good ≡ true → walk 0 next ≡ walkOf (readMany (readExpr (withHeads H) ws maxDepth) count at)
+  scanning-end none few h = run-read maxDepth (omega arith) (g .goes h next 0 (with-left left (sym none) done))

@@ -3,10 +3,13 @@
 use mathlib.Core.Path.{_≡_}
 use Prim.Native.Nat.{ℕ, _-_, _^_, _<_}
 use native.Mathlib.Omega.{arith}
+use lib.Dec.{leb}
 use lib.ListN.{length}
+use borrow.Author.Tests.{leb-true}
 use borrow.Author.Needs.{needs}
 use Rattle.octets.specs.Words.{words}
 use Rattle.octets.proofs.Words.{length-words}
+use Rattle.records.proofs.WrittenLaws.{both-true}
 use Rattle.records.proofs.WrittenRun.{Scanning, scanning-start, scanning-leaf, scanning-call, scanning-end}
 use Rattle.records.proofs.written.scan.Statement.{statement}
 use Rattle.records.proofs.written.scan.Tie as tie
@@ -99,7 +102,11 @@ cast-t18 : tie.Need-cast-t18 Inv-loop μ-loop
 cast-t18 c = search needs
 
 returns-3 : tie.Need-returns-3 Inv-loop μ-loop
-returns-3 c e = scanning-end (c .before .loop .inv) 31 (omega arith) (omega arith) e
+returns-3 c e =
+    let l = c .before .loop in
+    let is = both-true (l .good) (leb (l .calls) _) e in
+    let few = leb-true (l .calls) _ (is .1) in
+    scanning-end (l .inv) (omega arith) (omega arith) (is .0)
 
 pub scan-spec : {M : Type 1} → statement M
 scan-spec =
