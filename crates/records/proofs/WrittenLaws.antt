@@ -12,7 +12,7 @@ use Rattle.rules.specs.Words.{limit12, limit16, maxDepth, nameBase, literalBase
 use Rattle.rules.specs.Words.{isEqualityWord, headOf, countOf, Code, aLet, aSet, aPanic, codeOf}
 use Rattle.rules.specs.Refusals.{Res, ok, refuse, _>>=_, unfit, tooDeep}
 use Rattle.rules.specs.Signature.{Sig, heads}
-use Rattle.rules.specs.Written.{Expr, Read, Shape, isLeaf, isCall, isBad, shape, shapeAt, readMany, readShape, readExpr, readTarget, readEqual, readFact}
+use Rattle.rules.specs.Written.{Expr, Exprs, Read, Reader, Shape, isLeaf, isCall, isBad, shape, shapeAt, readMany, readShape, readExpr, readTarget, readEqual, readFact}
 use Rattle.rules.specs.Written.{readCode, readAction, readRow, equal, union′, Fact, Rule, Action as Act}
 use Rattle.words.specs.Word.{wordOf, kind}
 use Rattle.words.specs.declared.Word.{Word}
@@ -48,18 +48,16 @@ starts {s} {ws} {p} {n} read is = let h = sym read ∙ is in record { takes = h;
 
 -- none begins there: 5 comes before 6
 pub no-expression : (s : Sig) (ws : List ℕ) (d p : ℕ) {x : Start} → x ≡ startOf (shapeAt s ws p) (getD ws p 0) → x ≡ Other → walk unfit p ≡ walkOf (readExpr s ws d p)
-no-expression s ws zero p read is = go (shapeAt s ws p) (sym read ∙ is)
+no-expression s ws d p read is = at-depth d
   where
-    go : (sh : Shape) → startOf sh (getD ws p 0) ≡ Other → walk unfit p ≡ walkOf (readShape sh true (λ n q. refuse tooDeep q) (getD ws p 0) p)
-    go isLeaf h = cc
-    go isCall h = cc
-    go isBad h = refl
-no-expression s ws (suc d) p read is = go (shapeAt s ws p) (sym read ∙ is)
-  where
-    go : (sh : Shape) → startOf sh (getD ws p 0) ≡ Other → walk unfit p ≡ walkOf (readShape sh false (λ n q. readMany (λ r. readExpr s ws d r) n q) (getD ws p 0) p)
-    go isLeaf h = cc
-    go isCall h = cc
-    go isBad h = refl
+    go : (sh : Shape) (inside : Bool) (args : ℕ → Reader Exprs) → startOf sh (getD ws p 0) ≡ Other → walk unfit p ≡ walkOf (readShape sh inside args (getD ws p 0) p)
+    go isLeaf inside args h = cc
+    go isCall inside args h = cc
+    go isBad inside args h = refl
+
+    at-depth : (d : ℕ) → walk unfit p ≡ walkOf (readExpr s ws d p)
+    at-depth zero = go (shapeAt s ws p) true (λ n q. refuse tooDeep q) (sym read ∙ is)
+    at-depth (suc d) = go (shapeAt s ws p) false (λ n q. readMany (λ r. readExpr s ws d r) n q) (sym read ∙ is)
 
 module _ {s : Sig} {ws : List ℕ} {p n : ℕ} (b : Starts s ws p n) where
   pub too-deep : (d : ℕ) → d ≡ 0 → walk tooDeep p ≡ walkOf (readExpr s ws d p)
