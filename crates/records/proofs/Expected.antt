@@ -164,10 +164,12 @@ module _ {ws : List ℕ} {p : ℕ} where
 
     -- 3 and 4, of which the code asks the same
     pub change-code : 3 ≤ n → n < 5 → z ≡ walkOf (by aDelete) → z ≡ walkOf (by aSubsume) → z ≡ walkOf (by (codeAt ws p))
-    change-code lo hi d s = ⊎-elim (λ (same : 3 ≡ n). as-code 3 (sym same) d) (λ (l : 3 < n). as-code 4 (let same : n ≡ 4 = omega arith in same) s) (eq-or-lt-of-le lo)
+    change-code lo hi d s =
+        ⊎-elim (λ (same : 3 ≡ n). as-code 3 (sym same) d) (λ (l : 3 < n). as-code 4 (let same : n ≡ 4 = omega arith in same) s) (eq-or-lt-of-le lo)
 
     -- none of 1 to 6
-    pub last-code : (m : ℕ) → NoneOf n m → (n ≡ 7 → z ≡ walkOf (by aCall)) → (n ≡ 8 → z ≡ walkOf (by anExpression)) → z ≡ walkOf (by noCode) → z ≡ walkOf (by (codeAt ws p))
+    pub last-code : (m : ℕ) → NoneOf n m → (n ≡ 7 → z ≡ walkOf (by aCall)) → (n ≡ 8 → z ≡ walkOf (by anExpression)) → z ≡ walkOf (by noCode)
+        → z ≡ walkOf (by (codeAt ws p))
     last-code m k seven eight none = by-code (go (eqb (actionWord n) (actionWord 7)) refl (eqb (actionWord n) (actionWord 8)) refl)
       where
         not-code : (j : ℕ) → ¬ (n ≡ j) → eqb (actionWord n) (actionWord j) ≡ false

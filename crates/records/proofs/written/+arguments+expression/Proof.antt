@@ -162,7 +162,8 @@ expression-returns-3 : (t : ℕ) → expression-lts.Need-returns-3 (expression-c
 expression-returns-3 t c =
     let k = c .before .before in
     let a = told-start t k .args in
-    none-left (exprs (withHeads (a .heads)) (words (a .rule .now)) (a .depth - 1)) _ (a .at + 1) (c .if2 .taken) ∙ one-deeper (at-count t k) (a .depth) (c .before .if1 .left)
+    none-left (exprs (withHeads (a .heads)) (words (a .rule .now)) (a .depth - 1)) _ (a .at + 1) (c .if2 .taken)
+    ∙ one-deeper (at-count t k) (a .depth) (c .before .if1 .left)
 
 expression-sub-arguments : (t : ℕ) → expression-lts.Need-sub-arguments (expression-calls t) (expression-at t) expression.Post
 expression-sub-arguments t c = omega arith
