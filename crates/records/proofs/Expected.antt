@@ -54,6 +54,15 @@ module _ {ws : List ℕ} {p : ℕ} {w : Word} (read : w ≡ wordAt ws p) where
   unfolding wordAt
   not-kind k t h = record { other = λ l. rw (lt-ltb p (length ws) l) at (rw read at (other-kind k w t h)) }
 
+-- ---- it is tested, behind the record's end too
+
+module _ (test : ℕ → Bool) (ws : List ℕ) (p : ℕ) where
+  pub test-here : {w : ℕ} {b : Bool} → p < length ws → w ≡ getD ws p 0 → b ≡ test w → b ≡ (ltb p (length ws) && test (getD ws p 0))
+  test-here h e k = rw (lt-ltb p (length ws) h) (k ∙ ap test e)
+
+  pub test-none : length ws ≤ p → false ≡ (ltb p (length ws) && test (getD ws p 0))
+  test-none h = rw (le-ltb p (length ws) h) refl
+
 -- ---- it is taken, or refused
 
 module _ (fits : ℕ → Bool) where

@@ -26,7 +26,7 @@ use Rattle.records.specs.declared.written.Start.the-variants.{Takes, Oth
 use Rattle.records.specs.Written.{withHeads, walk, walkOf, wordAt, startOf, leafWord, leafAt, readRule}
 use Rattle.records.proofs.WrittenWalk.{made, then-made, moved, just-one, last-one}
 use Rattle.records.proofs.WrittenEnds.{went-fact}
-use Rattle.records.proofs.Expected.{There, NotKind, kind-fits, kind-unfit, heads-most, with-below, head-with, head-other, head-high, head-fits, head-count}
+use Rattle.records.proofs.Expected.{test-here, There, NotKind, kind-fits, kind-unfit, heads-most, with-below, head-with, head-other, head-high, head-fits, head-count}
 use Rattle.records.proofs.Expected.{no-code, as-code, change-code, NoneOf, last-code, header-other, first-stops, then-second}
 
 -- ---- an expression, by how it begins
@@ -94,7 +94,7 @@ leaf-starts s ws p h = starts (sym (go (ltb p (length ws)) (leafWord (getD ws p 
 -- ---- how it begins, by the range of its first word
 
 pub leaf-there : (ws : List ℕ) (p : ℕ) {w : ℕ} → p < length ws → w ≡ getD ws p 0 → leafWord w ≡ true → leafAt ws p ≡ true
-leaf-there ws p here is h = rw (lt-ltb p (length ws) here) (rw is at h)
+leaf-there ws p here is h = sym (test-here leafWord ws p here is (sym h))
 
 -- below the literals, only a kind 3 word begins an expression
 pub call-starts : (H : ℕ) (ws : List ℕ) (p : ℕ) {w : ℕ} → p < length ws → w ≡ getD ws p 0 → w < literalBase → isHeadWord H w ≡ true

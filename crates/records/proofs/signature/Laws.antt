@@ -113,10 +113,6 @@ module _ (ws : List ℕ) where
       go true rest g = rw (rest (omega arith))
       go false rest g = absurd (omega arith)
 
-  -- the code's test of the word at an index
-  pub kind-here : (p : ℕ) {w : ℕ} {b : Bool} → p < length ws → w ≡ getD ws p 0 → b ≡ within signatureBase 3 w → b ≡ isKindAt ws p
-  kind-here p h e k = rw (lt-ltb p (length ws) h) (k ∙ ap (within signatureBase 3) e)
-
   -- where there is no bad index, each is a kind
   pub all-good : (n p i q : ℕ) → firstBad ws n p ≡ p + n → i < n → q ≡ p + i → isKindAt ws q ≡ true
   unfolding firstBad

@@ -1,36 +1,23 @@
--- Behind the record's end there is no word, and else the word there is tested. Assumes nothing.
-use mathlib.Core.Path.{_∙_}
-use Prim.Native.Nat.{_≤_, _<_}
+-- Behind the record's end no term stands, and else the word there is tested. Assumes nothing.
 use native.Mathlib.Omega.{arith}
-use lib.ListN.{length}
-use borrow.Author.Tests.{lt-ltb, le-ltb}
 use borrow.Author.Needs.{needs}
 use Rattle.octets.specs.Words.{words}
+use Rattle.rules.specs.Flat.{isTerm}
+use Rattle.records.specs.Written.{withHeads}
+use Rattle.records.proofs.Expected.{test-here, test-none}
 use Rattle.records.proofs.flat.is_term_at.Statement.{statement}
 use Rattle.records.proofs.flat.is_term_at.Tie as tie
 
-count-requires : tie.Need-count-requires
-count-requires c κs = search needs
-
-get-requires : tie.Need-get-requires
-get-requires c κs = search needs
-
-is-term-requires : tie.Need-is-term-requires
-is-term-requires c κs = search needs
-
+-- there is a word
 returns : tie.Need-returns
 returns c =
     let g = c .before in
     let a = g .before .before .before .before .args in
-    let h : a .at < length (words (a .rule .now)) = omega arith in
-    c .is-term .ensures ∙ simp (lt-ltb _ _ h, g .get .ensures .is)
+    test-here (isTerm (withHeads (a .heads))) (words (a .rule .now)) (a .at) (omega arith) (g .get .ensures .is) (c .is-term .ensures)
 
+-- there is none
 returns-2 : tie.Need-returns-2
-returns-2 c =
-    let a = c .before .before .before .args in
-    let h : length (words (a .rule .now)) ≤ a .at = omega arith in
-    simp (le-ltb _ _ h)
+returns-2 c = let a = c .before .before .before .args in test-none (isTerm (withHeads (a .heads))) (words (a .rule .now)) (a .at) (omega arith)
 
 pub is-term-at-spec : {M : Type 1} → statement M
-is-term-at-spec =
-    tie.close (tie.spec count-requires get-requires is-term-requires returns returns-2)
+is-term-at-spec = tie.close (tie.spec (λ c κs. search needs) (λ c κs. search needs) (λ c κs. search needs) returns returns-2)

@@ -1,35 +1,22 @@
--- Behind the record's end there is no word, and else the word there is tested. Assumes nothing.
-use mathlib.Core.Path.{_∙_}
-use Prim.Native.Nat.{_≤_, _<_}
+-- Behind the record's end nothing stands, and else the word there is tested. Assumes nothing.
 use native.Mathlib.Omega.{arith}
-use lib.ListN.{length}
-use borrow.Author.Tests.{lt-ltb, le-ltb}
 use borrow.Author.Needs.{needs}
 use Rattle.octets.specs.Words.{words}
+use Rattle.records.specs.Written.{leafWord}
+use Rattle.records.proofs.Expected.{test-here, test-none}
 use Rattle.records.proofs.written.leaf_at.Statement.{statement}
 use Rattle.records.proofs.written.leaf_at.Tie as tie
 
-count-requires : tie.Need-count-requires
-count-requires c κs = search needs
-
-get-requires : tie.Need-get-requires
-get-requires c κs = search needs
-
-is-leaf-requires : tie.Need-is-leaf-requires
-is-leaf-requires c κs = search needs
-
+-- there is a word
 returns : tie.Need-returns
 returns c =
     let g = c .before in
     let a = g .before .before .before .before .args in
-    let h : a .at < length (words (a .rule .now)) = omega arith in
-    c .is-leaf .ensures ∙ simp (lt-ltb _ _ h, g .get .ensures .is)
+    test-here leafWord (words (a .rule .now)) (a .at) (omega arith) (g .get .ensures .is) (c .is-leaf .ensures)
 
+-- there is none
 returns-2 : tie.Need-returns-2
-returns-2 c =
-    let a = c .before .before .before .args in
-    let h : length (words (a .rule .now)) ≤ a .at = omega arith in
-    simp (le-ltb _ _ h)
+returns-2 c = let a = c .before .before .before .args in test-none leafWord (words (a .rule .now)) (a .at) (omega arith)
 
 pub leaf-at-spec : {M : Type 1} → statement M
-leaf-at-spec = tie.close (tie.spec count-requires get-requires is-leaf-requires returns returns-2)
+leaf-at-spec = tie.close (tie.spec (λ c κs. search needs) (λ c κs. search needs) (λ c κs. search needs) returns returns-2)
