@@ -102,8 +102,8 @@ pub record Cut (k : Given) : Type 0 where
   pub bytes : 4 * k .count ≤ length (k .given)
   pub counted : 4 * k .signature ≤ length (k .counters)
 
-pub cut-there : (k : Given) → (k .count ≤ maxLines) × (k .count ≤ length (words (k .given))) → k .signature ≡ signatureLength (part (words (k .given)) 0 (k .count))
-    → k .cut ≡ min (k .signature) (k .count) → Zeros (4 * maxLines) (k .counters)
+pub cut-there : (k : Given) → (k .count ≤ maxLines) × (k .count ≤ length (words (k .given)))
+    → k .signature ≡ signatureLength (part (words (k .given)) 0 (k .count)) → k .cut ≡ min (k .signature) (k .count) → Zeros (4 * maxLines) (k .counters)
     → (length (k .output) ≡ 4 * scratchWords) × (length (k .scratch) ≡ 4 * scratchWords) → Cut k
 cut-there k counts is here zeros rooms =
     let all = counts .1 in

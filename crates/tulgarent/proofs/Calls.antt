@@ -53,7 +53,8 @@ module _ {R : Type 0} (k : Call R) where
   abbrev pub Answers : Answer → (output counters : List ℕ) → Type 0
   Answers r m d = GivesBoth (outcome ending) r m d
 
-  comes-to : {r : Answer} {m d : List ℕ} (x : Res Result) → ending ≡ x → r ≡ answerOf (outcome x) → m ≡ outcome x .output → d ≡ outcome x .counters → Answers r m d
+  comes-to : {r : Answer} {m d : List ℕ} (x : Res Result) → ending ≡ x
+      → r ≡ answerOf (outcome x) → m ≡ outcome x .output → d ≡ outcome x .counters → Answers r m d
   comes-to x e a w c =
       record {
         answer = a ∙ ap (λ (y : Res Result). answerOf (outcome y)) (sym e);

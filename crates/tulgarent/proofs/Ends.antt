@@ -20,7 +20,8 @@ module _ (o : Result) (n : ℕ) (l m : List ℕ) (wrote : Wrote (o .words) n l m
   ends-short h =
       let e = wrote .needed in
       let k : length l / 4 < length (o .words) = omega (arith, length-words l) in (
-        ap (λ (b : Bool). demand b shortOutput (length (o .words)) o) (lt-leb (length (o .words)) (length l / 4) k) ∙ ap (λ (x : ℕ). refuse shortOutput x) (sym e),
+        ap (λ (b : Bool). demand b shortOutput (length (o .words)) o) (lt-leb (length (o .words)) (length l / 4) k)
+            ∙ ap (λ (x : ℕ). refuse shortOutput x) (sym e),
         wrote .short (omega arith),
       )
 

@@ -104,7 +104,8 @@ pub record Worked (k : Given) {g : Signature} (y : Ready (lowering k) g) (w : Lo
 
 module _ (k : Given) {g : Signature} (y : Ready (lowering k) g) where
   pub worked : {w : Lowered} {m d : List ℕ}
-      → ((s : Sig) (r : Rule) → WrittenUnder (words (k .signature)) (words (k .rule)) g s r → LowersTo s (toCoreRule s r (words (k .counters))) (words (k .counters)) (words d) (k .output) m w)
+      → ((s : Sig) (r : Rule) → WrittenUnder (words (k .signature)) (words (k .rule)) g s r
+      → LowersTo s (toCoreRule s r (words (k .counters))) (words (k .counters)) (words d) (k .output) m w)
       → length m ≡ length (k .output) → length d ≡ length (k .counters) → Bytes (k .output) → Bytes m → Bytes (k .counters) → Bytes d → Worked k y w m d
   worked did em ed o m c d =
       record {
@@ -137,13 +138,16 @@ module _ {k : Given} {g : Signature} {y : Ready (lowering k) g} {w : Lowered} {m
       go : (x : Res CoreRule) → core k y ≡ x → Core x → Answers (lowering k) r m d
       go (ok c) e z = absurd (bad (z .fine))
       go (refuse n p) e z =
-          work-refuses y (ap settles e) (a ∙ ap (λ (i : ℕ). refusedWith i (w .place)) (z .number′) ∙ ap (refusedWith n) (z .place′)) (z .output) (unused (z .counters))
+          work-refuses y (ap settles e) (a ∙ (λ i. refusedWith (z .number′ i) (z .place′ i))) (z .output) (unused (z .counters))
 
   module _ (fine : w .refused ≡ 0) where
-    known : (c : CoreRule) × (core k y ≡ ok c) × LoweredTo (y .sig) c (words (k .counters)) (words d) (k .output) m w
+    abbrev Accepted : Type 0
+    Accepted = (c : CoreRule) × (core k y ≡ ok c) × LoweredTo (y .sig) c (words (k .counters)) (words d) (k .output) m w
+
+    known : Accepted
     known = go (core k y) refl (o .lowers)
       where
-        go : (x : Res CoreRule) → core k y ≡ x → Core x → (c : CoreRule) × (core k y ≡ ok c) × LoweredTo (y .sig) c (words (k .counters)) (words d) (k .output) m w
+        go : (x : Res CoreRule) → core k y ≡ x → Core x → Accepted
         go (ok c) e z = (c, e, z)
         go (refuse n p) e z = absurd (omega (arith, z .number′, z .some))
 
@@ -172,5 +176,6 @@ module _ {k : Given} {g : Signature} {y : Ready (lowering k) g} {w : Lowered} {m
           → Answers (lowering k) (record { number = 0; place = 0; words = w .needed; replacements = w .replacements; passes = w .passes }) m d
       lower-written l =
           let counts : d ≡ bytesOf (known .0 .next) =
-          sym (bytes-words d (o .countersAfter) (omega (arith, o .counters, y .whole .counters))) ∙ ap bytesOf (known .2 .counted (omega (arith, words-kept))) in
+          sym (bytes-words d (o .countersAfter) (omega (arith, o .counters, y .whole .counters)))
+          ∙ ap bytesOf (known .2 .counted (omega (arith, words-kept))) in
           all-written lower-done words-are l (o .outputBefore) (o .outputAfter) counts

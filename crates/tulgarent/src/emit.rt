@@ -53,7 +53,8 @@ pub fn finish(
     rest: usize,
 ) -> usize
     requires { ⌜ Stand (words (now scratch)) body actions (words (now source)) from rest ⌝ }
-    ensures { λ r. ⌜ ((b : rules.Settled) (head : List CoreAction) → Parts b head (words (now (scratch .entry))) body actions (words (now (source .entry))) from rest
+    ensures { λ r. ⌜ ((b : rules.Settled) (head : List CoreAction)
+        → Parts b head (words (now (scratch .entry))) body actions (words (now (source .entry))) from rest
         → Wrote (encode (b .tabs) (bindings (b .repls) ++ head)) r (now (output .entry)) (now (output .exit))) ⌝ }
 {
     let needed = 1 + body.words + 3 * body.replacements + rest;

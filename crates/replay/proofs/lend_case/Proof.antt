@@ -53,7 +53,16 @@ slice-aggregate-run-case-3 : tie.Need-slice-aggregate-run-case-3
 slice-aggregate-run-case-3 c = sym (length-take-le _ _ (omega arith))
 
 run-case-requires : tie.Need-run-case-requires
-run-case-requires c κs = simp length-take (record { signature = omega arith; rule = omega arith; before = omega arith; written = omega arith; after = omega arith; fits = omega arith })
+run-case-requires c κs =
+    simp length-take
+    (record {
+      signature = omega arith;
+      rule = omega arith;
+      before = omega arith;
+      written = omega arith;
+      after = omega arith;
+      fits = omega arith;
+    })
 
 number-requires : tie.Need-number-requires
 number-requires c κs = search needs
