@@ -115,6 +115,9 @@ module _ {R : Type 0} {k : Call R} {g : Signature} (y : Ready k g) where
   pub work-refuses : {n p : ℕ} → made ≡ refuse n p → {r : Answer} {m d : List ℕ} → r ≡ refusedWith n p → m ≡ k .output → d ≡ k .counters → Answers k r m d
   work-refuses {n} {p} e a w c = comes-to k (refuse n p) (made-is (refuse n p) e) a w c
 
+abbrev pub Bytes : List ℕ → Type 0
+Bytes l = (i : ℕ) → getD l i 0 < 256
+
 -- ---- the work is done: the result has `needed` words, and the output has become m
 
 pub record Done {R : Type 0} {k : Call R} {g : Signature} (y : Ready k g) (needed replacements passes : ℕ) (m : List ℕ) : Type 0 where
@@ -124,9 +127,8 @@ pub record Done {R : Type 0} {k : Call R} {g : Signature} (y : Ready k g) (neede
   pub replaced : replacements ≡ result .replacements
   pub passed : passes ≡ result .passes
   pub size : length m ≡ length (k .output)
-
-abbrev pub Bytes : List ℕ → Type 0
-Bytes l = (i : ℕ) → getD l i 0 < 256
+  pub before : Bytes (k .output)
+  pub after : Bytes m
 
 module _ {R : Type 0} {k : Call R} {g : Signature} {y : Ready k g} {needed replacements passes : ℕ} {m : List ℕ} (d : Done y needed replacements passes m)
     {count : ℕ} (words-are : count ≡ length (words m)) where
@@ -138,9 +140,9 @@ module _ {R : Type 0} {k : Call R} {g : Signature} {y : Ready k g} {needed repla
       let z = ends-short (d .result) needed (k .output) m (d .wrote) (omega (arith, words-kept)) in
       comes-to k (refuse shortOutput needed) (made-is y (ok (d .result)) (d .is) ∙ z .0) a (z .1) c
 
-  pub all-written : needed ≤ count → Bytes (k .output) → Bytes m → {c : List ℕ} → c ≡ bytesOf (d .result .counters)
+  pub all-written : needed ≤ count → {c : List ℕ} → c ≡ bytesOf (d .result .counters)
       → Answers k (record { number = 0; place = 0; words = needed; replacements = replacements; passes = passes }) m c
-  all-written l low high c =
-      let z = ends-written (d .result) needed (k .output) m (d .wrote) (omega (arith, words-kept)) (y .whole .output) (d .size) low high in
+  all-written l c =
+      let z = ends-written (d .result) needed (k .output) m (d .wrote) (omega (arith, words-kept)) (y .whole .output) (d .size) (d .before) (d .after) in
       comes-to k (ok (d .result)) (made-is y (ok (d .result)) (d .is) ∙ z .0)
       (λ i. record { number = 0; place = 0; words = d .wrote .needed i; replacements = d .replaced i; passes = d .passed i }) (z .1) c

@@ -18,7 +18,7 @@ use Rattle.tulgarent.specs.declared.Answer.{Answer}
 use Rattle.tulgarent.specs.Answers.{Gives}
 use Rattle.tulgarent.proofs.Slices.{every-whole}
 use Rattle.tulgarent.proofs.Fronts.{flat}
-use Rattle.tulgarent.proofs.Calls.{Given, Call, Answers, Whole, Ready, Done}
+use Rattle.tulgarent.proofs.Calls.{Given, Call, Answers, Whole, Ready, Bytes, Done}
 
 abbrev result : Sig → FlatRule → Result
 result s f = record { words = getFreeVars s (f .actions); replacements = 0; passes = 0; counters = [] }
@@ -55,8 +55,8 @@ module _ (k : Given) where
 
     pub free-done : {n : ℕ} {m : List ℕ}
         → ((s : Sig) (f : FlatRule) → g .globals ≡ s .globals → Good s (words (k .rule)) f → Wrote (getFreeVars s (f .actions)) n (k .output) m)
-        → length m ≡ length (k .output) → Done y n 0 0 m
-    free-done wrote size =
+        → length m ≡ length (k .output) → Bytes (k .output) → Bytes m → Done y n 0 0 m
+    free-done wrote size before after =
         record {
           result = result (y .sig) (y .passed .rule);
           is = refl;
@@ -64,4 +64,6 @@ module _ (k : Given) where
           replaced = refl;
           passed = refl;
           size = size;
+          before = before;
+          after = after;
         }

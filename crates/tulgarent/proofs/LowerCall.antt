@@ -161,6 +161,8 @@ module _ {k : Given} {g : Signature} {y : Ready (lowering k) g} {w : Lowered} {m
           replaced = z .replacements;
           passed = z .passes;
           size = o .output;
+          before = o .outputBefore;
+          after = o .outputAfter;
         }
 
     module _ {count : ℕ} (words-are : count ≡ length (words m)) where
@@ -178,4 +180,4 @@ module _ {k : Given} {g : Signature} {y : Ready (lowering k) g} {w : Lowered} {m
           let counts : d ≡ bytesOf (known .0 .next) =
           sym (bytes-words d (o .countersAfter) (omega (arith, o .counters, y .whole .counters)))
           ∙ ap bytesOf (known .2 .counted (omega (arith, words-kept))) in
-          all-written lower-done words-are l (o .outputBefore) (o .outputAfter) counts
+          all-written lower-done words-are l counts

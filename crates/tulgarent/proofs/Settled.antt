@@ -25,7 +25,7 @@ use Rattle.tulgarent.specs.Settle.{FlatUnder, SomeFlat, EndedWith}
 use Rattle.tulgarent.proofs.Slices.{and-true, every-whole}
 use Rattle.tulgarent.proofs.Fronts.{flat, front}
 use Rattle.tulgarent.proofs.Lent.{Lent, lent-words}
-use Rattle.tulgarent.proofs.Calls.{Given, Call, Answers, Whole, Ready, Done}
+use Rattle.tulgarent.proofs.Calls.{Given, Call, Answers, Whole, Ready, Bytes, Done}
 
 abbrev result : Sig → FlatRule → Result
 result s f = settledResult (settle s (f .atoms)) (f .actions) []
@@ -88,9 +88,9 @@ module _ (k : Given) where
     settle-asks l = (record { sig = y .sig; rule = y .passed .rule; under = under }, omega (arith, lent-words l))
 
     pub settle-done : {e : Ended} {m : List ℕ} → ((s : Sig) (f : FlatRule) → FlatUnder (words (k .rule)) g s f → EndedWith s f e (k .output) m)
-        → length m ≡ length (k .output)
+        → length m ≡ length (k .output) → Bytes (k .output) → Bytes m
         → Done y (e .needed) (e .replacements) (e .passes) m
-    settle-done ends size =
+    settle-done ends size before after =
         let z = ends (y .sig) (y .passed .rule) under in
         record {
           result = result (y .sig) (y .passed .rule);
@@ -99,4 +99,6 @@ module _ (k : Given) where
           replaced = z .replacements;
           passed = z .passes;
           size = size;
+          before = before;
+          after = after;
         }

@@ -64,13 +64,17 @@ at-front c = ready (at-whole (else-front c .before)) (else-front c .flat-front .
 get-free-vars-requires : tie.Need-get-free-vars-requires
 get-free-vars-requires c κs = free-asks (else-given (c .before)) (at-front (c .before))
 
-at-vars : (c : tie.After-get-free-vars) → Done (at-front (c .before .before)) (c .get-free-vars .result) 0 0 (c .get-free-vars .last .1 .1 .0)
-at-vars c = let v = c .get-free-vars in free-done (else-given (c .before .before)) (at-front (c .before .before)) (v .ensures) (v .kept .1 .1 .0)
+abbrev vars-front : tie.After-slice-known2 → tie.Else2
+vars-front c = c .before .before .before .before
+
+at-vars : (c : tie.After-slice-known2) → let v = c .before .before .get-free-vars in Done (at-front (vars-front c)) (v .result) 0 0 (v .last .1 .1 .0)
+at-vars c =
+    let v = c .before .before .get-free-vars in
+    let w = else-front (vars-front c) .before .before in
+    free-done (else-given (vars-front c)) (at-front (vars-front c)) (v .ensures) (v .kept .1 .1 .0) (λ i. w .before .before .slice-known .given i .fits)
+    (λ i. c .slice-known2 .given i .fits)
 
 -- ---- room for them
-
-abbrev vars : tie.After-count → tie.After-get-free-vars
-vars c = c .before .before .before .before
 
 count-requires : tie.Need-count-requires
 count-requires c κs = search needs
@@ -84,7 +88,8 @@ same-length-3 c = search needs
 returns-3 : tie.Need-returns-3
 returns-3 c =
     let n = c .before .before in
-    free-gives (else-given (vars n .before .before)) (too-short (at-vars (vars n)) (n .count .ensures) (c .before .if3 .taken) (c .refused3 .ensures) refl)
+    let v = n .before .before in
+    free-gives (else-given (vars-front v)) (too-short (at-vars v) (n .count .ensures) (c .before .if3 .taken) (c .refused3 .ensures) refl)
 
 same-length-4 : tie.Need-same-length-4
 same-length-4 c = search needs
@@ -92,10 +97,8 @@ same-length-4 c = search needs
 returns-4 : tie.Need-returns-4
 returns-4 c =
     let n = c .before in
-    let e = vars n .before .before in
-    free-gives (else-given e)
-    (all-written (at-vars (vars n)) (n .count .ensures) (c .if3 .left) (λ i. else-front e .before .before .before .before .slice-known .given i .fits)
-    (λ i. n .before .before .slice-known2 .given i .fits) refl)
+    let v = n .before .before in
+    free-gives (else-given (vars-front v)) (all-written (at-vars v) (n .count .ensures) (c .if3 .left) refl)
 
 pub tulgarent-free-vars-spec : {M : Type 1} → statement M
 tulgarent-free-vars-spec =

@@ -120,20 +120,30 @@ settle-good-requires c κs = let n = c .before .before in settle-asks (else-give
 
 -- ---- the rule is settled, and the front is back
 
-abbrev good-front : tie.After-settle-good → tie.Else2
-good-front c = c .before .before .before .before
+abbrev good : tie.After-slice-known3 → tie.After-settle-good
+good c = c .before .before
 
-at-good : (c : tie.After-settle-good)
-    → let g = c .settle-good in Done (at-front (good-front c)) (g .result .needed) (g .result .replacements) (g .result .passes) (g .last .1 .1 .0)
-at-good c = let g = c .settle-good in settle-done (else-given (good-front c)) (at-front (good-front c)) (g .ensures) (g .kept .1 .1 .0)
+abbrev good-lent : tie.After-slice-known3 → tie.After-count2
+good-lent c = good c .before .before .before
+
+abbrev good-front : tie.After-slice-known3 → tie.Else2
+good-front c = good-lent c .before
+
+at-good : (c : tie.After-slice-known3)
+    → let g = good c .settle-good in Done (at-front (good-front c)) (g .result .needed) (g .result .replacements) (g .result .passes) (g .last .1 .1 .0)
+at-good c =
+    let g = good c .settle-good in
+    let e = known (front-else (else-front (good-front c)) .before) in
+    settle-done (else-given (good-front c)) (at-front (good-front c)) (g .ensures) (g .kept .1 .1 .0) (λ i. e .slice-known .given i .fits)
+    (λ i. c .slice-known3 .given i .fits)
 
 -- what lies behind the front is as it was
-at-beyond : (c : tie.After-settle-good) → let k = else-given (good-front c) in
-    Beyond (scratchFlat (k .rule)) (k .scratch) (c .settle-good .last .1 .1 .1 .0 ++ drop (64 * c .before .before .before .count2 .result) (k .scratch))
-at-beyond c = let g = c .settle-good in beyond-lent (at-lent (c .before .before .before)) (g .last .1 .1 .1 .0) (g .kept .1 .1 .1 .0)
+at-beyond : (c : tie.After-slice-known3) → let k = else-given (good-front c) in
+    Beyond (scratchFlat (k .rule)) (k .scratch) (good c .settle-good .last .1 .1 .1 .0 ++ drop (64 * good-lent c .count2 .result) (k .scratch))
+at-beyond c = let g = good c .settle-good in beyond-lent (at-lent (good-lent c)) (g .last .1 .1 .1 .0) (g .kept .1 .1 .1 .0)
 
-abbrev count-good : tie.After-count3 → tie.After-settle-good
-count-good c = c .before .before .before .before .before .before
+abbrev count-good : tie.After-count3 → tie.After-slice-known3
+count-good c = c .before .before .before .before
 
 -- ---- room for it
 
@@ -153,10 +163,7 @@ returns-3 : tie.Need-returns-3
 returns-3 c =
     let n = c .before .before .before in
     let g = count-good n in
-    let k = else-given (good-front g) in (
-      settle-gives k (too-short (at-good g) (n .count3 .ensures) (c .before .if3 .taken) (c .refused3 .ensures) refl),
-      at-beyond g,
-    )
+    (settle-gives (else-given (good-front g)) (too-short (at-good g) (n .count3 .ensures) (c .before .if3 .taken) (c .refused3 .ensures) refl), at-beyond g)
 
 same-length-7 : tie.Need-same-length-7
 same-length-7 c = search needs
@@ -168,12 +175,7 @@ returns-4 : tie.Need-returns-4
 returns-4 c =
     let n = c .before .before in
     let g = count-good n in
-    let w = known (front-else (else-front (good-front g)) .before) in (
-      settle-gives (else-given (good-front g))
-          (all-written (at-good g) (n .count3 .ensures) (c .if3 .left) (λ i. w .slice-known .given i .fits)
-          (λ i. n .before .before .before .before .slice-known3 .given i .fits) refl),
-      at-beyond g,
-    )
+    (settle-gives (else-given (good-front g)) (all-written (at-good g) (n .count3 .ensures) (c .if3 .left) refl), at-beyond g)
 
 pub tulgarent-settle-spec : {M : Type 1} → statement M
 tulgarent-settle-spec =
