@@ -1,8 +1,13 @@
 //! The kinds of cases, each aimed at a point of document 01.
 
 mod flat;
+mod free_rows;
 mod growing;
+mod late_faults;
 mod listed;
+mod long_heads;
+mod loops;
+mod outputs;
 mod settling;
 mod turned_back;
 mod written;
@@ -68,7 +73,17 @@ pub const KINDS: &[Kind] = &[
     drawn("damaged", "good cases of all kinds, then damaged", turned_back::damaged, 120_000, 1_200_000),
     drawn("signatures", "signatures around each limit, and damaged ones", turned_back::signatures, 10_000, 100_000),
     drawn("slices", "slices just long enough, too short, or ragged", turned_back::slices, 60_000, 600_000),
+    drawn("free-rows", "rows of up to 1,021 free variables, in every order", free_rows::free_rows, 8_000, 80_000),
+    drawn("long-heads", "heads of as many actions as fit, or very wide ones", long_heads::long_heads, 6_000, 60_000),
+    drawn("late-faults", "long rules with a fault near their end, or none", late_faults::late_faults, 10_000, 100_000),
+    drawn("loops", "chains that lead back: as many passes as there can be", loops::loops, 300, 3_000),
+    listed("short-outputs", "outputs of every length below the longest results", outputs::short_outputs, 2, 12),
+    drawn("outputs", "long results, and less output than they ask for", outputs::outputs, 10_000, 100_000),
 ];
+
+/// The list for programs that can't run the Rust is of the first kinds alone: those behind them are of long rules, which
+/// would make the list several times as long.
+pub const IN_REPLAY: usize = 18;
 
 impl Kind {
     pub fn named(name: &str) -> Option<&'static Kind> {
@@ -111,6 +126,14 @@ impl Kind {
             ControlFlow::Break(())
         });
         found
+    }
+
+    /// How many cases a wrong copy is tried on: a fraction of a quick run's, or the first of a list.
+    pub fn sample(&self) -> u64 {
+        match self.source {
+            Source::Drawn { quick, .. } => quick.div_ceil(32),
+            Source::Listed { .. } => 6_000,
+        }
     }
 
     fn laid_out(&self, seed: u64, index: u64, make: impl FnOnce(&mut Draw) -> Case) -> Case {

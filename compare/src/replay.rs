@@ -2,7 +2,7 @@
 
 use crate::case::{Call, Case};
 use crate::figures::grouped;
-use crate::kinds::{Extent, KINDS, Kind};
+use crate::kinds::{Extent, IN_REPLAY, KINDS, Kind};
 use crate::trial::{Bench, Outcome};
 use crate::words::bytes;
 use std::fs;
@@ -74,9 +74,9 @@ fn head(cases: usize, count: usize, seed: u64) -> Vec<u8> {
 /// From each kind about as many.
 fn chosen(count: usize, seed: u64) -> Vec<Case> {
     let mut chosen = Vec::new();
-    for (done, kind) in KINDS.iter().enumerate() {
+    for (done, kind) in KINDS[..IN_REPLAY].iter().enumerate() {
         // What an earlier kind did not have is shared out among the later ones.
-        let share = (count - chosen.len()).div_ceil(KINDS.len() - done);
+        let share = (count - chosen.len()).div_ceil(IN_REPLAY - done);
         chosen.extend(of_kind(kind, seed, share));
     }
     chosen

@@ -67,7 +67,7 @@ fn links(chains: &[Vec<u32>]) -> impl Iterator<Item = (u32, u32)> + '_ {
 }
 
 /// Forwards, backwards, or in no order: passes depend on it.
-fn order(draw: &mut Draw, list: &mut [Vec<u32>]) {
+pub fn order(draw: &mut Draw, list: &mut [Vec<u32>]) {
     match draw.below(3) {
         0 => (),
         1 => list.reverse(),
@@ -76,7 +76,7 @@ fn order(draw: &mut Draw, list: &mut [Vec<u32>]) {
 }
 
 /// As many of the facts or atoms as a rule has room for.
-fn fitted(mut body: Vec<Vec<u32>>, actions: &[Vec<u32>], longest: usize) -> Vec<u32> {
+pub fn fitted(mut body: Vec<Vec<u32>>, actions: &[Vec<u32>], longest: usize) -> Vec<u32> {
     while joined(&body, actions).len() > longest && body.pop().is_some() {}
     joined(&body, actions)
 }

@@ -84,7 +84,7 @@ fn near(draw: &mut Draw, number: usize) -> usize {
 }
 
 /// The words that the result has, by the Rust; for a rule that is refused, 0.
-fn needed(case: &Case) -> usize {
+pub fn needed(case: &Case) -> usize {
     let Case { signature, rule, .. } = case;
     let words = match case.call {
         Call::Lower => oracle::lower(signature, rule, &mut case.counters.clone()).map(|lowered| lowered.words),
