@@ -11,13 +11,19 @@ pub enum Call {
     FreeVars,
 }
 
-impl fmt::Display for Call {
-    fn fmt(&self, f: &mut fmt::Formatter<'_>) -> fmt::Result {
-        f.write_str(match self {
+impl Call {
+    pub fn name(self) -> &'static str {
+        match self {
             Call::Lower => "lower",
             Call::Settle => "settle",
             Call::FreeVars => "free variables",
-        })
+        }
+    }
+}
+
+impl fmt::Display for Call {
+    fn fmt(&self, f: &mut fmt::Formatter<'_>) -> fmt::Result {
+        f.write_str(self.name())
     }
 }
 

@@ -1,166 +1,208 @@
-//! What a run came to, in figures.
+//! What cases came to, in figures: of each kind of case, and of each call.
 
-use crate::case::Case;
-use std::fmt::Write;
-use std::time::{Duration, SystemTime, UNIX_EPOCH};
+use crate::case::{Call, Case};
+use crate::words::{CALL, DELETE, EXPRESSION, LET, PANIC, SET, SUBSUME, UNION};
+use std::fmt;
+use std::time::Duration;
 use tulgarent::Answer;
 
 /// Numbers of refusals that are counted apart: 1 to 14, and any other as 0.
-const NUMBERS: usize = 15;
-/// The number that only the program gives.
-const OF_THE_PROGRAM: usize = 13;
+pub const NUMBERS: usize = 15;
+/// The kind of a word with which an action begins.
+const ACTION_KIND: u32 = 6;
+/// Codes of actions, and 0, which none has.
+const CODES: usize = EXPRESSION as usize + 1;
 
-/// The figures of one kind.
+/// What the largest value is kept of.
+#[derive(Debug, Clone, Copy, PartialEq, Eq)]
+pub enum Figure {
+    /// Words of a rule that is accepted.
+    Rule,
+    /// Words of a result; of free variables this is the row.
+    Result,
+    Replacements,
+    Passes,
+    /// Actions of this code in one rule that is accepted.
+    Actions(u32),
+    /// The place that comes with this refusal.
+    Place(usize),
+}
+
+/// How many figures there are.
+const FIGURES: usize = 4 + CODES + NUMBERS;
+
+impl Figure {
+    fn index(self) -> usize {
+        match self {
+            Figure::Rule => 0,
+            Figure::Result => 1,
+            Figure::Replacements => 2,
+            Figure::Passes => 3,
+            Figure::Actions(code) => 4 + code as usize,
+            Figure::Place(number) => 4 + CODES + number,
+        }
+    }
+}
+
+impl fmt::Display for Figure {
+    fn fmt(&self, f: &mut fmt::Formatter<'_>) -> fmt::Result {
+        match *self {
+            Figure::Rule => f.write_str("longest rule accepted"),
+            Figure::Result => f.write_str("longest result"),
+            Figure::Replacements => f.write_str("most replacements"),
+            Figure::Passes => f.write_str("most passes"),
+            Figure::Actions(code) => write!(f, "most {}", plural(code)),
+            Figure::Place(number) => write!(f, "furthest place of {number}"),
+        }
+    }
+}
+
+fn plural(code: u32) -> &'static str {
+    match code {
+        LET => "lets",
+        SET => "sets",
+        DELETE => "deletes",
+        SUBSUME => "subsumes",
+        UNION => "unions",
+        PANIC => "panics",
+        CALL => "calls",
+        _ => "expressions",
+    }
+}
+
+/// The figures of one kind or of one call.
 #[derive(Debug, Clone)]
 pub struct Tally {
-    pub kind: &'static str,
+    pub name: &'static str,
     pub cases: u64,
-    accepted: u64,
-    refused: [u64; NUMBERS],
-    longest_rule: usize,
-    longest_result: u64,
-    most_replacements: u64,
-    most_passes: u64,
+    pub accepted: u64,
+    pub refused: [u64; NUMBERS],
+    largest: [u64; FIGURES],
     pub time: Duration,
 }
 
 impl Tally {
-    pub fn new(kind: &'static str) -> Tally {
-        Tally {
-            kind,
-            cases: 0,
-            accepted: 0,
-            refused: [0; NUMBERS],
-            longest_rule: 0,
-            longest_result: 0,
-            most_replacements: 0,
-            most_passes: 0,
-            time: Duration::ZERO,
-        }
+    pub fn new(name: &'static str) -> Tally {
+        Tally { name, cases: 0, accepted: 0, refused: [0; NUMBERS], largest: [0; FIGURES], time: Duration::ZERO }
+    }
+
+    pub fn largest(&self, figure: Figure) -> u64 {
+        self.largest[figure.index()]
+    }
+
+    fn reach(&mut self, figure: Figure, value: u64) {
+        let largest = &mut self.largest[figure.index()];
+        *largest = value.max(*largest);
     }
 
     pub fn count(&mut self, case: &Case, answer: &Answer) {
         self.cases += 1;
         if answer.number == 0 {
-            self.accepted += 1;
-            self.longest_rule = self.longest_rule.max(case.rule.len());
+            self.count_accepted(case, answer);
         } else {
-            let number = usize::try_from(answer.number).unwrap_or(0);
-            self.refused[if number < NUMBERS { number } else { 0 }] += 1;
+            let number = usize::try_from(answer.number).ok().filter(|&number| number < NUMBERS).unwrap_or(0);
+            self.refused[number] += 1;
+            self.reach(Figure::Place(number), answer.place);
         }
-        self.longest_result = self.longest_result.max(answer.words);
-        self.most_replacements = self.most_replacements.max(answer.replacements);
-        self.most_passes = self.most_passes.max(answer.passes);
     }
 
-    fn add(&mut self, other: &Tally) {
+    fn count_accepted(&mut self, case: &Case, answer: &Answer) {
+        self.accepted += 1;
+        self.reach(Figure::Rule, case.rule.len() as u64);
+        self.reach(Figure::Result, answer.words);
+        self.reach(Figure::Replacements, answer.replacements);
+        self.reach(Figure::Passes, answer.passes);
+        // In a rule that is accepted, words of this kind begin actions and stand nowhere else.
+        let mut actions = [0; CODES];
+        for word in case.rule.iter().filter(|word| word.leading_zeros() == ACTION_KIND) {
+            actions[*word as u8 as usize % CODES] += 1;
+        }
+        (1..).zip(&actions[1..]).for_each(|(code, &count)| self.reach(Figure::Actions(code), count));
+    }
+
+    pub fn add(&mut self, other: &Tally) {
         self.cases += other.cases;
         self.accepted += other.accepted;
         self.refused.iter_mut().zip(other.refused).for_each(|(sum, more)| *sum += more);
-        self.longest_rule = self.longest_rule.max(other.longest_rule);
-        self.longest_result = self.longest_result.max(other.longest_result);
-        self.most_replacements = self.most_replacements.max(other.most_replacements);
-        self.most_passes = self.most_passes.max(other.most_passes);
+        self.largest.iter_mut().zip(other.largest).for_each(|(largest, more)| *largest = more.max(*largest));
         self.time += other.time;
     }
+}
 
-    /// A row of the table.
-    fn row(&self) -> String {
-        let refused: Vec<String> = (1..NUMBERS)
-            .filter(|&number| self.refused[number] > 0)
-            .map(|number| format!("{number}: {}", grouped(self.refused[number])))
-            .collect();
-        format!(
-            "| {} | {} | {} | {} | {} | {} | {} | {} | {:.1} |",
-            self.kind,
-            grouped(self.cases),
-            grouped(self.accepted),
-            refused.join(", "),
-            self.longest_rule,
-            self.longest_result,
-            self.most_replacements,
-            self.most_passes,
-            self.time.as_secs_f64(),
-        )
+/// The figures of a run.
+pub struct Figures {
+    /// One for each kind that was begun.
+    pub kinds: Vec<Tally>,
+    /// One for each call.
+    pub calls: [Tally; 3],
+}
+
+impl Figures {
+    pub fn new() -> Figures {
+        Figures { kinds: Vec::new(), calls: of_calls() }
     }
-}
 
-/// The numbers of the library that no case met. A run that leaves one out has lost what it is for.
-pub fn unmet(tallies: &[Tally]) -> Vec<usize> {
-    let met = |number: usize| tallies.iter().any(|tally| tally.refused[number] > 0);
-    (1..NUMBERS).filter(|&number| number != OF_THE_PROGRAM && !met(number)).collect()
-}
-
-/// A run without a difference, as docs/COMPARISON.md shows it.
-pub fn report(name: &str, seed: u64, tallies: &[Tally]) -> String {
-    let mut all = Tally::new("all");
-    tallies.iter().for_each(|tally| all.add(tally));
-    let mut text = String::new();
-    let today = date(SystemTime::now());
-    let (cases, seconds) = (grouped(all.cases), all.time.as_secs());
-    writeln!(text, "{name} run, {today}, seed {seed}: {cases} cases in {seconds} s, no difference.\n")
-        .expect(TAKES_ALL);
-    writeln!(
-        text,
-        "| Kind | Cases | Accepted | Refused, by number | Longest rule accepted | Longest result | Most replacements | \
-            Most passes | Seconds |"
-    )
-    .expect(TAKES_ALL);
-    writeln!(text, "|---|---|---|---|---|---|---|---|---|").expect(TAKES_ALL);
-    for tally in tallies.iter().chain([&all]) {
-        writeln!(text, "{}", tally.row()).expect(TAKES_ALL);
+    /// What is counted from here on is of this kind.
+    pub fn begin(&mut self, kind: &'static str) {
+        self.kinds.push(Tally::new(kind));
     }
-    text
-}
 
-const TAKES_ALL: &str = "a string takes all that is written";
+    /// How many cases of the last kind begun have been counted.
+    pub fn count(&mut self, case: &Case, answer: &Answer) -> u64 {
+        self.calls[case.call as usize].count(case, answer);
+        self.kinds.last_mut().map_or(0, |kind| {
+            kind.count(case, answer);
+            kind.cases
+        })
+    }
 
-/// With a comma after each three digits.
-pub fn grouped(number: u64) -> String {
-    let digits = number.to_string();
-    let mut text = String::new();
-    for (at, digit) in digits.chars().enumerate() {
-        if at > 0 && (digits.len() - at).is_multiple_of(3) {
-            text.push(',');
+    /// The last kind begun took so long.
+    pub fn end(&mut self, time: Duration) {
+        if let Some(kind) = self.kinds.last_mut() {
+            kind.time = time;
         }
-        text.push(digit);
     }
-    text
 }
 
-/// Year, month and day in UTC.
-fn date(time: SystemTime) -> String {
-    let days = time.duration_since(UNIX_EPOCH).map_or(0, |since| since.as_secs() / 86_400);
-    let (year, month, day) = civil(days);
-    format!("{year}-{month:02}-{day:02}")
+impl Default for Figures {
+    fn default() -> Figures {
+        Figures::new()
+    }
 }
 
-/// Years are counted from March, so that the leap day is the last of its year; an era is 400 of them.
-fn civil(days: u64) -> (u64, u64, u64) {
-    let days = days + 719_468;
-    let (era, day_of_era) = (days / 146_097, days % 146_097);
-    let year_of_era = (day_of_era - day_of_era / 1_460 + day_of_era / 36_524 - day_of_era / 146_096) / 365;
-    let day_of_year = day_of_era - (365 * year_of_era + year_of_era / 4 - year_of_era / 100);
-    let from_march = (5 * day_of_year + 2) / 153;
-    let day = day_of_year - (153 * from_march + 2) / 5 + 1;
-    let month = if from_march < 10 { from_march + 3 } else { from_march - 9 };
-    (era * 400 + year_of_era + u64::from(month <= 2), month, day)
+/// A tally for each call, in the order of `Call`.
+pub fn of_calls() -> [Tally; 3] {
+    [Call::Lower, Call::Settle, Call::FreeVars].map(|call| Tally::new(call.name()))
 }
 
 #[cfg(test)]
 mod tests {
-    use super::{civil, grouped};
+    use super::{Figure, Figures};
+    use crate::case::{Call, Case};
+    use crate::words::{DELETE, LET, action, call, header, literal, name};
+    use tulgarent::Answer;
 
-    #[test]
-    fn digits_are_grouped() {
-        assert_eq!([0, 999, 1_000, 12_345_678].map(grouped), ["0", "999", "1,000", "12,345,678"]);
+    fn accepted(words: u64, replacements: u64, passes: u64) -> Answer {
+        Answer { number: 0, place: 0, words, replacements, passes }
     }
 
     #[test]
-    fn days_are_dates() {
-        assert_eq!(civil(0), (1970, 1, 1));
-        assert_eq!(civil(11_016), (2000, 2, 29));
-        assert_eq!(civil(11_017), (2000, 3, 1));
-        assert_eq!(civil(20_819), (2027, 1, 1));
+    fn calls_and_kinds_are_counted_apart() {
+        let lets = [header(0, 2), action(LET), name(1), literal(2), action(LET), name(2), literal(3)].to_vec();
+        let delete = vec![header(0, 1), action(DELETE), call(0, 0)];
+        let mut figures = Figures::new();
+        figures.begin("one");
+        assert_eq!(figures.count(&Case::new(Call::Lower, Vec::new(), lets), &accepted(9, 1, 2)), 1);
+        figures.begin("two");
+        let refused = Answer { number: 7, place: 400, words: 0, replacements: 0, passes: 0 };
+        figures.count(&Case::new(Call::Lower, Vec::new(), Vec::new()), &refused);
+        assert_eq!(figures.count(&Case::new(Call::Settle, Vec::new(), delete), &accepted(3, 0, 1)), 2);
+        let [lower, settle, free_vars] = &figures.calls;
+        assert_eq!((lower.cases, settle.cases, free_vars.cases), (2, 1, 0));
+        assert_eq!((lower.largest(Figure::Actions(LET)), settle.largest(Figure::Actions(DELETE))), (2, 1));
+        assert_eq!((lower.largest(Figure::Place(7)), lower.refused[7]), (400, 1));
+        assert_eq!((lower.largest(Figure::Result), settle.largest(Figure::Passes)), (9, 1));
+        let [one, two] = &figures.kinds[..] else { panic!("two kinds were begun") };
+        assert_eq!((one.cases, two.cases, two.largest(Figure::Place(7))), (1, 2, 400));
     }
 }

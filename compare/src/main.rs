@@ -3,10 +3,12 @@
 
 #![forbid(unsafe_code)]
 
+use compare::figures::Figures;
 use compare::kinds::{Extent, Kind};
-use compare::run::{Run, Shown};
+use compare::report::{grouped, report};
+use compare::run::{PATIENCE, Run, Shown, Stop};
 use compare::sides::Archive;
-use compare::{figures, replay, wrong};
+use compare::{floors, interrupt, replay, wrong};
 use std::path::Path;
 use std::process::ExitCode;
 
@@ -20,6 +22,9 @@ each with --seed N behind it, where another seed than 1 is wanted;
 --quick and --long also with --announce at the end, which names each case before it is run";
 
 const SEED: u64 = 1;
+
+/// The status that shells give to what Control-C ended.
+const INTERRUPTED: u8 = 130;
 
 fn main() -> ExitCode {
     let mut arguments: Vec<String> = std::env::args().skip(1).collect();
@@ -59,23 +64,34 @@ fn code(good: bool) -> ExitCode {
 }
 
 fn compare(name: &str, extent: Extent, seed: u64, announce: bool) -> ExitCode {
+    interrupt::watch();
     let mut run = Run::new(&Archive, seed);
     run.announce = announce;
-    match run.all(extent) {
-        Ok(tallies) => {
-            print!("{}", figures::report(name, seed, &tallies));
-            let unmet = figures::unmet(&tallies);
-            if !unmet.is_empty() {
-                println!("no case was refused by {unmet:?}: the cases are too few");
-            }
-            code(unmet.is_empty())
+    let mut figures = Figures::new();
+    match run.all(extent, &mut figures) {
+        Ok(()) => {
+            print!("{}", report(name, seed, "no difference", &figures));
+            came_to_the_ends(&figures)
         }
-        Err(failure) => {
+        Err(Stop::Interrupted) => {
+            print!("{}", report(name, seed, "no difference so far, interrupted", &figures));
+            ExitCode::from(INTERRUPTED)
+        }
+        Err(Stop::Differed(failure)) => {
             let again = format!("compare --case {} {} --seed {seed}", failure.kind, failure.index);
-            println!("{}\nagain with: {again}", run.told(failure));
+            println!("DIFFERENCE: {}\nagain with: {again}", run.told(failure, PATIENCE));
             ExitCode::FAILURE
         }
     }
+}
+
+fn came_to_the_ends(figures: &Figures) -> ExitCode {
+    let missing = floors::missing(&figures.calls);
+    if !missing.is_empty() {
+        println!("\nThe cases fall short of what a run must reach (src/floors.rs):");
+    }
+    missing.iter().for_each(|line| println!("  {line}"));
+    code(missing.is_empty())
 }
 
 fn show_case(kind: &str, number: &str, seed: u64) -> ExitCode {
@@ -91,7 +107,7 @@ fn show_case(kind: &str, number: &str, seed: u64) -> ExitCode {
     println!("  this side  {}", Shown(&found, case.call));
     let agree = failure.is_none();
     if let Some(failure) = failure {
-        println!("{}", run.told(failure));
+        println!("DIFFERENCE: {}", run.told(failure, PATIENCE));
     }
     code(agree)
 }
@@ -100,7 +116,7 @@ fn write_replay(file: &str, count: &str, seed: u64) -> ExitCode {
     let Ok(count) = count.parse() else { return usage() };
     match replay::write_replay(Path::new(file), count, seed) {
         Ok(written) => {
-            println!("{} cases in {file}", figures::grouped(written as u64));
+            println!("{} cases in {file}", grouped(written as u64));
             ExitCode::SUCCESS
         }
         Err(error) => {

@@ -97,6 +97,12 @@ impl Dirt {
     }
 }
 
+impl Default for Dirt {
+    fn default() -> Dirt {
+        Dirt::new()
+    }
+}
+
 /// A word that a careless reader of scratch would take for its own.
 fn likely_word(draw: &mut Draw) -> u32 {
     match draw.below(6) {

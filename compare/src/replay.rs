@@ -1,8 +1,8 @@
 //! A fixed list of cases with the Rust's answers, for programs that can't run the Rust.
 
 use crate::case::{Call, Case};
-use crate::figures::grouped;
 use crate::kinds::{Extent, IN_REPLAY, KINDS, Kind};
+use crate::report::grouped;
 use crate::trial::{Bench, Outcome};
 use crate::words::bytes;
 use std::fs;
@@ -141,6 +141,7 @@ fn padded(bytes: &[u8]) -> Vec<u32> {
 #[cfg(test)]
 mod tests {
     use super::{HEAD_BYTES, chosen, replay};
+    use crate::sides::{Archive, Side};
     use tulgarent::Answer;
 
     /// Reads the list as its head says, and asks the archive.
@@ -182,9 +183,9 @@ mod tests {
         assert!(rest.is_empty());
         let (mut output, mut scratch) = (vec![0xa5; output], vec![0x5a; scratch]);
         let answer = match case[0] {
-            1 => tulgarent::raw::lower(&signature, &rule, &mut counters, &mut output, &mut scratch),
-            2 => tulgarent::raw::settle(&signature, &rule, &mut output, &mut scratch),
-            _ => tulgarent::raw::free_vars(&signature, &rule, &mut output),
+            1 => Archive.lower(&signature, &rule, &mut counters, &mut output, &mut scratch),
+            2 => Archive.settle(&signature, &rule, &mut output, &mut scratch),
+            _ => Archive.free_vars(&signature, &rule, &mut output),
         };
         assert_eq!(answer, expected);
         assert_eq!(output[..written.len()], written);

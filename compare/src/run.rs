@@ -1,9 +1,12 @@
 //! Runs all cases of all kinds, and stops at the first difference.
 
 use crate::case::{Call, Case};
-use crate::figures::{Tally, grouped};
+use crate::figures::Figures;
+use crate::interrupt;
 use crate::kinds::{Extent, KINDS, Kind};
-use crate::shrink::shrink;
+use crate::progress::Progress;
+use crate::report::grouped;
+use crate::shrink::{Shrunk, shrink};
 use crate::sides::Side;
 use crate::trial::{Bench, Difference, Outcome};
 use crate::words::hex;
@@ -13,8 +16,14 @@ use std::ops::ControlFlow;
 use std::time::{Duration, Instant};
 use tulgarent::Answer;
 
-/// How often a long run says how far it is.
-const SAY_EVERY: Duration = Duration::from_secs(5);
+/// How long a difference is shrunk at most.
+pub const PATIENCE: Duration = Duration::from_secs(60);
+
+/// Why a run ended before its last case.
+pub enum Stop {
+    Differed(Box<Failure>),
+    Interrupted,
+}
 
 /// A case on which the sides differ.
 pub struct Failure {
@@ -32,40 +41,46 @@ pub struct Run<'a> {
     seed: u64,
     /// Names each case before it is run: a side that ends the process can't be asked afterwards.
     pub announce: bool,
+    /// Asked after each case.
+    interrupted: fn() -> bool,
 }
 
 impl<'a> Run<'a> {
     pub fn new(side: &'a dyn Side, seed: u64) -> Run<'a> {
-        Run { bench: Bench::new(), side, seed, announce: false }
+        Run { bench: Bench::new(), side, seed, announce: false, interrupted: interrupt::asked }
     }
 
-    /// All kinds, or the first failure.
-    pub fn all(&mut self, extent: Extent) -> Result<Vec<Tally>, Box<Failure>> {
+    /// All kinds, into these figures, up to the first failure.
+    pub fn all(&mut self, extent: Extent, figures: &mut Figures) -> Result<(), Stop> {
         let mut progress = Progress::new();
-        KINDS.iter().map(|kind| self.kind(kind, extent, &mut progress)).collect()
+        KINDS.iter().try_for_each(|kind| self.kind(kind, extent, figures, &mut progress))
     }
 
-    fn kind(&mut self, kind: &'static Kind, extent: Extent, progress: &mut Progress) -> Result<Tally, Box<Failure>> {
-        let mut tally = Tally::new(kind.name);
-        let mut failure = None;
+    fn kind(
+        &mut self,
+        kind: &'static Kind,
+        extent: Extent,
+        figures: &mut Figures,
+        progress: &mut Progress,
+    ) -> Result<(), Stop> {
+        figures.begin(kind.name);
         let witness = Witness { kind: kind.name, seed: self.seed, index: Cell::new(0) };
         let started = Instant::now();
+        let mut stop = None;
         let _ = kind.each(self.seed, extent, &mut |index, case| {
             witness.index.set(index);
-            match self.case(kind.name, index, case) {
+            stop = match self.case(kind.name, index, case) {
                 Ok((case, answer)) => {
-                    tally.count(&case, &answer);
-                    progress.step(kind.name, tally.cases);
-                    ControlFlow::Continue(())
+                    let cases = figures.count(&case, &answer);
+                    progress.step(|all| format!("{} cases, {} of them {}", grouped(all), grouped(cases), kind.name));
+                    (self.interrupted)().then_some(Stop::Interrupted)
                 }
-                Err(found) => {
-                    failure = Some(found);
-                    ControlFlow::Break(())
-                }
-            }
+                Err(failure) => Some(Stop::Differed(failure)),
+            };
+            if stop.is_none() { ControlFlow::Continue(()) } else { ControlFlow::Break(()) }
         });
-        tally.time = started.elapsed();
-        failure.map_or(Ok(tally), Err)
+        figures.end(started.elapsed());
+        stop.map_or(Ok(()), Err)
     }
 
     /// The case and its answer, if the sides agree on it.
@@ -79,27 +94,26 @@ impl<'a> Run<'a> {
         }
     }
 
-    /// The first failure of a kind, if so many cases and so much time suffice to find one.
-    pub fn first_failure(&mut self, kind: &'static Kind, most: u64, longest: Duration) -> Option<Box<Failure>> {
-        let started = Instant::now();
+    /// The first failure of a kind, if so many cases suffice to find one.
+    pub fn first_failure(&mut self, kind: &'static Kind, most: u64) -> Option<Box<Failure>> {
         let mut failure = None;
         let _ = kind.each(self.seed, Extent::Quick, &mut |index, case| {
             failure = self.case(kind.name, index, case).err();
-            let over = failure.is_some() || index + 1 >= most || started.elapsed() >= longest;
+            let over = failure.is_some() || index + 1 >= most;
             if over { ControlFlow::Break(()) } else { ControlFlow::Continue(()) }
         });
         failure
     }
 
-    /// Shrinks a failure, so that it can be told.
-    pub fn told(&mut self, failure: Box<Failure>) -> Finding {
+    /// Shrinks a failure for so long at most, so that it can be told.
+    pub fn told(&mut self, failure: Box<Failure>, patience: Duration) -> Finding {
         let Run { bench, side, .. } = self;
-        let (smallest, tries) = shrink(failure.case.clone(), &mut |case| bench.compare(*side, case).1.is_some());
-        let (expected, difference) = bench.compare(*side, &smallest);
-        let found = bench.found(*side, &smallest);
+        let shrunk = shrink(failure.case.clone(), patience, &mut |case| bench.compare(*side, case).1.is_some());
+        let (expected, difference) = bench.compare(*side, &shrunk.case);
+        let found = bench.found(*side, &shrunk.case);
         // The smallest case is one that differed; the drawn one's difference stands in were it not to differ again.
         let difference = difference.unwrap_or_else(|| failure.difference.clone());
-        Finding { drawn: failure, smallest, tries, difference, expected, found }
+        Finding { drawn: failure, shrunk, difference, expected, found }
     }
 
     /// What both sides give, and the failure if they differ.
@@ -124,52 +138,41 @@ impl Drop for Witness {
     }
 }
 
-/// A line now and then.
-struct Progress {
-    started: Instant,
-    said: Instant,
-    cases: u64,
-}
-
-impl Progress {
-    fn new() -> Progress {
-        Progress { started: Instant::now(), said: Instant::now(), cases: 0 }
-    }
-
-    fn step(&mut self, kind: &str, cases: u64) {
-        self.cases += 1;
-        // The clock is asked now and then only: it costs about as much as a small case.
-        if !self.cases.is_multiple_of(64) || self.said.elapsed() < SAY_EVERY {
-            return;
-        }
-        self.said = Instant::now();
-        let (all, kinds_own) = (grouped(self.cases), grouped(cases));
-        eprintln!("{} s: {all} cases, {kinds_own} of them {kind}", self.started.elapsed().as_secs());
-    }
-}
-
 /// A failure with the smallest case that was found for it, and what each side gives for that.
 pub struct Finding {
     drawn: Box<Failure>,
-    smallest: Case,
-    tries: usize,
+    shrunk: Shrunk,
     difference: Difference,
     expected: Outcome,
     found: Outcome,
 }
 
+impl Finding {
+    /// Words of the smallest case's rule.
+    pub fn words(&self) -> usize {
+        self.shrunk.case.rule.len()
+    }
+
+    /// Which case it was and how far it was shrunk, in two lines.
+    pub fn in_short(&self) -> String {
+        let Failure { seed, kind, index, case, difference } = &*self.drawn;
+        let (tries, words) = (grouped(self.shrunk.tries), self.words());
+        let smallest = if self.shrunk.smallest { "smallest case" } else { "smallest case so far" };
+        format!(
+            "seed {seed}, case {kind} {index} (a rule of {} words): {difference}\n\
+             {smallest}, after {tries} tries (a rule of {words} words): {}",
+            case.rule.len(),
+            self.difference
+        )
+    }
+}
+
 impl fmt::Display for Finding {
     fn fmt(&self, f: &mut fmt::Formatter<'_>) -> fmt::Result {
-        let Failure { seed, kind, index, case, difference } = &*self.drawn;
-        writeln!(
-            f,
-            "DIFFERENCE: seed {seed}, case {kind} {index} (a rule of {} words): {difference}",
-            case.rule.len()
-        )?;
-        writeln!(f, "smallest case, after {} tries: {}", grouped(self.tries as u64), self.difference)?;
-        writeln!(f, "{}", self.smallest)?;
-        writeln!(f, "  the Rust   {}", Shown(&self.expected, self.smallest.call))?;
-        write!(f, "  this side  {}", Shown(&self.found, self.smallest.call))
+        let smallest = &self.shrunk.case;
+        writeln!(f, "{}\n{smallest}", self.in_short())?;
+        writeln!(f, "  the Rust   {}", Shown(&self.expected, smallest.call))?;
+        write!(f, "  this side  {}", Shown(&self.found, smallest.call))
     }
 }
 
@@ -195,4 +198,21 @@ impl fmt::Display for Shown<'_> {
 
 fn words_of(bytes: &[u8]) -> Vec<u32> {
     bytes.as_chunks().0.iter().map(|word| u32::from_le_bytes(*word)).collect()
+}
+
+#[cfg(test)]
+mod tests {
+    use super::{Run, Stop};
+    use crate::figures::Figures;
+    use crate::kinds::Extent;
+    use crate::sides::Archive;
+
+    #[test]
+    fn an_interrupted_run_keeps_its_figures() {
+        let mut run = Run::new(&Archive, 1);
+        run.interrupted = || true;
+        let mut figures = Figures::new();
+        assert!(matches!(run.all(Extent::Quick, &mut figures), Err(Stop::Interrupted)));
+        assert_eq!(figures.kinds.iter().map(|kind| kind.cases).collect::<Vec<_>>(), [1]);
+    }
 }

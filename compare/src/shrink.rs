@@ -4,32 +4,52 @@
 //! no simpler case differs: every candidate is shorter, or has smaller words, or less that is out of the ordinary.
 
 use crate::case::{Call, Case, Five, ample_output};
+use crate::interrupt;
+use crate::progress::Progress;
+use crate::report::grouped;
 use crate::words::{
     CALL, COUNTS, EQUALITY, LET, NAMES, PRIMITIVE, SCRATCH_WORDS, SET, UNION, action, count_of, header, is_call,
     literal, name, signature_word,
 };
+use std::cell::Cell;
 use std::ops::Range;
+use std::time::{Duration, Instant};
 
 /// How many candidates are tried at most. Far more than small cases need; it bounds the time of large ones.
-const TRIES: usize = 200_000;
+const TRIES: u64 = 200_000;
 
 /// Rules of up to so many words are shrunk by two steps at once.
 const SHORT: usize = 24;
 
-/// The smallest case found, and how many candidates were tried.
-pub fn shrink(case: Case, differs: &mut dyn FnMut(&Case) -> bool) -> (Case, usize) {
-    let mut smallest = case;
-    let mut tries = 0;
+/// What shrinking came to.
+pub struct Shrunk {
+    pub case: Case,
+    /// How many candidates were tried.
+    pub tries: u64,
+    /// Whether every candidate was tried, so that no smaller case is known; else patience ended first.
+    pub smallest: bool,
+}
+
+/// Says every few seconds how far it is. An interruption ends it as the end of patience does.
+pub fn shrink(case: Case, patience: Duration, differs: &mut dyn FnMut(&Case) -> bool) -> Shrunk {
+    let started = Instant::now();
+    let words = Cell::new(case.rule.len());
+    let patient = Cell::new(true);
+    let mut progress = Progress::new();
     let mut still_differs = |candidate: &Case| {
-        tries += 1;
-        tries <= TRIES && differs(candidate)
+        progress.step(|tries| format!("shrinking: {} tries, now a rule of {} words", grouped(tries), words.get()));
+        patient.set(progress.steps <= TRIES && started.elapsed() < patience && !interrupt::asked());
+        patient.get() && differs(candidate)
     };
+    let mut case = case;
     loop {
-        let smaller = candidates(&smallest).find(&mut still_differs);
-        let Some(smaller) = smaller.or_else(|| two_steps(&smallest).find(&mut still_differs)) else { break };
-        smallest = smaller;
+        words.set(case.rule.len());
+        let smaller = candidates(&case).take_while(|_| patient.get()).find(&mut still_differs);
+        let smaller = smaller.or_else(|| two_steps(&case).take_while(|_| patient.get()).find(&mut still_differs));
+        let Some(smaller) = smaller else { break };
+        case = smaller;
     }
-    (smallest, tries)
+    Shrunk { case, tries: progress.steps, smallest: patient.get() }
 }
 
 fn candidates(case: &Case) -> impl Iterator<Item = Case> + '_ {
@@ -119,25 +139,27 @@ fn lower_signature_words(case: &Case) -> impl Iterator<Item = Case> + '_ {
 /// Rules with fewer words, the boldest cuts first.
 fn shorter_rules(rule: &[u32]) -> impl Iterator<Item = Vec<u32>> + '_ {
     without_items(rule)
+        .chain(without_arguments(rule))
         .chain(leaves_for_calls(rule))
         .chain(arguments_for_calls(rule))
-        .chain(without_arguments(rule))
         .chain(without_a_word(rule))
 }
 
-/// Without a run of facts or of actions: all, each half, each quarter, down to each one.
+/// Without a run of facts or of actions.
 fn without_items(rule: &[u32]) -> impl Iterator<Item = Vec<u32>> + '_ {
     let items = items(rule);
     let facts = items.iter().filter(|item| item.is_fact).count();
-    let mut runs = Vec::new();
-    for range in [0..facts, facts..items.len()] {
-        let mut size = range.len();
-        while size > 0 {
-            runs.extend(range.clone().step_by(size).map(|from| from..(from + size).min(range.end)));
-            size /= 2;
-        }
-    }
-    runs.into_iter().map(move |run| without(rule, &items[run]))
+    let runs = runs(0..facts).chain(runs(facts..items.len()));
+    runs.map(move |run| without(rule, &items[run]))
+}
+
+/// All of a list, each half, each quarter, down to each one.
+fn runs(range: Range<usize>) -> impl Iterator<Item = Range<usize>> {
+    let sizes = std::iter::successors(Some(range.len()), |size| Some(size / 2)).take_while(|&size| size > 0);
+    sizes.flat_map(move |size| {
+        let end = range.end;
+        range.clone().step_by(size).map(move |from| from..(from + size).min(end))
+    })
 }
 
 fn calls(rule: &[u32]) -> impl Iterator<Item = usize> + '_ {
@@ -161,13 +183,14 @@ fn arguments_for_calls(rule: &[u32]) -> impl Iterator<Item = Vec<u32>> + '_ {
     })
 }
 
-/// With one argument less under a call.
+/// With a run of arguments less under a call.
 fn without_arguments(rule: &[u32]) -> impl Iterator<Item = Vec<u32>> + '_ {
     calls(rule).flat_map(move |at| {
-        arguments(rule, at).into_iter().map(move |argument| {
+        let arguments = arguments(rule, at);
+        runs(0..arguments.len()).map(move |run| {
             let mut words = rule.to_vec();
-            words[at] -= 1;
-            words.drain(argument);
+            words[at] -= run.len() as u32;
+            words.drain(arguments[run.start].start..arguments[run.end - 1].end);
             words
         })
     })
@@ -275,11 +298,14 @@ fn end_of_expr(rule: &[u32], mut at: usize) -> usize {
 
 #[cfg(test)]
 mod tests {
-    use super::shrink;
+    use super::{Shrunk, shrink};
     use crate::case::{Call, Case, Five};
     use crate::draw::Draw;
     use crate::records::{Signature, Writer};
-    use crate::words::{DELETE, action, name};
+    use crate::words::{DELETE, action, call, name};
+    use std::time::Duration;
+
+    const PATIENCE: Duration = Duration::from_secs(600);
 
     /// Rules that the oracle accepts and that delete something: the smallest of them is a delete of nothing.
     #[test]
@@ -299,7 +325,8 @@ mod tests {
                 continue;
             }
             tried += 1;
-            let (smallest, _) = shrink(case, &mut differs);
+            let Shrunk { case: smallest, smallest: all_tried, .. } = shrink(case, PATIENCE, &mut differs);
+            assert!(all_tried);
             assert_eq!(smallest.rule, [0x0400_0001, 0x0200_0003, 0x1000_0000]);
             assert_eq!(smallest.signature, [0x0100_0001, 0x0100_0000, 0x0100_0000, 0x0100_0000, 0x0100_0002]);
             assert_eq!((smallest.offsets, smallest.dirt), (Five::default(), 0));
@@ -311,7 +338,26 @@ mod tests {
     fn damaged_rules_shrink_too() {
         let rule = vec![0x0400_3fff, 0x1001_ffff, name(1), 0x0200_0001, 0, u32::MAX, 0x0800_0002];
         let case = Case::new(Call::Settle, Signature::trial().words(), rule);
-        let (smallest, _) = shrink(case, &mut |case| case.rule.contains(&u32::MAX));
-        assert_eq!(smallest.rule, [u32::MAX]);
+        let shrunk = shrink(case, PATIENCE, &mut |case| case.rule.contains(&u32::MAX));
+        assert_eq!(shrunk.case.rule, [u32::MAX]);
+    }
+
+    /// A wide action loses its terms by halves, not one by one.
+    #[test]
+    fn a_long_row_becomes_as_short_as_it_may() {
+        let terms = (1..=1_021).map(name);
+        let rule: Vec<u32> = [0x0400_0001, action(DELETE), call(0, 1_021)].into_iter().chain(terms).collect();
+        let case = Case::new(Call::FreeVars, Signature::trial().words(), rule);
+        let shrunk = shrink(case, PATIENCE, &mut |case| {
+            oracle::free_vars(&case.signature, &case.rule).is_ok_and(|row| row.len() > 20)
+        });
+        assert_eq!(shrunk.case.rule.len(), 24);
+    }
+
+    #[test]
+    fn no_patience_leaves_a_case_as_it_is() {
+        let case = Case::new(Call::Settle, Signature::trial().words(), vec![0; 9]);
+        let shrunk = shrink(case.clone(), Duration::ZERO, &mut |_| true);
+        assert_eq!((shrunk.case, shrunk.smallest), (case, false));
     }
 }

@@ -77,6 +77,12 @@ impl Bench {
     }
 }
 
+impl Default for Bench {
+    fn default() -> Bench {
+        Bench::new()
+    }
+}
+
 /// The Rust is safe code and works in no scratch: it needs no guards, and is lent scratch as it stands.
 fn reference(case: &Case, contents: &Contents) -> Outcome {
     let mut output = contents.output.to_vec();

@@ -1,7 +1,7 @@
 //! Shows that a wrong lowerer is caught: copies of the Rust, each with one of 01's mistakes, in the archive's place.
 
-use crate::figures::grouped;
 use crate::kinds::KINDS;
+use crate::report::grouped;
 use crate::run::{Failure, Run};
 use crate::sides::{BodyCountsAfterArguments, EqualitiesBehind, ReplacesInActions, Side};
 use std::time::{Duration, Instant};
@@ -33,9 +33,8 @@ pub fn named(name: &str) -> Option<&'static dyn Side> {
 
 /// The trial rules are left out: they were written to show these mistakes, and the drawn cases must find them too.
 const LEFT_OUT: &str = "trials";
-/// What a kind may take to find a mistake. Not every kind can show every mistake.
-const MOST_CASES: u64 = 20_000;
-const LONGEST: Duration = Duration::from_millis(500);
+/// How long a finding is shrunk at most.
+const PATIENCE: Duration = Duration::from_secs(1);
 
 /// Tries the mistake of this name, or each. False if one is not caught, or has no such name.
 pub fn all_caught(name: Option<&str>, seed: u64) -> bool {
@@ -53,7 +52,7 @@ fn caught(mistake: &Mistake, seed: u64) -> bool {
     println!("{}: {}", mistake.name, mistake.what);
     let mut run = Run::new(mistake.side, seed);
     let kinds = KINDS.iter().filter(|kind| kind.name != LEFT_OUT);
-    let failures: Vec<Box<Failure>> = kinds.filter_map(|kind| run.first_failure(kind, MOST_CASES, LONGEST)).collect();
+    let failures: Vec<Box<Failure>> = kinds.filter_map(|kind| run.first_failure(kind, kind.sample())).collect();
     for failure in &failures {
         println!("  caught by {} after {} cases", failure.kind, grouped(failure.index + 1));
     }
@@ -62,7 +61,7 @@ fn caught(mistake: &Mistake, seed: u64) -> bool {
         println!("  NOT caught");
         return false;
     };
-    println!("{}", run.told(longest));
+    println!("{}", run.told(longest, PATIENCE));
     println!("  {:.1} s\n", started.elapsed().as_secs_f64());
     true
 }

@@ -1,9 +1,10 @@
 //! One input on both sides. A difference ends the process, so that libFuzzer keeps the input.
 
 use crate::input::case_of;
-use compare::case::{Call, Case};
-use compare::figures::{self, Tally};
-use compare::run::{Failure, Run};
+use compare::case::Case;
+use compare::figures::{Tally, of_calls};
+use compare::report::{by_call, opening};
+use compare::run::{Failure, PATIENCE, Run};
 use compare::sides::{Archive, Side};
 use compare::trial::{Bench, Difference};
 use compare::wrong;
@@ -25,8 +26,7 @@ struct Target {
 
 // libFuzzer runs one input at a time; the lock is for the compiler.
 static TARGET: LazyLock<Mutex<Target>> = LazyLock::new(|| {
-    let tallies = ["lower", "settle", "free variables"].map(Tally::new);
-    Mutex::new(Target { bench: Bench::new(), tallies, started: Instant::now() })
+    Mutex::new(Target { bench: Bench::new(), tallies: of_calls(), started: Instant::now() })
 });
 
 /// Runs the case of these bytes on both sides. Does not return if they differ, or if one panics.
@@ -56,16 +56,16 @@ fn side() -> &'static dyn Side {
 fn differ(case: Case, difference: Difference) -> ! {
     eprintln!("DIFFERENCE: {difference}\n{case}");
     let failure = Failure { seed: 0, kind: "fuzz", index: 0, case, difference };
-    eprintln!("{}", Run::new(side(), 0).told(Box::new(failure)));
+    eprintln!("{}", Run::new(side(), 0).told(Box::new(failure), PATIENCE));
     abort()
 }
 
 /// What the inputs came to. It runs at the process's end, which a difference does not let it reach.
 pub fn report() {
-    let mut target = TARGET.lock().unwrap_or_else(PoisonError::into_inner);
-    let seconds = target.started.elapsed();
-    // The first row bears the time of all: that of single calls is not taken.
-    target.tallies[Call::Lower as usize].time = seconds;
+    let target = TARGET.lock().unwrap_or_else(PoisonError::into_inner);
+    let cases = target.tallies.iter().map(|tally| tally.cases).sum();
     // Chance is libFuzzer's here: its first lines tell its seed.
-    eprintln!("{}", figures::report("Fuzz", 0, &target.tallies).replacen(", seed 0", "", 1));
+    eprintln!("{}", opening("Fuzz run", "", cases, target.started.elapsed(), "no difference"));
+    // Floors are compare's own: nobody can say how far a fuzzer comes in its time.
+    eprintln!("{}", by_call(&target.tallies, false));
 }
