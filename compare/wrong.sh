@@ -1,9 +1,9 @@
 #!/usr/bin/env bash
-# Shows that a wrong lowerer is caught: copies of the Rust, each with one of document 01's three mistakes of drafts, are
-# compared with the Rust in the archive's place. Fails if one of them is not told from it. Takes seconds, once built.
+# Shows that a wrong lowerer is caught: copies of the Rust, each with one mistake, are compared with the Rust in the
+# archive's place. The last line is `N of M wrong copies caught`; the status is 1 unless all are. Takes seconds, once built.
 #
-#     ./wrong.sh          all three
-#     ./wrong.sh NAME     one of them: a folder of wrong/
+#     ./wrong.sh          all of them
+#     ./wrong.sh NAME     one of them, by its name in src/wrong.rs
 set -euo pipefail
 cd "$(dirname "$0")"
 exec cargo run --quiet --release -j1 --offline -- --wrong "$@"

@@ -18,6 +18,7 @@ pub mod report;
 pub mod run;
 pub mod shrink;
 pub mod sides;
+pub mod tampering;
 pub mod trial;
 pub mod words;
 pub mod wrong;

@@ -145,39 +145,8 @@ mod tests {
     use super::{Bench, Difference};
     use crate::case::{Call, Case};
     use crate::records::Signature;
-    use crate::sides::{Side, answer};
+    use crate::tampering::{Left, Tampering};
     use crate::words::{COUNTS, call, header};
-    use tulgarent::Answer;
-
-    /// The Rust, and something done to what it leaves behind.
-    struct Tampering(fn(&mut Answer, &mut [u8], &mut [u8]));
-
-    impl Side for Tampering {
-        fn lower(
-            &self,
-            signature: &[u8],
-            rule: &[u8],
-            counters: &mut [u8],
-            output: &mut [u8],
-            scratch: &mut [u8],
-        ) -> Answer {
-            let mut answer = answer!(oracle::lower_bytes(signature, rule, counters, output, scratch.len()));
-            self.0(&mut answer, counters, output);
-            answer
-        }
-
-        fn settle(&self, signature: &[u8], rule: &[u8], output: &mut [u8], scratch: &mut [u8]) -> Answer {
-            let mut answer = answer!(oracle::settle_bytes(signature, rule, output, scratch.len()));
-            self.0(&mut answer, &mut [], output);
-            answer
-        }
-
-        fn free_vars(&self, signature: &[u8], rule: &[u8], output: &mut [u8]) -> Answer {
-            let mut answer = answer!(oracle::free_vars_bytes(signature, rule, output));
-            self.0(&mut answer, &mut [], output);
-            answer
-        }
-    }
 
     /// A rule of one call, with a counter to spare; the call is accepted with 3 words.
     fn case(counter: u32) -> Case {
@@ -186,39 +155,31 @@ mod tests {
         Case { counters, ..Case::new(Call::Lower, Signature::trial().words(), rule) }
     }
 
-    fn difference(case: &Case, tamper: fn(&mut Answer, &mut [u8], &mut [u8])) -> Option<Difference> {
+    fn difference(case: &Case, tamper: fn(&mut Left)) -> Option<Difference> {
         Bench::new().compare(&Tampering(tamper), case).1
     }
 
     #[test]
     fn every_part_of_an_answer_is_compared() {
-        assert_eq!(difference(&case(0), |_, _, _| ()), None);
-        assert_eq!(difference(&case(0), |answer, _, _| answer.words += 1), Some(Difference::Answer));
-        assert_eq!(difference(&case(0), |answer, _, _| answer.replacements += 1), Some(Difference::Answer));
-        assert_eq!(difference(&case(0), |answer, _, _| answer.passes += 1), Some(Difference::Answer));
-        assert_eq!(difference(&case(COUNTS), |answer, _, _| answer.number = 8), Some(Difference::Answer));
-        assert_eq!(difference(&case(COUNTS), |answer, _, _| answer.place += 1), Some(Difference::Answer));
+        assert_eq!(difference(&case(0), |_| ()), None);
+        assert_eq!(difference(&case(0), |left| left.answer.words += 1), Some(Difference::Answer));
+        assert_eq!(difference(&case(0), |left| left.answer.replacements += 1), Some(Difference::Answer));
+        assert_eq!(difference(&case(0), |left| left.answer.passes += 1), Some(Difference::Answer));
+        assert_eq!(difference(&case(COUNTS), |left| left.answer.number = 8), Some(Difference::Answer));
+        assert_eq!(difference(&case(COUNTS), |left| left.answer.place += 1), Some(Difference::Answer));
     }
 
     #[test]
     fn every_byte_is_compared() {
-        assert_eq!(difference(&case(0), |_, _, output| output[11] ^= 1), Some(Difference::Output(11)));
+        assert_eq!(difference(&case(0), |left| left.output[11] ^= 1), Some(Difference::Output(11)));
+        assert_eq!(difference(&case(0), |left| left.output[12] ^= 1), Some(Difference::Output(12)), "past the words");
+        assert_eq!(difference(&case(0), |left| left.counters[6] ^= 1), Some(Difference::Counters(6)));
         assert_eq!(
-            difference(&case(0), |_, _, output| output[12] ^= 1),
-            Some(Difference::Output(12)),
-            "past the words"
-        );
-        assert_eq!(difference(&case(0), |_, counters, _| counters[6] ^= 1), Some(Difference::Counters(6)));
-        assert_eq!(
-            difference(&case(0), |_, counters, _| counters[16] ^= 1),
+            difference(&case(0), |left| left.counters[16] ^= 1),
             Some(Difference::Counters(16)),
             "past the heads"
         );
-        assert_eq!(difference(&case(COUNTS), |_, _, output| output[0] ^= 1), Some(Difference::Output(0)), "refused");
-        assert_eq!(
-            difference(&case(COUNTS), |_, counters, _| counters[4] ^= 1),
-            Some(Difference::Counters(4)),
-            "refused"
-        );
+        assert_eq!(difference(&case(COUNTS), |left| left.output[0] ^= 1), Some(Difference::Output(0)), "refused");
+        assert_eq!(difference(&case(COUNTS), |left| left.counters[4] ^= 1), Some(Difference::Counters(4)), "refused");
     }
 }

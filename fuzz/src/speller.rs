@@ -224,7 +224,7 @@ impl Speller<'_, '_> {
     }
 
     fn atom(&mut self, byte: u8) -> Vec<u32> {
-        if byte % 4 == 0 {
+        if byte.is_multiple_of(4) {
             return [vec![EQUALITY], self.terms(2)].concat();
         }
         let byte = self.from.byte();

@@ -25,9 +25,8 @@ struct Target {
 }
 
 // libFuzzer runs one input at a time; the lock is for the compiler.
-static TARGET: LazyLock<Mutex<Target>> = LazyLock::new(|| {
-    Mutex::new(Target { bench: Bench::new(), tallies: of_calls(), started: Instant::now() })
-});
+static TARGET: LazyLock<Mutex<Target>> =
+    LazyLock::new(|| Mutex::new(Target { bench: Bench::new(), tallies: of_calls(), started: Instant::now() }));
 
 /// Runs the case of these bytes on both sides. Does not return if they differ, or if one panics.
 pub fn run(input: &[u8]) {
