@@ -20,7 +20,7 @@ use Rattle.meaning.proofs.Passes.{canonicalize-repls}
 use Rattle.meaning.proofs.Room.{eqns-words, weight-replaced}
 use Rattle.meaning.proofs.Sweep.{asked-var}
 use Rattle.meaning.specs.Meaning.{All}
-use Rattle.meaning.specs.Sweep.{asks}
+use Rattle.meaning.proofs.Sweep.{asks}
 use Rattle.meaning.specs.Weight.{headsWeight, live, unlike, weight}
 use Rattle.bodies.specs.Standing.{AtomsAt, TabsAt, atomsIn}
 use Rattle.bodies.proofs.Standing.{atoms-before, atoms-join, no-tabs, tabs-before, tabs-join}

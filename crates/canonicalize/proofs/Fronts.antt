@@ -13,7 +13,7 @@ use Rattle.rules.specs.Canonicalize.{replaceAtom, replaceStep, replaceTerm, rep
 use Rattle.rules.specs.Flat.{Atom, Tab, eqn}
 use Rattle.rules.specs.Signature.{Sig, isVar, sameTerm}
 use Rattle.meaning.proofs.CanonicalizeEnds.{asked-same, first-var, replace-all-enough}
-use Rattle.meaning.specs.Sweep.{asks}
+use Rattle.meaning.proofs.Sweep.{asks}
 use Rattle.canonicalize.specs.declared.Canonical.{Canonical}
 use Rattle.canonicalize.proofs.Resolving.{resolve-cons}
 use Rattle.rules.specs.Canonicalize as canon

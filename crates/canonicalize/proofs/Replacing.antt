@@ -21,7 +21,7 @@ use Rattle.meaning.proofs.Sweep.{Sweeping, asked-var, sweep-end, sweep-past, sw
 use Rattle.meaning.proofs.WordLaws.{length-replaced, replace-words, two-atom}
 use Rattle.meaning.specs.Meaning.{All}
 use Rattle.meaning.specs.ReadBack.{Encodable}
-use Rattle.meaning.specs.Sweep.{asks}
+use Rattle.meaning.proofs.Sweep.{asks}
 use Rattle.bodies.specs.Standing.{AtomsAt, atomsIn, sizeAt}
 use Rattle.bodies.proofs.Standing.{bare-replaced, size-atom}
 use Rattle.canonicalize.specs.declared.Asked.{Asked}

@@ -7,5 +7,4 @@ pub mod Weight
 -- For code that settles where the words stand
 pub mod ReadBack
 pub mod Signatures
-pub mod Sweep
 pub mod Numbers

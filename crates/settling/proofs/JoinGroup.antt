@@ -14,7 +14,7 @@ use Rattle.rules.specs.Signature.{Sig}
 use Rattle.rules.specs.Words.{limit12}
 use Rattle.meaning.proofs.Passes.{canonicalize-repls}
 use Rattle.meaning.proofs.Sweep.{asked-var}
-use Rattle.meaning.specs.Sweep.{asks}
+use Rattle.meaning.proofs.Sweep.{asks}
 use Rattle.bodies.specs.Standing.{TabsAt}
 use Rattle.bodies.proofs.Standing.{no-tabs, tabs-before, tabs-join}
 use Rattle.canonicalize.specs.Canonicalize.{bindingWords}

@@ -18,7 +18,7 @@ use Rattle.rules.specs.Signature.{Sig, sameTerm}
 use Rattle.rules.specs.Words.{limit12}
 use Rattle.meaning.proofs.Encodable.{resolve-encodable}
 use Rattle.meaning.proofs.Lists.{or-false}
-use Rattle.meaning.specs.Sweep.{asks}
+use Rattle.meaning.proofs.Sweep.{asks}
 use Rattle.bodies.specs.Standing.{TabsAt}
 use Rattle.bodies.proofs.Standing.{bare-resolve}
 use Rattle.canonicalize.specs.Canonicalize.{bindingWords, resolveTerms}
