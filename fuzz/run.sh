@@ -11,8 +11,8 @@ here=$(cd "$(dirname "$0")" && pwd)
 build=$here/build
 corpus=$here/corpus
 found=$here/found
-# Most words take a byte of an input: room for the longest rules.
-longest=4096
+# Common words take a byte of an input and others five: room for the longest rules of either.
+longest=8192
 cd "$here/.."
 
 install_clang() {

@@ -29,6 +29,12 @@ impl Signature {
         Signature::of_heads(draw, heads)
     }
 
+    /// Mostly a small one; now and then with very many heads, so that words of high heads occur.
+    pub fn any_size(draw: &mut Draw) -> Signature {
+        let heads = draw.pick(&[300, NAMES as usize]);
+        if draw.once_in(8) { Signature::of_heads(draw, heads) } else { Signature::small(draw) }
+    }
+
     pub fn of_heads(draw: &mut Draw, heads: usize) -> Signature {
         let mut sorts: Vec<u32> = (0..heads).map(|_| draw.below(3)).collect();
         let value_eq = draw.below(heads as u32);

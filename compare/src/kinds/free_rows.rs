@@ -14,7 +14,7 @@ use crate::words::{
 const AROUND: usize = 3;
 
 pub fn free_rows(draw: &mut Draw) -> Case {
-    let signature = Signature::small(draw);
+    let mut signature = Signature::any_size(draw);
     let words = if draw.once_in(2) { FLAT_WORDS } else { draw.between(24, FLAT_WORDS) };
     let row = row(draw, &signature, words - AROUND);
     let actions = match draw.below(4) {
@@ -23,6 +23,10 @@ pub fn free_rows(draw: &mut Draw) -> Case {
         _ => with_targets(draw, &signature, &row),
     };
     let called = if draw.once_in(8) { Call::Settle } else { Call::FreeVars };
+    if draw.once_in(8) {
+        // Some of the names become globals, which are not free.
+        signature.globals = draw.below(NAMES + 1);
+    }
     Case::new(called, signature.words(), headed(&[], actions, words))
 }
 

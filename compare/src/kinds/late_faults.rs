@@ -28,7 +28,7 @@ fn length(draw: &mut Draw, most: usize) -> usize {
 /// An expression inside 31, 32 or 33 calls, in the last action. Refusal 6 comes before all that names and counters give,
 /// so what stands before it may be anything well formed.
 fn too_deep(draw: &mut Draw) -> Case {
-    let signature = Signature::small(draw);
+    let signature = Signature::any_size(draw);
     let head = draw.below(signature.heads());
     let innermost = draw.pick(&[name(1), literal(3), call(head, 0)]);
     let deep = [vec![call(head, 1); draw.between(CALLS - 1, CALLS + 1)], vec![innermost]].concat();
@@ -53,7 +53,7 @@ fn with_action(mut rule: Vec<u32>, last: &[u32]) -> Vec<u32> {
 
 /// A counter that ends at the last use of its head, at one of the last, or just not.
 fn counter_ends(draw: &mut Draw) -> Case {
-    let signature = Signature::small(draw);
+    let signature = Signature::any_size(draw);
     let head = draw.below(signature.heads());
     let words = length(draw, WRITTEN_WORDS);
     let rule = if draw.once_in(3) { facts_of(head, words) } else { head_of(draw, &signature, head, words) };
@@ -96,7 +96,7 @@ fn filled(mut rule: Vec<u32>, words: usize) -> Vec<u32> {
 
 /// The last name is unbound, or the last let is of a bound name.
 fn type_error(draw: &mut Draw) -> Case {
-    let signature = Signature::small(draw);
+    let signature = Signature::any_size(draw);
     let words = length(draw, WRITTEN_WORDS);
     let stranger = name(NAMES - 1);
     let last = match draw.below(4) {
@@ -113,7 +113,7 @@ fn type_error(draw: &mut Draw) -> Case {
 
 /// One of the last words does not fit, or one is missing, or there is one too many.
 fn unfit(draw: &mut Draw) -> Case {
-    let signature = Signature::small(draw);
+    let signature = Signature::any_size(draw);
     let called = draw.pick(&[Call::Lower, Call::Settle, Call::FreeVars]);
     let most = if called == Call::Lower { WRITTEN_WORDS } else { FLAT_WORDS };
     let words = length(draw, most);
@@ -130,7 +130,7 @@ fn unfit(draw: &mut Draw) -> Case {
 
 /// The last atom has no terms, or is an equality of any number of terms.
 fn flat_fault(draw: &mut Draw) -> Case {
-    let signature = Signature::small(draw);
+    let signature = Signature::any_size(draw);
     let last = draw.pick(&[call(0, 0), call(signature.heads() - 1, 0), EQUALITY + 1, EQUALITY - 1, EQUALITY]);
     let wide = length(draw, FLAT_WORDS) - 3;
     let terms: Vec<u32> = (0..wide).map(|at| name(at as u32 % 9)).collect();

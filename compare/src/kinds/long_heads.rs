@@ -9,7 +9,7 @@ use crate::words::{
 };
 
 pub fn long_heads(draw: &mut Draw) -> Case {
-    let signature = Signature::small(draw);
+    let signature = Signature::any_size(draw);
     if draw.once_in(2) {
         let words = full_or_less(draw, WRITTEN_WORDS);
         Case::new(Call::Lower, signature.words(), written(draw, &signature, words))
