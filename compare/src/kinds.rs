@@ -1,5 +1,6 @@
 //! The kinds of cases, each aimed at a point of document 01.
 
+mod far_merges;
 mod flat;
 mod free_rows;
 mod growing;
@@ -76,6 +77,7 @@ pub const KINDS: &[Kind] = &[
     drawn("free-rows", "rows of up to 1,021 free variables, in every order", free_rows::free_rows, 8_000, 80_000),
     drawn("long-heads", "heads of as many actions as fit, or very wide ones", long_heads::long_heads, 6_000, 60_000),
     drawn("late-faults", "long rules with a fault near their end, or none", late_faults::late_faults, 10_000, 100_000),
+    drawn("far-merges", "long bodies in which few atoms are alike", far_merges::far_merges, 6_000, 60_000),
     drawn("loops", "chains that lead back: as many passes as there can be", loops::loops, 300, 3_000),
     listed("short-outputs", "outputs of every length below the longest results", outputs::short_outputs, 2, 12),
     drawn("outputs", "long results, and less output than they ask for", outputs::outputs, 10_000, 100_000),
