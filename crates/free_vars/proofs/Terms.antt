@@ -12,9 +12,9 @@ use borrow.Author.Tests.{lt-leb}
 use Rattle.octets.specs.Regions.{part}
 use Rattle.rules.specs.Signature.{elem}
 use Rattle.rules.specs.Words.{nameBase, freshBase}
-use Rattle.words.proofs.AtomLaws.{term-word, term-var}
+use Rattle.words.proofs.AtomLaws.{termOf, isVarTerm, termed, term-var}
 use Rattle.words.proofs.Term.{the-type}
-use Rattle.words.specs.Atom.{termOf, termWord, isVarTerm}
+use Rattle.words.specs.Atom.{termWord, TermSays}
 use Rattle.words.specs.declared.Term.the-variants.{Var, Global, Literal}
 use Rattle.words.specs.declared.Term.{Term}
 use Rattle.free_vars.specs.First.{binds, isVarWord, firstFree, firstFreeAt}
@@ -34,11 +34,11 @@ pub record Variable (G : ℕ) (ws : List ℕ) (from i v : ℕ) (bound : Bool) : 
   pub var : isVarWord G v ≡ true
   pub told : binds (getD ws (from + i - 1) 0) ≡ bound
 
-pub variable : {G : ℕ} {ws : List ℕ} {from i w w′ v : ℕ} {t : Term} {bound : Bool} → w ≡ getD ws (from + i) 0 → t ≡ termOf G w → t ≡ Var v
+pub variable : {G : ℕ} {ws : List ℕ} {from i w w′ v : ℕ} {t : Term} {bound : Bool} → w ≡ getD ws (from + i) 0 → TermSays t G w → t ≡ Var v
     → w′ ≡ getD ws (from + i - 1) 0 → bound ≡ binds w′ → Variable G ws from i v bound
 variable {G} {ws} {from} {i} {w} {w′} {v} read is e read′ says =
-    let same : v ≡ w = ap termWord (sym e ∙ is) ∙ term-word G w in
-    record { is = same ∙ read; var = ap (isVarWord G) same ∙ sym (is-var G w) ∙ ap isVarTerm (sym is ∙ e); told = sym (says ∙ ap binds read′) }
+    let same : v ≡ w = ap termWord (sym e) ∙ is .wordIs in
+    record { is = same ∙ read; var = ap (isVarWord G) same ∙ sym (is-var G w) ∙ ap isVarTerm (sym (termed is) ∙ e); told = sym (says ∙ ap binds read′) }
 
 -- a word below the names is no variable
 pub low-none : (G w : ℕ) → w < nameBase → isVarWord G w ≡ false
@@ -46,8 +46,8 @@ low-none G w h = ap₂ _||_ (lt-leb freshBase w (omega arith)) (lt-leb (nameBase
 
 module _ (G : ℕ) (ws : List ℕ) (from i : ℕ) where
   -- nor is a term of another kind
-  pub no-variable : {w : ℕ} {t : Term} → w ≡ getD ws (from + i) 0 → t ≡ termOf G w → OneOf (1 ∷ 2 ∷ []) (tagOf the-type t) → isVarWord G (getD ws (from + i) 0) ≡ false
-  no-variable {w} {t} read is h = ap (isVarWord G) (sym read) ∙ sym (is-var G w) ∙ ap isVarTerm (sym is) ∙ not-var t h
+  pub no-variable : {w : ℕ} {t : Term} → w ≡ getD ws (from + i) 0 → TermSays t G w → OneOf (1 ∷ 2 ∷ []) (tagOf the-type t) → isVarWord G (getD ws (from + i) 0) ≡ false
+  no-variable {w} {t} read is h = ap (isVarWord G) (sym read) ∙ sym (is-var G w) ∙ ap isVarTerm (sym (termed is)) ∙ not-var t h
 
   pub none-free : isVarWord G (getD ws (from + i) 0) ≡ false → firstFreeAt G ws from i ≡ false
   unfolding firstFree

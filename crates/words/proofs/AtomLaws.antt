@@ -1,48 +1,78 @@
--- A term and an atom spell the word that they were read from, and a term is a variable where `rules` says so. Assumes nothing.
-use mathlib.Core.Path.{_≡_, refl}
+-- What a term and an atom are is told by the range of their word: the cases that code answers with, against the numbers that the definitions give.
+-- Assumes nothing.
+use mathlib.Core.Path.{_≡_, refl, sym, ap, _∙_}
 use mathlib.Core.Bool.{Bool, true, false, _||_, cond}
 use Prim.Native.Nat.{ℕ, _+_, _-_, _≤_, _<_}
 use native.Mathlib.Omega.{arith}
-use lib.Dec.{leb}
-use borrow.Author.Tests.{le-leb, lt-leb, leb-true}
-use Rattle.rules.specs.Words.{freshBase, nameBase, literalBase, headBase, equalityBase, headOf, countOf}
+use lib.Dec.{leb, eqb}
+use borrow.Author.Tests.{le-leb, lt-leb}
+use Rattle.rules.specs.Words.{freshBase, nameBase, headBase, equalityBase, headOf, countOf}
 use Rattle.rules.specs.Signature.{Sig, isFresh, isVar}
-use Rattle.words.specs.Atom.{termOf, termWord, isVarTerm, atomWith, atomOf, firstWord}
+use Rattle.words.specs.Atom.{termNumber, termNumberOf, termWord, TermSays, headKind, headNumber, AtomSays}
 use Rattle.words.specs.declared.Term.{Term}
 use Rattle.words.specs.declared.Term.the-variants.{Var, Global, Literal}
+use Rattle.words.specs.declared.HeadOrEq.{HeadOrEq}
 use Rattle.words.specs.declared.HeadOrEq.the-variants.{Head, Eq}
+use Rattle.words.specs.declared.Atom.{Atom}
+
+-- ---- terms
+
+-- the enum's case for a term's word
+unfoldable pub termOf : (G : ℕ) → ℕ → Term
+termOf G w = cond (isFresh w || leb (nameBase + G) w) (Var w) (cond (leb nameBase w) (Global w) (Literal w))
+
+-- whether a case is a variable
+abbrev pub isVarTerm : Term → Bool
+isVarTerm (Var w) = true
+isVarTerm (Global w) = false
+isVarTerm (Literal w) = false
 
 module _ (G w : ℕ) where
   abbrev pick : (variable name : Bool) → Term
   pick a b = cond a (Var w) (cond b (Global w) (Literal w))
 
-  pub term-word : termWord (termOf G w) ≡ w
-  unfolding termOf
-  term-word = go (isFresh w || leb (nameBase + G) w) (leb nameBase w)
+  -- each case, from the range of the word
+
+  pub term-fresh : freshBase ≤ w → TermSays (Var w) G w
+  unfolding termNumberOf
+  term-fresh h = record { numberIs = simp (le-leb freshBase w h); wordIs = refl }
+
+  pub term-name : w < freshBase → nameBase + G ≤ w → TermSays (Var w) G w
+  unfolding termNumberOf
+  term-name h k = record { numberIs = simp (lt-leb freshBase w h, le-leb (nameBase + G) w k); wordIs = refl }
+
+  pub term-global : w < freshBase → nameBase ≤ w → w < nameBase + G → TermSays (Global w) G w
+  unfolding termNumberOf
+  term-global h l k = record { numberIs = simp (lt-leb freshBase w h, lt-leb (nameBase + G) w k, le-leb nameBase w l); wordIs = refl }
+
+  pub term-literal : w < nameBase → TermSays (Literal w) G w
+  unfolding termNumberOf
+  term-literal h = record { numberIs = simp (lt-leb freshBase w (omega arith), lt-leb (nameBase + G) w (omega arith), lt-leb nameBase w h); wordIs = refl }
+
+  -- and back: a case is told by its number and its word
+
+  byNumber : ℕ → ℕ → Term
+  byNumber k v = cond (eqb k 0) (Var v) (cond (eqb k 1) (Global v) (Literal v))
+
+  by-its-number : (t : Term) → byNumber (termNumber t) (termWord t) ≡ t
+  unfolding byNumber
+  by-its-number (Var v) = refl
+  by-its-number (Global v) = refl
+  by-its-number (Literal v) = refl
+
+  of-number : byNumber (termNumberOf G w) w ≡ termOf G w
+  unfolding byNumber termNumberOf termOf
+  of-number = go (isFresh w || leb (nameBase + G) w) (leb nameBase w)
     where
-      go : (a b : Bool) → termWord (pick a b) ≡ w
+      go : (a b : Bool) → (let k = cond a 0 (cond b 1 2) in cond (eqb k 0) (Var w) (cond (eqb k 1) (Global w) (Literal w))) ≡ pick a b
       go true b = refl
       go false true = refl
       go false false = refl
 
-  -- each case, from the range of the word
+pub termed : {G w : ℕ} {t : Term} → TermSays t G w → t ≡ termOf G w
+termed {G} {w} {t} h = sym (by-its-number G w t) ∙ (λ i. byNumber G w (h .numberIs i) (h .wordIs i)) ∙ of-number G w
 
-  pub term-fresh : freshBase ≤ w → termOf G w ≡ Var w
-  unfolding termOf
-  term-fresh h = simp (le-leb freshBase w h)
-
-  pub term-name : w < freshBase → nameBase + G ≤ w → termOf G w ≡ Var w
-  unfolding termOf
-  term-name h k = simp (lt-leb freshBase w h, le-leb (nameBase + G) w k)
-
-  pub term-global : w < freshBase → nameBase ≤ w → w < nameBase + G → termOf G w ≡ Global w
-  unfolding termOf
-  term-global h l k = simp (lt-leb freshBase w h, lt-leb (nameBase + G) w k, le-leb nameBase w l)
-
-  pub term-literal : w < nameBase → termOf G w ≡ Literal w
-  unfolding termOf
-  term-literal h = simp (lt-leb freshBase w (omega arith), lt-leb (nameBase + G) w (omega arith), lt-leb nameBase w h)
-
+-- it is a variable where `rules` says so
 pub term-var : (s : Sig) (w : ℕ) → isVarTerm (termOf (s .globals) w) ≡ isVar s w
 unfolding termOf
 term-var s w = go (isVar s w) (leb nameBase w)
@@ -52,22 +82,45 @@ term-var s w = go (isVar s w) (leb nameBase w)
     go false true = refl
     go false false = refl
 
-module _ (w : ℕ) where
-  pub atom-head : headBase ≤ w → atomOf w ≡ atomWith (Head (headOf w)) (countOf w)
-  unfolding atomOf
-  atom-head h = simp (le-leb headBase w h)
+-- ---- atoms
 
-  pub atom-equality : w < headBase → atomOf w ≡ atomWith Eq (w - equalityBase)
-  unfolding atomOf
-  atom-equality h = simp (lt-leb headBase w h)
+module _ {r : Atom} {w at : ℕ} (a : AtomSays r w at) where
+  byKind : ℕ → ℕ → HeadOrEq
+  byKind k h = cond (eqb k 3) (Head h) Eq
 
-  pub atom-word : equalityBase ≤ w → w < literalBase → firstWord (atomOf w .head) (atomOf w .count) ≡ w
-  unfolding atomOf
-  atom-word lo hi = go (leb headBase w) refl
-    where
-      go : (b : Bool) → leb headBase w ≡ b
-          → firstWord (cond b (atomWith (Head (headOf w)) (countOf w)) (atomWith Eq (w - equalityBase)) .head)
-          (cond b (atomWith (Head (headOf w)) (countOf w)) (atomWith Eq (w - equalityBase)) .count)
-          ≡ w
-      go true e = omega (arith, leb-true headBase w e)
-      go false e = omega arith
+  by-its-kind : (h : HeadOrEq) → byKind (headKind h) (headNumber h) ≡ h
+  unfolding byKind
+  by-its-kind (Head h) = refl
+  by-its-kind Eq = refl
+
+  -- a word of kind 3 has its head and its count
+  pub atom-head : headBase ≤ w → (r .head ≡ Head (headOf w)) × (r .count ≡ countOf w)
+  unfolding byKind
+  atom-head h =
+      let b = le-leb headBase w h in
+      let k : headKind (r .head) ≡ 3 = a .kindIs ∙ rw b in
+      let n : headNumber (r .head) ≡ headOf w = a .numberIs ∙ rw b in
+      (sym (by-its-kind (r .head)) ∙ (λ i. byKind (k i) (n i)), a .countIs ∙ rw b)
+
+  -- one of kind 4 the equality sign
+  pub atom-equality : w < headBase → (r .head ≡ Eq) × (r .count ≡ w - equalityBase)
+  unfolding byKind
+  atom-equality h =
+      let b = lt-leb headBase w h in
+      let k : headKind (r .head) ≡ 4 = a .kindIs ∙ rw b in
+      let n : headNumber (r .head) ≡ 0 = a .numberIs ∙ rw b in
+      (sym (by-its-kind (r .head)) ∙ (λ i. byKind (k i) (n i)), a .countIs ∙ rw b)
+
+-- what code answers with meets it
+
+pub says-head : (w at : ℕ) → headBase ≤ w
+    → AtomSays (record { head = Head (headOf w); count = countOf w; terms = at + 1; next = at + 1 + countOf w }) w at
+says-head w at h =
+    let b = le-leb headBase w h in
+    record { kindIs = rw b; numberIs = rw b; countIs = rw b; termsAt = refl; nextAt = refl }
+
+pub says-equality : (w at : ℕ) → w < headBase
+    → AtomSays (record { head = Eq; count = w - equalityBase; terms = at + 1; next = at + 1 + (w - equalityBase) }) w at
+says-equality w at h =
+    let b = lt-leb headBase w h in
+    record { kindIs = rw b; numberIs = rw b; countIs = rw b; termsAt = refl; nextAt = refl }

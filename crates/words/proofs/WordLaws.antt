@@ -10,10 +10,47 @@ use borrow.Author.Tests.{le-leb, lt-leb, leb-true, leb-false, eq-eqb, ne-eqb}
 use Rattle.rules.specs.Words.{limit12, limit16, freshBase, nameBase, literalBase, headBase, equalityBase, headerBase, actionBase}
 use Rattle.rules.specs.Words.{signatureBase, actionWord, within, isNameWord, isLiteralWord, isHeadWord, isFreshWord, isEqualityWord}
 use Rattle.rules.specs.Words.{isHeaderWord, headOf, countOf, factsOf, actionsOf, freshWord, headWord, headerWord, noCode, codeOf}
-use Rattle.words.specs.Word.{wordOf, kind, spelled, Fits}
+use Rattle.words.specs.Word.{Numbers, numbered, numbers, kind, numbersOf}
 use Rattle.words.specs.declared.Word.{Word}
 use Rattle.words.specs.declared.Word.the-variants.{Fresh, Name, Literal, Head, Equality, Header, Action, Signature, Unfit}
 use Rattle.words.proofs.Ranges.{within-true, true-within, false-below, false-above, heads-below}
+
+-- the enum's case for a word
+unfoldable pub wordOf : ℕ → Word
+wordOf w =
+    cond (leb freshBase w) (Fresh ((w - freshBase) / limit16) ((w - freshBase) % limit16))
+    (cond (isNameWord w) (Name (w - nameBase))
+    (cond (isLiteralWord w) (Literal (w - literalBase))
+    (cond (within headBase headBase w) (Head (headOf w) (countOf w))
+    (cond (isEqualityWord w) (Equality (w - equalityBase))
+    (cond (isHeaderWord w) (Header (factsOf w) (actionsOf w))
+    (cond (within (actionWord 1) 8 w) (Action (w - actionBase))
+    (cond (within signatureBase signatureBase w) (Signature (w - signatureBase))
+    Unfit)))))))
+
+-- the word that a case spells. None says `Unfit` alone, which is given 0
+abbrev pub spelled : Word → ℕ
+spelled (Fresh h n) = freshWord h n
+spelled (Name n) = nameBase + n
+spelled (Literal n) = literalBase + n
+spelled (Head h n) = headWord h n
+spelled (Equality n) = equalityBase + n
+spelled (Header a b) = headerWord a b
+spelled (Action n) = actionWord n
+spelled (Signature n) = signatureBase + n
+spelled Unfit = 0
+
+-- 01's limits of the numbers of each case
+abbrev pub Fits : Word → Type 0
+Fits (Fresh h n) = n < limit16
+Fits (Name n) = n < limit12
+Fits (Literal n) = n < limit16
+Fits (Head h n) = (h < limit12) × (n < limit16)
+Fits (Equality n) = n < equalityBase
+Fits (Header a b) = (a < limit12) × (b < limit12)
+Fits (Action n) = (1 ≤ n) × (n ≤ 8)
+Fits (Signature n) = n < signatureBase
+Fits Unfit = ⊥
 
 -- ---- each case of `wordOf`, from the test of its range: the tests of the higher ranges fail
 
@@ -172,6 +209,35 @@ module _ (w : ℕ) where
       (cond g (Action (w - actionBase))
       (cond h (Signature (w - signatureBase)) Unfit)))))))
 
+  -- its numbers are those of the word
+  numbers-of : numbers (wordOf w) ≡ numbersOf w
+  unfolding wordOf numbersOf
+  numbers-of =
+      go (leb freshBase w) (isNameWord w) (isLiteralWord w) (within headBase headBase w) (isEqualityWord w) (isHeaderWord w) (within (actionWord 1) 8 w)
+      (within signatureBase signatureBase w)
+    where
+      Numbered : (a b c d e f g h : Bool) → Numbers
+      Numbered a b c d e f g h =
+          cond a (numbered 0 ((w - freshBase) / limit16) ((w - freshBase) % limit16))
+          (cond b (numbered 1 (w - nameBase) 0)
+          (cond c (numbered 2 (w - literalBase) 0)
+          (cond d (numbered 3 (headOf w) (countOf w))
+          (cond e (numbered 4 (w - equalityBase) 0)
+          (cond f (numbered 5 (factsOf w) (actionsOf w))
+          (cond g (numbered 6 (w - actionBase) 0)
+          (cond h (numbered 7 (w - signatureBase) 0) (numbered 8 0 0))))))))
+
+      go : (a b c d e f g h : Bool) → numbers (pick a b c d e f g h) ≡ Numbered a b c d e f g h
+      go true b c d e f g h = refl
+      go false true c d e f g h = refl
+      go false false true d e f g h = refl
+      go false false false true e f g h = refl
+      go false false false false true f g h = refl
+      go false false false false false true g h = refl
+      go false false false false false false true h = refl
+      go false false false false false false false true = refl
+      go false false false false false false false false = refl
+
   tested : getD tests (kind (wordOf w)) true ≡ true
   unfolding wordOf
   tested =
@@ -301,6 +367,39 @@ module _ (w : ℕ) where
           let there : within (actionWord 1) 8 w ≡ true = true-within (actionWord 1) 8 w (omega arith) (omega arith) in
           let z : _≡_ {A = ℕ} 0 1 = cc (action-kind) in
           omega arith)
+
+-- ---- a case is told by its numbers
+
+byNumbers : Numbers → Word
+byNumbers n =
+    cond (eqb (n .kindIs) 0) (Fresh (n .firstIs) (n .secondIs))
+    (cond (eqb (n .kindIs) 1) (Name (n .firstIs))
+    (cond (eqb (n .kindIs) 2) (Literal (n .firstIs))
+    (cond (eqb (n .kindIs) 3) (Head (n .firstIs) (n .secondIs))
+    (cond (eqb (n .kindIs) 4) (Equality (n .firstIs))
+    (cond (eqb (n .kindIs) 5) (Header (n .firstIs) (n .secondIs))
+    (cond (eqb (n .kindIs) 6) (Action (n .firstIs))
+    (cond (eqb (n .kindIs) 7) (Signature (n .firstIs)) Unfit)))))))
+
+by-its-numbers : (x : Word) → byNumbers (numbers x) ≡ x
+unfolding byNumbers
+by-its-numbers (Fresh h n) = refl
+by-its-numbers (Name n) = refl
+by-its-numbers (Literal n) = refl
+by-its-numbers (Head h n) = refl
+by-its-numbers (Equality n) = refl
+by-its-numbers (Header a b) = refl
+by-its-numbers (Action n) = refl
+by-its-numbers (Signature n) = refl
+by-its-numbers Unfit = refl
+
+-- what an answer with a word's numbers is
+pub answered : (w : ℕ) {x : Word} → numbers x ≡ numbersOf w → x ≡ wordOf w
+answered w {x} e = sym (by-its-numbers x) ∙ ap byNumbers (e ∙ sym (numbers-of w)) ∙ by-its-numbers (wordOf w)
+
+-- and the other way round
+pub answers : (w : ℕ) {x : Word} → wordOf w ≡ x → numbers x ≡ numbersOf w
+answers w e = ap numbers (sym e) ∙ numbers-of w
 
 -- ---- and the word that is spelled says so
 

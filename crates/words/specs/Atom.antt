@@ -1,9 +1,13 @@
 -- 01, "Words and records", flat rules: an atom's head is a head number or the equality sign, and its terms are variables, globals and literals.
+-- For each case of the enums that say so: 01's number and values.
 -- Assumes nothing: these are definitions.
-use Prim.Native.Nat.{ℕ, _+_, _-_}
-use mathlib.Core.Bool.{Bool, true, false, _||_, cond}
+use Prim.Native.Nat.{ℕ, _+_, _-_, _≤_, _<_}
+use mathlib.Core.Path.{_≡_}
+use mathlib.Core.Bool.{_||_, cond}
+use mathlib.Core.List.{List}
 use lib.Dec.{leb}
-use Rattle.rules.specs.Words.{nameBase, headBase, equalityBase, headWord, headOf, countOf}
+use lib.ListN.{length, getD}
+use Rattle.rules.specs.Words.{nameBase, literalBase, headBase, equalityBase, headOf, countOf}
 use Rattle.rules.specs.Signature.{isFresh}
 use Rattle.words.specs.declared.Term.{Term}
 use Rattle.words.specs.declared.Term.the-variants.{Var, Global, Literal}
@@ -11,38 +15,51 @@ use Rattle.words.specs.declared.HeadOrEq.{HeadOrEq}
 use Rattle.words.specs.declared.HeadOrEq.the-variants.{Head, Eq}
 use Rattle.words.specs.declared.Atom.{Atom}
 
--- ---- terms
+-- ---- terms: 0 a variable, 1 a global, 2 a literal, each with its word
 
--- under a signature with G globals
-unfoldable pub termOf : (G : ℕ) → ℕ → Term
-termOf G w = cond (isFresh w || leb (nameBase + G) w) (Var w) (cond (leb nameBase w) (Global w) (Literal w))
+abbrev pub termNumber : Term → ℕ
+termNumber (Var w) = 0
+termNumber (Global w) = 1
+termNumber (Literal w) = 2
 
--- the word of each case
 abbrev pub termWord : Term → ℕ
 termWord (Var w) = w
 termWord (Global w) = w
 termWord (Literal w) = w
 
--- whether a case is a variable
-abbrev pub isVarTerm : Term → Bool
-isVarTerm (Var w) = true
-isVarTerm (Global w) = false
-isVarTerm (Literal w) = false
+-- of a term's word, under a signature with G globals
+unfoldable pub termNumberOf : (G : ℕ) → ℕ → ℕ
+termNumberOf G w = cond (isFresh w || leb (nameBase + G) w) 0 (cond (leb nameBase w) 1 2)
 
--- ---- atoms
+-- the term that w is
+pub record TermSays (r : Term) (G w : ℕ) : Type 0 where
+  pub numberIs : termNumber r ≡ termNumberOf G w
+  pub wordIs : termWord r ≡ w
 
-abbrev pub atomWith : HeadOrEq → ℕ → Atom
-atomWith h n = record { head = h; count = n }
+-- ---- atoms: the kind of the first word, 3 or 4, and its head's number, which the equality sign has not
 
--- by the first word, which is of kind 3 or 4
-unfoldable pub atomOf : ℕ → Atom
-atomOf w = cond (leb headBase w) (atomWith (Head (headOf w)) (countOf w)) (atomWith Eq (w - equalityBase))
-
--- 01's number of each case, the kind, and the word of a count of terms
 abbrev pub headKind : HeadOrEq → ℕ
 headKind (Head h) = 3
 headKind Eq = 4
 
-abbrev pub firstWord : HeadOrEq → ℕ → ℕ
-firstWord (Head h) n = headWord h n
-firstWord Eq n = equalityBase + n
+abbrev pub headNumber : HeadOrEq → ℕ
+headNumber (Head h) = h
+headNumber Eq = 0
+
+-- how many terms an atom has, by its first word
+abbrev pub countIn : ℕ → ℕ
+countIn w = cond (leb headBase w) (countOf w) (w - equalityBase)
+
+-- the atom that begins at `at` with w: its terms stand behind w, the output last
+pub record AtomSays (r : Atom) (w at : ℕ) : Type 0 where
+  pub kindIs : headKind (r .head) ≡ cond (leb headBase w) 3 4
+  pub numberIs : headNumber (r .head) ≡ cond (leb headBase w) (headOf w) 0
+  pub countIs : r .count ≡ countIn w
+  pub termsAt : r .terms ≡ at + 1
+  pub nextAt : r .next ≡ at + 1 + r .count
+
+-- a word of kind 3 or 4 stands at an index
+pub record BeginsAtom (ws : List ℕ) (at : ℕ) : Type 0 where
+  pub inside : at < length ws
+  pub low : equalityBase ≤ getD ws at 0
+  pub high : getD ws at 0 < literalBase

@@ -1,6 +1,6 @@
 -- 01, "Words and records": what a word says, kind by kind, as the code's enum `Word`.
 --
--- The kinds are ranges of numbers here, as in `rules`; that the count of leading zero bits tells the same is proved in `proofs/Laws`.
+-- The kinds are ranges of numbers here, as in `rules`; that the count of leading zero bits tells the same is proved in `proofs/Ranges`.
 -- Assumes nothing: these are definitions.
 use Prim.Native.Nat.{ℕ, _+_, _-_, _/_, _%_, _≤_, _<_}
 use mathlib.Core.Bool.{cond}
@@ -11,74 +11,43 @@ use Rattle.rules.specs.Words.{isEqualityWord, isHeaderWord, headOf, countOf, fa
 use Rattle.words.specs.declared.Word.{Word}
 use Rattle.words.specs.declared.Word.the-variants.{Fresh, Name, Literal, Head, Equality, Header, Action, Signature, Unfit}
 
--- from 80000000 up a word is a fresh variable. Of the kinds with limits, only the payloads within them fit
-unfoldable pub wordOf : ℕ → Word
-wordOf w =
-    cond (leb freshBase w) (Fresh ((w - freshBase) / limit16) ((w - freshBase) % limit16))
-    (cond (isNameWord w) (Name (w - nameBase))
-    (cond (isLiteralWord w) (Literal (w - literalBase))
-    (cond (within headBase headBase w) (Head (headOf w) (countOf w))
-    (cond (isEqualityWord w) (Equality (w - equalityBase))
-    (cond (isHeaderWord w) (Header (factsOf w) (actionsOf w))
-    (cond (within (actionWord 1) 8 w) (Action (w - actionBase))
-    (cond (within signatureBase signatureBase w) (Signature (w - signatureBase))
-    Unfit)))))))
+-- 01's number of a word, its kind, and the numbers of its payload: the first or only one, and the second. What has no kind, or a payload that does not
+-- fit, is given the kind 8
+pub record Numbers : Type 0 where
+  pub kindIs : ℕ
+  pub firstIs : ℕ
+  pub secondIs : ℕ
 
--- ---- 01's number of each case, the kind, and the payload's numbers: the first or only one, and the second. What is unfit is given the number 8
+abbrev pub numbered : (kind first second : ℕ) → Numbers
+numbered k a b = record { kindIs = k; firstIs = a; secondIs = b }
+
+-- ---- of each case of the enum
+
+abbrev pub numbers : Word → Numbers
+numbers (Fresh h n) = numbered 0 h n
+numbers (Name n) = numbered 1 n 0
+numbers (Literal n) = numbered 2 n 0
+numbers (Head h n) = numbered 3 h n
+numbers (Equality n) = numbered 4 n 0
+numbers (Header a b) = numbered 5 a b
+numbers (Action n) = numbered 6 n 0
+numbers (Signature n) = numbered 7 n 0
+numbers Unfit = numbered 8 0 0
 
 abbrev pub kind : Word → ℕ
-kind (Fresh h n) = 0
-kind (Name n) = 1
-kind (Literal n) = 2
-kind (Head h n) = 3
-kind (Equality n) = 4
-kind (Header a b) = 5
-kind (Action n) = 6
-kind (Signature n) = 7
-kind Unfit = 8
+kind w = numbers w .kindIs
 
-abbrev pub first : Word → ℕ
-first (Fresh h n) = h
-first (Name n) = n
-first (Literal n) = n
-first (Head h n) = h
-first (Equality n) = n
-first (Header a b) = a
-first (Action n) = n
-first (Signature n) = n
-first Unfit = 0
+-- ---- of a word of a record
 
-abbrev pub second : Word → ℕ
-second (Fresh h n) = n
-second (Name n) = 0
-second (Literal n) = 0
-second (Head h n) = n
-second (Equality n) = 0
-second (Header a b) = b
-second (Action n) = 0
-second (Signature n) = 0
-second Unfit = 0
-
--- the word that says so. None says `Unfit` alone, which is given 0
-abbrev pub spelled : Word → ℕ
-spelled (Fresh h n) = freshWord h n
-spelled (Name n) = nameBase + n
-spelled (Literal n) = literalBase + n
-spelled (Head h n) = headWord h n
-spelled (Equality n) = equalityBase + n
-spelled (Header a b) = headerWord a b
-spelled (Action n) = actionWord n
-spelled (Signature n) = signatureBase + n
-spelled Unfit = 0
-
--- 01's limits of the numbers of each case
-abbrev pub Fits : Word → Type 0
-Fits (Fresh h n) = n < limit16
-Fits (Name n) = n < limit12
-Fits (Literal n) = n < limit16
-Fits (Head h n) = (h < limit12) × (n < limit16)
-Fits (Equality n) = n < equalityBase
-Fits (Header a b) = (a < limit12) × (b < limit12)
-Fits (Action n) = (1 ≤ n) × (n ≤ 8)
-Fits (Signature n) = n < signatureBase
-Fits Unfit = ⊥
+-- from 80000000 up a word is a fresh variable. Of the kinds with limits, only the payloads within them fit
+unfoldable pub numbersOf : ℕ → Numbers
+numbersOf w =
+    cond (leb freshBase w) (numbered 0 ((w - freshBase) / limit16) ((w - freshBase) % limit16))
+    (cond (isNameWord w) (numbered 1 (w - nameBase) 0)
+    (cond (isLiteralWord w) (numbered 2 (w - literalBase) 0)
+    (cond (within headBase headBase w) (numbered 3 (headOf w) (countOf w))
+    (cond (isEqualityWord w) (numbered 4 (w - equalityBase) 0)
+    (cond (isHeaderWord w) (numbered 5 (factsOf w) (actionsOf w))
+    (cond (within (actionWord 1) 8 w) (numbered 6 (w - actionBase) 0)
+    (cond (within signatureBase signatureBase w) (numbered 7 (w - signatureBase) 0)
+    (numbered 8 0 0))))))))

@@ -1,9 +1,11 @@
 // What a word of a record says. Its kind is the count of its leading zero bits, and the bits after the first one bit are its payload.
 ghost use mathlib.Core.Path.{_≡_};
-ghost use Prim.Native.Nat.{_≤_, _<_};
+ghost use Prim.Native.Nat.{_^_, _≤_, _<_};
+ghost use lib.ListN.{getD};
+ghost use Rattle.octets.specs.Words.{words};
 ghost use Rattle.rules.specs.Words.{equalityBase, literalBase};
-ghost use Rattle.words.specs.Word.{wordOf};
-ghost use Rattle.words.specs.Atom.{termOf, atomOf};
+ghost use Rattle.words.specs.Word.{numbers, numbersOf};
+ghost use Rattle.words.specs.Atom.{TermSays, AtomSays, BeginsAtom};
 
 // Heads, names, facts, atoms and actions are numbered below LIMIT_12, counts and literals below LIMIT_16.
 pub const LIMIT_12: u32 = 4096;
@@ -26,6 +28,25 @@ pub const HEADER_BASE: u32 = 0x0400_0000;
 pub const ACTION_BASE: u32 = 0x0200_0000;
 
 pub const SIGNATURE_BASE: u32 = 0x0100_0000;
+
+// The equality of two, and Unit.
+pub const EQUALITY: u32 = EQUALITY_BASE + 2;
+
+pub const UNIT: u32 = LITERAL_BASE;
+
+// The actions, by their codes. 7 is a call whose answer is bound.
+pub const LET: u32 = ACTION_BASE + 1;
+
+pub const SET: u32 = ACTION_BASE + 2;
+
+pub const UNION: u32 = ACTION_BASE + 5;
+
+pub const PANIC: u32 = ACTION_BASE + 6;
+
+pub const CALL: u32 = ACTION_BASE + 7;
+
+// An expression holds expressions up to 32 deep, itself counted.
+pub const MAX_DEPTH: u32 = 32;
 
 pub enum Word {
     // kind 0: a fresh variable, its head and its count
@@ -50,7 +71,7 @@ pub enum Word {
 
 // What a word says: the count of its leading zeros tells the kind, and so where the payload begins.
 pub fn word_of(w: u32) -> Word
-    ensures { λ r. ⌜ r ≡ wordOf w ⌝ }
+    ensures { λ r. ⌜ numbers r ≡ numbersOf w ⌝ }
 {
     let kind = u32::leading_zeros(w);
     match kind {
@@ -110,7 +131,7 @@ pub enum Term {
 
 // The term that a word of a good record is.
 pub fn term_of(w: u32, globals: u32) -> Term
-    ensures { λ r. ⌜ r ≡ termOf globals w ⌝ }
+    ensures { λ r. ⌜ TermSays r globals w ⌝ }
 {
     let kind = u32::leading_zeros(w);
     match kind {
@@ -132,29 +153,49 @@ pub enum HeadOrEq {
     Eq,
 }
 
-// An atom's first word: its head, and how many terms follow.
+// An atom where it stands: its head, how many terms it has, where they begin, and the place behind it, where the next one may begin. The count has the
+// output in it, which is the last term.
 pub struct Atom {
     pub head: HeadOrEq,
     pub count: u32,
+    pub terms: usize,
+    pub next: usize,
 }
 
-// The atom that a word of kind 3 or 4 begins.
-pub fn atom_of(w: u32) -> Atom
-    requires { ⌜ (equalityBase ≤ w) × (w < literalBase) ⌝ }
-    ensures { λ r. ⌜ r ≡ atomOf w ⌝ }
+// The atom that begins at `at` with w, a word of kind 3 or 4. This is the one place that knows how an atom is laid out; rows of `octets` write it.
+pub fn atom_of(w: u32, at: usize) -> Atom
+    requires { ⌜ (equalityBase ≤ w) × (w < literalBase) × (at < 2 ^ 62) ⌝ }
+    ensures { λ r. ⌜ AtomSays r w at ⌝ }
 {
     let kind = u32::leading_zeros(w);
     match kind {
         3 => {
             let p = w - HEAD_BASE;
+            let count = p % LIMIT_16;
             Atom {
                 head: HeadOrEq::Head(p / LIMIT_16),
-                count: p % LIMIT_16,
+                count,
+                terms: at + 1,
+                next: at + 1 + count as usize,
             }
         }
-        _ => Atom {
-            head: HeadOrEq::Eq,
-            count: w - EQUALITY_BASE,
-        },
+        _ => {
+            let count = w - EQUALITY_BASE;
+            Atom {
+                head: HeadOrEq::Eq,
+                count,
+                terms: at + 1,
+                next: at + 1 + count as usize,
+            }
+        }
     }
+}
+
+// The atom at `at` of a rule, or of a body in a scratch.
+pub fn atom_at(rule: &[u8], at: usize) -> Atom
+    requires { ⌜ BeginsAtom (words (now rule)) at ⌝ }
+    ensures { λ r. ⌜ AtomSays r (getD (words (now (rule .entry))) at 0) at ⌝ }
+{
+    let w = octets::get(rule, at);
+    atom_of(w, at)
 }

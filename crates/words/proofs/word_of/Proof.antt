@@ -1,11 +1,11 @@
--- `words::word_of` meets its contract: a count of leading zeros is a range of numbers, and `wordOf` goes by the same ranges. Assumes nothing.
+-- A count of leading zeros is a range of numbers, and the definition goes by the same ranges. Assumes nothing.
 use Prim.Native.Nat.{_*_}
 use native.Mathlib.Omega.{arith}
-use mathlib.Core.Path.{refl, sym}
+use mathlib.Core.Path.{refl}
 use borrow.Author.Needs.{needs}
 use Rattle.rules.specs.Words.{limit12, limit16, nameBase, literalBase, headBase, equalityBase, headerBase, signatureBase, actionWord}
 use Rattle.words.proofs.Ranges.{kind-range, kind-from, none-of-eight, true-within}
-use Rattle.words.proofs.WordLaws.{is-fresh, is-name, is-literal, is-head, is-equality, is-header, is-action, is-signature}
+use Rattle.words.proofs.WordLaws.{answers, is-fresh, is-name, is-literal, is-head, is-equality, is-header, is-action, is-signature}
 use Rattle.words.proofs.WordLaws.{unfit-name, unfit-literal, unfit-header, unfit-action, unfit-no-action, unfit-low}
 use Rattle.words.proofs.word_of.Statement.{statement}
 use Rattle.words.proofs.word_of.Tie as tie
@@ -41,79 +41,79 @@ returns : tie.Need-returns
 returns c =
     let s = c .before in
     let r = kind-range 0 31 (s .args .w) refl (s .fits .w .fits) (c .match .keys1) in
-    sym (is-fresh (s .args .w) (r .0))
+    answers (s .args .w) (is-fresh (s .args .w) (r .0))
 
 returns-2 : tie.Need-returns-2
 returns-2 c =
     let s = c .before .before in
     let r = kind-range 1 30 (s .args .w) refl (s .fits .w .fits) (c .before .match .keys2) in
-    sym (is-name (s .args .w) (true-within nameBase limit12 (s .args .w) (omega arith) (omega arith)))
+    answers (s .args .w) (is-name (s .args .w) (true-within nameBase limit12 (s .args .w) (omega arith) (omega arith)))
 
 returns-3 : tie.Need-returns-3
 returns-3 c =
     let s = c .before .before in
     let r = kind-range 1 30 (s .args .w) refl (s .fits .w .fits) (c .before .match .keys2) in
-    sym (unfit-name (s .args .w) (omega arith) (omega arith))
+    answers (s .args .w) (unfit-name (s .args .w) (omega arith) (omega arith))
 
 returns-4 : tie.Need-returns-4
 returns-4 c =
     let s = c .before .before in
     let r = kind-range 2 29 (s .args .w) refl (s .fits .w .fits) (c .before .match .keys3) in
-    sym (is-literal (s .args .w) (true-within literalBase limit16 (s .args .w) (omega arith) (omega arith)))
+    answers (s .args .w) (is-literal (s .args .w) (true-within literalBase limit16 (s .args .w) (omega arith) (omega arith)))
 
 returns-5 : tie.Need-returns-5
 returns-5 c =
     let s = c .before .before in
     let r = kind-range 2 29 (s .args .w) refl (s .fits .w .fits) (c .before .match .keys3) in
-    sym (unfit-literal (s .args .w) (omega arith) (omega arith))
+    answers (s .args .w) (unfit-literal (s .args .w) (omega arith) (omega arith))
 
 returns-6 : tie.Need-returns-6
 returns-6 c =
     let s = c .before in
     let r = kind-range 3 28 (s .args .w) refl (s .fits .w .fits) (c .match .keys4) in
-    sym (is-head (s .args .w) (true-within headBase headBase (s .args .w) (omega arith) (omega arith)))
+    answers (s .args .w) (is-head (s .args .w) (true-within headBase headBase (s .args .w) (omega arith) (omega arith)))
 
 returns-7 : tie.Need-returns-7
 returns-7 c =
     let s = c .before in
     let r = kind-range 4 27 (s .args .w) refl (s .fits .w .fits) (c .match .keys5) in
-    sym (is-equality (s .args .w) (true-within equalityBase equalityBase (s .args .w) (omega arith) (omega arith)))
+    answers (s .args .w) (is-equality (s .args .w) (true-within equalityBase equalityBase (s .args .w) (omega arith) (omega arith)))
 
 returns-8 : tie.Need-returns-8
 returns-8 c =
     let s = c .before .before in
     let r = kind-range 5 26 (s .args .w) refl (s .fits .w .fits) (c .before .match .keys6) in
-    sym (is-header (s .args .w) (true-within headerBase (limit12 * limit12) (s .args .w) (omega arith) (omega arith)))
+    answers (s .args .w) (is-header (s .args .w) (true-within headerBase (limit12 * limit12) (s .args .w) (omega arith) (omega arith)))
 
 returns-9 : tie.Need-returns-9
 returns-9 c =
     let s = c .before .before in
     let r = kind-range 5 26 (s .args .w) refl (s .fits .w .fits) (c .before .match .keys6) in
-    sym (unfit-header (s .args .w) (omega arith) (omega arith))
+    answers (s .args .w) (unfit-header (s .args .w) (omega arith) (omega arith))
 
 returns-10 : tie.Need-returns-10
 returns-10 c =
     let s = c .before .before .before in
     let r = kind-range 6 25 (s .args .w) refl (s .fits .w .fits) (c .before .before .match .keys7) in
-    sym (is-action (s .args .w) (true-within (actionWord 1) 8 (s .args .w) (omega arith) (omega arith)))
+    answers (s .args .w) (is-action (s .args .w) (true-within (actionWord 1) 8 (s .args .w) (omega arith) (omega arith)))
 
 returns-11 : tie.Need-returns-11
 returns-11 c =
     let s = c .before .before in
     let r = kind-range 6 25 (s .args .w) refl (s .fits .w .fits) (c .before .match .keys7) in
-    sym (unfit-no-action (s .args .w) (omega arith) (omega arith))
+    answers (s .args .w) (unfit-no-action (s .args .w) (omega arith) (omega arith))
 
 returns-12 : tie.Need-returns-12
 returns-12 c =
     let s = c .before .before .before in
     let r = kind-range 6 25 (s .args .w) refl (s .fits .w .fits) (c .before .before .match .keys7) in
-    sym (unfit-action (s .args .w) (omega arith) (omega arith))
+    answers (s .args .w) (unfit-action (s .args .w) (omega arith) (omega arith))
 
 returns-13 : tie.Need-returns-13
 returns-13 c =
     let s = c .before in
     let r = kind-range 7 24 (s .args .w) refl (s .fits .w .fits) (c .match .keys8) in
-    sym (is-signature (s .args .w) (true-within signatureBase signatureBase (s .args .w) (omega arith) (omega arith)))
+    answers (s .args .w) (is-signature (s .args .w) (true-within signatureBase signatureBase (s .args .w) (omega arith) (omega arith)))
 
 -- none of 0 to 7 is at least 8
 returns-14 : tie.Need-returns-14
@@ -122,7 +122,7 @@ returns-14 c =
     let r = c .match .rest in
     let eight = none-of-eight (r .0 .0 .0 .0 .0 .0 .0 .1) (r .0 .0 .0 .0 .0 .0 .1) (r .0 .0 .0 .0 .0 .1) (r .0 .0 .0 .0 .1) (r .0 .0 .0 .1) (r .0 .0 .1) (r .0 .1) (r .1) in
     let low = kind-from 8 24 (s .args .w) refl (s .fits .w .fits) eight in
-    sym (unfit-low (s .args .w) low)
+    answers (s .args .w) (unfit-low (s .args .w) low)
 
 pub word-of-spec : {M : Type 1} → statement M
 word-of-spec =
