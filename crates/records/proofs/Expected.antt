@@ -18,17 +18,29 @@ use Rattle.rules.specs.Words.{limit12, isHeadWord, isHeaderWord, countOf, facts
 use Rattle.rules.specs.Refusals.{Res, ok, refuse, _>>=_, demand, unfit}
 use Rattle.rules.specs.Signature.{heads}
 use Rattle.rules.specs.Written.{Read, Reader, readWord, readRow, codeAt, allRead}
-use Rattle.words.specs.Word.{wordOf, kind}
+use Rattle.words.specs.Word.{numbers, kind, numbersOf}
 use Rattle.words.specs.declared.Word.{Word}
 use Rattle.words.specs.declared.Word.the-variants.{Head, Header, Action, Unfit}
 use Rattle.words.proofs.Tags.{others, other-kind}
 use Rattle.words.proofs.Word.{the-type}
-use Rattle.words.proofs.WordLaws.{header-kind, header-numbers, head-numbers, head-below, no-head, no-action, said}
+use Rattle.words.proofs.WordLaws.{wordOf, answered, answers, unfit-low, header-kind, header-numbers, head-numbers, head-below, no-head, no-action, said}
 use Rattle.records.specs.declared.written.Walk.{Walk}
-use Rattle.records.specs.Written.{withHeads, walk, walkOf, wordAt}
+use Rattle.records.specs.Written.{withHeads, walk, walkOf, WordSays}
 use Rattle.records.proofs.WrittenWalk.{Went, went-then, went-made, went-word, went-row, stops, both, then-same, then-then, Whole}
 
 -- ---- the word at an index
+
+unfoldable pub wordAt : List ℕ → ℕ → Word
+wordAt ws p = cond (ltb p (length ws)) (wordOf (getD ws p 0)) Unfit
+
+-- the one with the numbers there
+pub word-is : {ws : List ℕ} {p : ℕ} {x : Word} → WordSays x ws p → x ≡ wordAt ws p
+unfolding wordAt
+word-is {ws} {p} {x} says = go (ltb p (length ws)) (says .numbersAre)
+  where
+    go : (b : Bool) → numbers x ≡ cond b (numbersOf (getD ws p 0)) (numbers Unfit) → x ≡ cond b (wordOf (getD ws p 0)) Unfit
+    go true e = answered (getD ws p 0) e
+    go false e = answered 0 (e ∙ answers 0 (unfit-low 0 (lit< tt))) ∙ unfit-low 0 (lit< tt)
 
 -- the word at p is there, and says x
 pub record There (ws : List ℕ) (p : ℕ) (x : Word) : Type 0 where
@@ -40,10 +52,10 @@ pub record NotKind (ws : List ℕ) (p k : ℕ) : Type 0 where
   pub other : p < length ws → eqb (kind (wordOf (getD ws p 0))) k ≡ false
 
 -- w is what the code was told of it
-module _ {ws : List ℕ} {p : ℕ} {w : Word} (read : w ≡ wordAt ws p) where
+module _ {ws : List ℕ} {p : ℕ} {w : Word} (read : WordSays w ws p) where
   pub there : {x : Word} → w ≡ x → kind x < 8 → There ws p x
   unfolding wordAt
-  there {x} is = go (ltb p (length ws)) refl (sym read ∙ is)
+  there {x} is = go (ltb p (length ws)) refl (sym (word-is read) ∙ is)
     where
       go : (b : Bool) → ltb p (length ws) ≡ b → cond b (wordOf (getD ws p 0)) Unfit ≡ x → kind x < 8 → There ws p x
       go true t e l = record { inside = ltb-true p (length ws) t; says = e }
@@ -52,7 +64,7 @@ module _ {ws : List ℕ} {p : ℕ} {w : Word} (read : w ≡ wordAt ws p) where
   -- the other branch of a `let .. else`; at a numeral k the premise between is `tt`
   pub not-kind : (k : ℕ) → T (not (hasKey (others k) k)) → OneOf (others k) (tagOf the-type w) → NotKind ws p k
   unfolding wordAt
-  not-kind k t h = record { other = λ l. rw (lt-ltb p (length ws) l) at (rw read at (other-kind k w t h)) }
+  not-kind k t h = record { other = λ l. rw (lt-ltb p (length ws) l) at (rw (word-is read) at (other-kind k w t h)) }
 
 -- ---- it is tested, behind the record's end too
 

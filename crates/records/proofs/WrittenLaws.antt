@@ -14,19 +14,20 @@ use Rattle.rules.specs.Refusals.{Res, ok, refuse, _>>=_, unfit, tooDeep}
 use Rattle.rules.specs.Signature.{Sig, heads}
 use Rattle.rules.specs.Written.{Expr, Exprs, Read, Reader, Shape, isLeaf, isCall, isBad, shape, shapeAt, readMany, readShape, readExpr, readTarget, readEqual, readFact}
 use Rattle.rules.specs.Written.{readCode, readAction, readRow, equal, union′, Fact, Rule, Action as Act}
-use Rattle.words.specs.Word.{wordOf, kind}
+use Rattle.words.specs.Word.{kind}
 use Rattle.words.specs.declared.Word.{Word}
 use Rattle.words.specs.declared.Word.the-variants.{Fresh, Name, Literal, Head, Equality, Header, Action, Signature, Unfit}
 use Rattle.words.proofs.Ranges.{within-true, false-below, heads-below}
-use Rattle.words.proofs.WordLaws.{name-kind, literal-kind, equality-kind, said, head-numbers, no-head}
+use Rattle.words.proofs.WordLaws.{wordOf, name-kind, literal-kind, equality-kind, said, head-numbers, no-head}
 use Rattle.meaning.proofs.Lists.{and-left, and-right}
 use Rattle.records.specs.declared.written.Walk.{Walk}
 use Rattle.records.specs.declared.written.Start.{Start}
 use Rattle.records.specs.declared.written.Start.the-variants.{Takes, Other}
-use Rattle.records.specs.Written.{withHeads, walk, walkOf, wordAt, startOf, leafWord, leafAt, readRule}
+use Rattle.records.specs.Written.{withHeads, walk, walkOf, WordSays, startSays, taken, takenAt, leafWord, leafAt, readRule}
 use Rattle.records.proofs.WrittenWalk.{made, then-made, moved, just-one, last-one}
 use Rattle.records.proofs.WrittenEnds.{went-fact}
-use Rattle.records.proofs.Expected.{test-here, There, NotKind, kind-fits, kind-unfit, heads-most, with-below, head-with, head-other, head-high, head-fits, head-count}
+use Rattle.records.proofs.Expected.{wordAt, word-is, test-here, There, NotKind, kind-fits, kind-unfit, heads-most, with-below, head-with, head-other}
+use Rattle.records.proofs.Expected.{head-high, head-fits, head-count}
 use Rattle.records.proofs.Expected.{no-code, as-code, change-code, NoneOf, last-code, header-other, first-stops, then-second}
 
 -- ---- an expression, by how it begins
@@ -36,34 +37,40 @@ both-true a b h = (and-left a b h, and-right a b h)
 
 -- an expression begins at p, with a word that takes n arguments
 pub record Starts (s : Sig) (ws : List ℕ) (p n : ℕ) : Type 0 where
-  pub takes : startOf (shapeAt s ws p) (getD ws p 0) ≡ Takes n
+  pub takes : takenAt s ws p ≡ ok n
   pub inside : p < length ws
 
-pub starts : {s : Sig} {ws : List ℕ} {p n : ℕ} {x : Start} → x ≡ startOf (shapeAt s ws p) (getD ws p 0) → x ≡ Takes n → Starts s ws p n
-starts {s} {ws} {p} {n} read is = let h = sym read ∙ is in record { takes = h; inside = go (ltb p (length ws)) refl h }
+pub starts : {s : Sig} {ws : List ℕ} {p n : ℕ} {x : Start} → startSays x p ≡ takenAt s ws p → x ≡ Takes n → Starts s ws p n
+starts {s} {ws} {p} {n} read is =
+    let h : takenAt s ws p ≡ ok n = sym read ∙ ap (λ (y : Start). startSays y p) is in
+    record { takes = h; inside = go (ltb p (length ws)) refl h }
   where
-    go : (b : Bool) → ltb p (length ws) ≡ b → startOf (cond b (shape s (getD ws p 0)) isBad) (getD ws p 0) ≡ Takes n → p < length ws
+    go : (b : Bool) → ltb p (length ws) ≡ b → taken (cond b (shape s (getD ws p 0)) isBad) (getD ws p 0) p ≡ ok n → p < length ws
     go true e h = ltb-true p (length ws) e
     go false e h = let z : _≡_ {A = ℕ} 0 1 = cc in absurd (omega arith)
 
 -- none begins there: 5 comes before 6
-pub no-expression : (s : Sig) (ws : List ℕ) (d p : ℕ) {x : Start} → x ≡ startOf (shapeAt s ws p) (getD ws p 0) → x ≡ Other → walk unfit p ≡ walkOf (readExpr s ws d p)
+pub no-expression : (s : Sig) (ws : List ℕ) (d p : ℕ) {x : Start} → startSays x p ≡ takenAt s ws p → x ≡ Other → walk unfit p ≡ walkOf (readExpr s ws d p)
 no-expression s ws d p read is = at-depth d
   where
-    go : (sh : Shape) (inside : Bool) (args : ℕ → Reader Exprs) → startOf sh (getD ws p 0) ≡ Other → walk unfit p ≡ walkOf (readShape sh inside args (getD ws p 0) p)
+    told : taken (shapeAt s ws p) (getD ws p 0) p ≡ refuse unfit p
+    told = sym read ∙ ap (λ (y : Start). startSays y p) is
+
+    go : (sh : Shape) (inside : Bool) (args : ℕ → Reader Exprs) → taken sh (getD ws p 0) p ≡ refuse unfit p
+        → walk unfit p ≡ walkOf (readShape sh inside args (getD ws p 0) p)
     go isLeaf inside args h = cc
     go isCall inside args h = cc
     go isBad inside args h = refl
 
     at-depth : (d : ℕ) → walk unfit p ≡ walkOf (readExpr s ws d p)
-    at-depth zero = go (shapeAt s ws p) true (λ n q. refuse tooDeep q) (sym read ∙ is)
-    at-depth (suc d) = go (shapeAt s ws p) false (λ n q. readMany (λ r. readExpr s ws d r) n q) (sym read ∙ is)
+    at-depth zero = go (shapeAt s ws p) true (λ n q. refuse tooDeep q) told
+    at-depth (suc d) = go (shapeAt s ws p) false (λ n q. readMany (λ r. readExpr s ws d r) n q) told
 
 module _ {s : Sig} {ws : List ℕ} {p n : ℕ} (b : Starts s ws p n) where
   pub too-deep : (d : ℕ) → d ≡ 0 → walk tooDeep p ≡ walkOf (readExpr s ws d p)
   too-deep zero z = go (shapeAt s ws p) (b .takes)
     where
-      go : (sh : Shape) → startOf sh (getD ws p 0) ≡ Takes n → walk tooDeep p ≡ walkOf (readShape sh true (λ n q. refuse tooDeep q) (getD ws p 0) p)
+      go : (sh : Shape) → taken sh (getD ws p 0) p ≡ ok n → walk tooDeep p ≡ walkOf (readShape sh true (λ n q. refuse tooDeep q) (getD ws p 0) p)
       go isLeaf h = refl
       go isCall h = refl
       go isBad h = cc
@@ -76,7 +83,7 @@ module _ {s : Sig} {ws : List ℕ} {p n : ℕ} (b : Starts s ws p n) where
       down : suc d - 1 ≡ d
       down = omega arith
 
-      go : (sh : Shape) → startOf sh (getD ws p 0) ≡ Takes n
+      go : (sh : Shape) → taken sh (getD ws p 0) p ≡ ok n
           → walkOf (readMany (readExpr s ws d) n (suc p)) ≡ walkOf (readShape sh false (λ n q. readMany (λ r. readExpr s ws d r) n q) (getD ws p 0) p)
       go isLeaf h = let none : n ≡ 0 = cc in rw none refl
       go isCall h = let same : n ≡ countOf (getD ws p 0) = cc in rw same (sym (made (readMany (readExpr s ws d) (countOf (getD ws p 0)) (suc p)) _))
@@ -86,7 +93,7 @@ module _ {s : Sig} {ws : List ℕ} {p n : ℕ} (b : Starts s ws p n) where
 pub leaf-starts : (s : Sig) (ws : List ℕ) (p : ℕ) → leafAt ws p ≡ true → Starts s ws p 0
 leaf-starts s ws p h = starts (sym (go (ltb p (length ws)) (leafWord (getD ws p 0)) h)) refl
   where
-    go : (a b : Bool) → a && b ≡ true → startOf (cond a (cond b isLeaf (cond (isHeadWord (heads s) (getD ws p 0)) isCall isBad)) isBad) (getD ws p 0) ≡ Takes 0
+    go : (a b : Bool) → a && b ≡ true → taken (cond a (cond b isLeaf (cond (isHeadWord (heads s) (getD ws p 0)) isCall isBad)) isBad) (getD ws p 0) p ≡ ok 0
     go true true h = refl
     go true false h = let z : _≡_ {A = ℕ} 0 1 = cc in absurd (omega arith)
     go false b h = let z : _≡_ {A = ℕ} 0 1 = cc in absurd (omega arith)
@@ -101,7 +108,7 @@ pub call-starts : (H : ℕ) (ws : List ℕ) (p : ℕ) {w : ℕ} → p < length w
     → Starts (withHeads H) ws p (w % limit16)
 call-starts H ws p {w} here is low h = starts (sym begins) refl
   where
-    begins : startOf (shapeAt (withHeads H) ws p) (getD ws p 0) ≡ Takes (w % limit16)
+    begins : takenAt (withHeads H) ws p ≡ ok (w % limit16)
     begins =
         let b = within-true headBase (H * limit16) w h in
         let head : isHeadWord (heads (withHeads H)) w ≡ true =
@@ -122,17 +129,17 @@ startWith H (Action n) = Other
 startWith H (Signature n) = Other
 startWith H Unfit = Other
 
-module _ (H w : ℕ) where
+module _ (H w p : ℕ) where
   -- the shape, where two of its three tests are known by the kind
   shape-told : {x : Word} → wordOf w ≡ x → shape (withHeads H) w ≡ cond (eqb (kind x) 1 || eqb (kind x) 2) isLeaf (cond (isHeadWord (heads (withHeads H)) w) isCall isBad)
   shape-told says = simp (name-kind w, literal-kind w, says)
 
-  start-word : (x : Word) → wordOf w ≡ x → startWith H x ≡ startOf (shape (withHeads H) w) w
+  start-word : (x : Word) → wordOf w ≡ x → startSays (startWith H x) p ≡ taken (shape (withHeads H) w) w p
   start-word (Name n) says = rw (shape-told says)
   start-word (Literal n) says = rw (shape-told says)
   start-word (Head h n) says = rw (shape-told says, head-with H w h n says) (go (ltb h H))
     where
-      go : (b : Bool) → cond b (Takes n) Other ≡ startOf (cond b isCall isBad) w
+      go : (b : Bool) → startSays (cond b (Takes n) Other) p ≡ taken (cond b isCall isBad) w p
       go true = rw (head-numbers w h n says .1)
       go false = refl
   start-word (Fresh h n) says = rw (shape-told says, no-head w (rw says refl) (heads (withHeads H)) (heads-most H))
@@ -143,16 +150,16 @@ module _ (H w : ℕ) where
   start-word Unfit says = rw (shape-told says, no-head w (rw says refl) (heads (withHeads H)) (heads-most H))
 
 -- where a word says x, or none does
-pub start-at : (ws : List ℕ) (H p : ℕ) → startWith H (wordAt ws p) ≡ startOf (shapeAt (withHeads H) ws p) (getD ws p 0)
+pub start-at : (ws : List ℕ) (H p : ℕ) {x : Word} → WordSays x ws p → startSays (startWith H x) p ≡ takenAt (withHeads H) ws p
 unfolding wordAt
-start-at ws H p = go (ltb p (length ws))
+start-at ws H p read = ap (λ (y : Word). startSays (startWith H y) p) (word-is read) ∙ go (ltb p (length ws))
   where
-    go : (b : Bool) → startWith H (cond b (wordOf (getD ws p 0)) Unfit) ≡ startOf (cond b (shape (withHeads H) (getD ws p 0)) isBad) (getD ws p 0)
-    go true = start-word H (getD ws p 0) (wordOf (getD ws p 0)) refl
+    go : (b : Bool) → startSays (startWith H (cond b (wordOf (getD ws p 0)) Unfit)) p ≡ taken (cond b (shape (withHeads H) (getD ws p 0)) isBad) (getD ws p 0) p
+    go true = start-word H (getD ws p 0) p (wordOf (getD ws p 0)) refl
     go false = refl
 
-start-there : (H : ℕ) {ws : List ℕ} {p : ℕ} {x : Word} → There ws p x → startWith H x ≡ startOf (shapeAt (withHeads H) ws p) (getD ws p 0)
-start-there H {ws} {p} {x} t = rw (lt-ltb p (length ws) (t .inside)) (start-word H (getD ws p 0) x (t .says))
+start-there : (H : ℕ) {ws : List ℕ} {p : ℕ} {x : Word} → There ws p x → startSays (startWith H x) p ≡ takenAt (withHeads H) ws p
+start-there H {ws} {p} {x} t = rw (lt-ltb p (length ws) (t .inside)) (start-word H (getD ws p 0) p x (t .says))
 
 -- ---- facts
 

@@ -7,7 +7,7 @@ use mathlib.Core.List.{List}
 use lib.ListN.{length, getD}
 use lib.Dec.{ltb}
 use Rattle.rules.specs.Words.{limit12, signatureBase, within}
-use Rattle.rules.specs.Refusals.{Res, ok, refuse}
+use Rattle.rules.specs.Refusals.{Res, ok, refuse, badSignature}
 use Rattle.rules.specs.Signature.{Sig, heads, payloadAt}
 use Rattle.records.specs.declared.signature.Signature.{Signature}
 use Rattle.records.specs.declared.signature.Payload.{Payload}
@@ -18,9 +18,10 @@ abbrev pub signOf : Res Sig → Signature
 signOf (ok s) = record { refused = 0; place = 0; heads = heads s; globals = s .globals; equals = s .valueEq; flag = s .flag }
 signOf (refuse n p) = record { refused = n; place = p; heads = 0; globals = 0; equals = 0; flag = false }
 
-abbrev pub payloadOf : Res ℕ → Payload
-payloadOf (ok n) = Fits n
-payloadOf (refuse n p) = Unfit
+-- a payload of the first words, for each case at p: the number, or refusal 1 there
+abbrev pub payloadSays : Payload → (p : ℕ) → Res ℕ
+payloadSays (Fits n) p = ok n
+payloadSays Unfit p = refuse badSignature p
 
 -- a kind of a head stands at an index
 abbrev pub isKindAt : List ℕ → ℕ → Bool

@@ -2,15 +2,16 @@
 -- The readings themselves are those of `rules`.
 -- Assumes nothing: these are definitions.
 use Prim.Native.Nat.{ℕ, min}
+use mathlib.Core.Path.{_≡_}
 use mathlib.Core.Bool.{Bool, false, _&&_, _||_, cond}
 use mathlib.Core.List.{List}
 use lib.ListN.{length, getD, replicate}
 use lib.Dec.{ltb}
 use Rattle.rules.specs.Words.{limit12, isNameWord, isLiteralWord, isHeaderWord, factsOf, actionsOf, countOf}
-use Rattle.rules.specs.Refusals.{Res, ok, refuse, _>>=_}
+use Rattle.rules.specs.Refusals.{Res, ok, refuse, _>>=_, unfit}
 use Rattle.rules.specs.Signature.{Sig}
-use Rattle.rules.specs.Written.{Read, Reader, Rule, Shape, isLeaf, isCall, isBad, readWord, readRow, readFact, readAction}
-use Rattle.words.specs.Word.{wordOf}
+use Rattle.rules.specs.Written.{Read, Reader, Rule, Shape, isLeaf, isCall, isBad, shapeAt, readWord, readRow, readFact, readAction}
+use Rattle.words.specs.Word.{Numbers, numbers, numbersOf}
 use Rattle.words.specs.declared.Word.{Word}
 use Rattle.words.specs.declared.Word.the-variants.{Unfit}
 use Rattle.records.specs.declared.written.Walk.{Walk}
@@ -38,15 +39,27 @@ wholeOf ws (refuse n p) = walk n p
 
 -- ---- the words
 
--- the word at an index; behind the end there is none that fits
-unfoldable pub wordAt : List ℕ → ℕ → Word
-wordAt ws p = cond (ltb p (length ws)) (wordOf (getD ws p 0)) Unfit
+-- the numbers of the word at an index; behind the end there is none that fits
+abbrev pub numbersAt : List ℕ → ℕ → Numbers
+numbersAt ws p = cond (ltb p (length ws)) (numbersOf (getD ws p 0)) (numbers Unfit)
+
+pub record WordSays (r : Word) (ws : List ℕ) (p : ℕ) : Type 0 where
+  pub numbersAre : numbers r ≡ numbersAt ws p
+
+-- how an expression begins, for each case at p: with a word that takes so many arguments, or with none, which is refusal 5 there
+abbrev pub startSays : Start → (p : ℕ) → Res ℕ
+startSays (Takes n) p = ok n
+startSays Other p = refuse unfit p
 
 -- how many arguments a word of this shape takes
-abbrev pub startOf : Shape → ℕ → Start
-startOf isLeaf w = Takes 0
-startOf isCall w = Takes (countOf w)
-startOf isBad w = Other
+abbrev pub taken : Shape → (w p : ℕ) → Res ℕ
+taken isLeaf w p = ok 0
+taken isCall w p = ok (countOf w)
+taken isBad w p = refuse unfit p
+
+-- and the word at p
+abbrev pub takenAt : Sig → List ℕ → ℕ → Res ℕ
+takenAt s ws p = taken (shapeAt s ws p) (getD ws p 0) p
 
 -- a name's or a literal's word: an expression of this one word
 abbrev pub leafWord : ℕ → Bool

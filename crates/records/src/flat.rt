@@ -4,10 +4,12 @@ use super::written::Walk;
 use super::written::is_leaf;
 use super::written::word_at;
 use words::Atom;
+use words::EQUALITY_BASE;
 use words::FRESH_BASE;
 use words::HeadOrEq;
 use words::LIMIT_12;
 use words::LIMIT_16;
+use words::LITERAL_BASE;
 use words::Word;
 ghost use mathlib.Core.Path.{_≡_};
 ghost use Rattle.octets.specs.Words.{words};
@@ -15,7 +17,7 @@ ghost use Rattle.rules.specs.Words.{isNameWord, isLiteralWord, aLet, aSet, aCal
 ghost use Rattle.rules.specs.Written.{readWord, readRow};
 ghost use Rattle.rules.specs.Flat.{isTarget, isTerm, readTerm, readTerms, readAtom, readCoreAction, readFlat};
 ghost use Rattle.records.specs.Written.{withHeads, walkOf, wholeOf};
-ghost use Rattle.records.specs.Flat.{termAt, firstAt, readBehind, readFlatRule};
+ghost use Rattle.records.specs.Flat.{termAt, firstSays, firstAt, readBehind, readFlatRule};
 
 // The refusals' numbers.
 pub const NO_TERMS: u32 = 11;
@@ -140,19 +142,19 @@ pub enum First {
 }
 
 pub fn first_at(rule: &[u8], at: usize) -> First
-    ensures { λ r. ⌜ r ≡ firstAt (words (now (rule .entry))) at ⌝ }
+    ensures { λ r. ⌜ firstSays r at ≡ firstAt (words (now (rule .entry))) at ⌝ }
 {
     if octets::count(rule) <= at {
         return First::Other;
     }
     let w = octets::get(rule, at);
-    if w < 0x0800_0000 {
+    if w < EQUALITY_BASE {
         return First::Other;
     }
-    if 0x2000_0000 <= w {
+    if LITERAL_BASE <= w {
         return First::Other;
     }
-    First::Atom(words::atom_of(w))
+    First::Atom(words::atom_of(w, at))
 }
 
 // An atom: a head below H with one term or more, or the equality of two. A word that does not fit is a 5, whatever its count.
@@ -168,7 +170,7 @@ pub fn atom(rule: &[u8], heads: u32, at: usize) -> Walk
     match head {
         HeadOrEq::Eq => {
             if count == 2 {
-                terms(rule, heads, at + 1, count)
+                terms(rule, heads, atom.terms, count)
             } else {
                 Walk {
                     refused: NOT_TWO,
@@ -186,7 +188,7 @@ pub fn atom(rule: &[u8], heads: u32, at: usize) -> Walk
                     at,
                 };
             }
-            terms(rule, heads, at + 1, count)
+            terms(rule, heads, atom.terms, count)
         }
     }
 }

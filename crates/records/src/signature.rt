@@ -1,5 +1,6 @@
 // The signature, read in place: its kinds stay in the bytes.
 use words::LIMIT_12;
+use words::SIGNATURE_BASE;
 use words::Word;
 ghost use mathlib.Core.Path.{_≡_};
 ghost use Prim.Native.Nat.{_+_, _-_, _≤_};
@@ -8,7 +9,7 @@ ghost use Rattle.octets.specs.Words.{words};
 ghost use Rattle.rules.specs.Signature.{readSignature, payloadAt};
 ghost use Rattle.rules.specs.Refusals.{refuse, badSignature};
 ghost use Rattle.rules.specs.Words.{signatureBase, within};
-ghost use Rattle.records.specs.Signature.{signOf, payloadOf, allKinds, firstBad, Begins};
+ghost use Rattle.records.specs.Signature.{signOf, payloadSays, allKinds, firstBad, Begins};
 
 // The refusal's number.
 pub const BAD_SIGNATURE: u32 = 1;
@@ -17,11 +18,11 @@ pub const BAD_SIGNATURE: u32 = 1;
 const GLOBALS: u32 = LIMIT_12 + 1;
 
 // The words of the kinds: a function's, which is the first, a primitive's, which is the last, and the first that is none.
-const FUNCTION: u32 = 0x0100_0000;
+const FUNCTION: u32 = SIGNATURE_BASE;
 
-const PRIMITIVE: u32 = 0x0100_0002;
+const PRIMITIVE: u32 = SIGNATURE_BASE + 2;
 
-const NO_KIND: u32 = 0x0100_0003;
+const NO_KIND: u32 = SIGNATURE_BASE + 3;
 
 // H, G, the value-eq head and the union-to-set flag; or refusal 1 and its place.
 pub struct Signature {
@@ -61,7 +62,7 @@ fn turned_back(place: usize) -> Signature
 // The payload at an index, one of `size` numbers from `low` on.
 fn payload_at(signature: &[u8], low: u32, size: u32, at: usize) -> Payload
     requires { ⌜ low + size ≤ signatureBase ⌝ }
-    ensures { λ r. ⌜ r ≡ payloadOf (payloadAt (words (now (signature .entry))) low size at) ⌝ }
+    ensures { λ r. ⌜ payloadSays r at ≡ payloadAt (words (now (signature .entry))) low size at ⌝ }
 {
     if octets::count(signature) <= at {
         return Payload::Unfit;

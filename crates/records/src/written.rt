@@ -3,25 +3,23 @@ use words::HEAD_BASE;
 use words::LIMIT_12;
 use words::LIMIT_16;
 use words::LITERAL_BASE;
+use words::MAX_DEPTH;
 use words::NAME_BASE;
 use words::Word;
 ghost use mathlib.Core.Path.{_≡_};
 ghost use Prim.Native.Nat.{_+_, _<_};
 ghost use mathlib.Core.Bool.{true, _&&_};
-ghost use lib.ListN.{length, getD};
+ghost use lib.ListN.{length};
 ghost use lib.Dec.{leb, ltb};
 ghost use Rattle.octets.specs.Words.{words};
 ghost use Rattle.rules.specs.Words.{maxDepth, isHeadWord, aLet, aSet, aPanic};
-ghost use Rattle.rules.specs.Written.{shapeAt, readMany, readExpr, readTarget, readEqual, readFact, readCode, readAction, readRow, readWritten};
-ghost use Rattle.records.specs.Written.{withHeads, walk, walkOf, wholeOf, wordAt, startOf, leafWord, leafAt, readRule};
+ghost use Rattle.rules.specs.Written.{readMany, readExpr, readTarget, readEqual, readFact, readCode, readAction, readRow, readWritten};
+ghost use Rattle.records.specs.Written.{withHeads, walk, walkOf, wholeOf, WordSays, startSays, takenAt, leafWord, leafAt, readRule};
 
 // The refusals' numbers.
 pub const UNFIT: u32 = 5;
 
 pub const TOO_DEEP: u32 = 6;
-
-// An expression holds expressions up to 32 deep, itself counted.
-pub const MAX_DEPTH: u32 = 32;
 
 // With so few calls in all, the innermost of them is no deeper than it may be, and neither is what stands in it.
 const MOST_CALLS: u32 = MAX_DEPTH - 1;
@@ -51,7 +49,7 @@ enum Start {
 
 // The word at an index; behind the record's end there is none that fits.
 pub fn word_at(rule: &[u8], at: usize) -> Word
-    ensures { λ r. ⌜ r ≡ wordAt (words (now (rule .entry))) at ⌝ }
+    ensures { λ r. ⌜ WordSays r (words (now (rule .entry))) at ⌝ }
 {
     if at < octets::count(rule) {
         words::word_of(octets::get(rule, at))
@@ -62,7 +60,7 @@ pub fn word_at(rule: &[u8], at: usize) -> Word
 
 // How the expression at an index begins, if one does.
 fn start_at(rule: &[u8], heads: u32, at: usize) -> Start
-    ensures { λ r. ⌜ r ≡ startOf (shapeAt (withHeads heads) (words (now (rule .entry))) at) (getD (words (now (rule .entry))) at 0) ⌝ }
+    ensures { λ r. ⌜ startSays r at ≡ takenAt (withHeads heads) (words (now (rule .entry))) at ⌝ }
 {
     let w = word_at(rule, at);
     match w {

@@ -15,15 +15,15 @@ use Rattle.rules.specs.Refusals.{Res, ok, refuse, _>>=_, demand, unfit, noTerms
 use Rattle.rules.specs.Signature.{Sig, heads}
 use Rattle.rules.specs.Written.{Read, Reader, readWord, readRow}
 use Rattle.rules.specs.Flat.{Atom, CoreAction, FlatRule, isNone, isTarget, isTerm, atomShape, readTerm, readAtomShape, readAtom, readTerms, readCoreCode, readCoreAction}
-use Rattle.words.specs.Word.{wordOf}
 use Rattle.words.proofs.Ranges.{within-true, true-within, false-below, false-above, heads-below}
-use Rattle.words.proofs.WordLaws.{is-head, name-kind, fresh-below, no-fresh}
-use Rattle.words.specs.Atom.{atomOf, atomWith, headKind}
+use Rattle.words.proofs.WordLaws.{wordOf, is-head, name-kind, fresh-below, no-fresh}
+use Rattle.words.specs.Atom.{headKind, AtomSays}
 use Rattle.words.specs.declared.HeadOrEq.the-variants.{Head, Eq}
 use Rattle.words.specs.declared.Atom.{Atom as Begun}
 use Rattle.words.proofs.AtomLaws.{atom-head, atom-equality}
 use Rattle.meaning.proofs.Lists.{and-left}
-use Rattle.records.specs.Flat.{termAt, firstAt, readBehind, readFlatRule}
+use Rattle.meaning.proofs.Results.{ok-inj}
+use Rattle.records.specs.Flat.{AtomNumbers, atomNumbers, numbersFrom, termAt, firstSays, firstAt, readBehind, readFlatRule}
 use Rattle.records.specs.declared.written.Walk.{Walk}
 use Rattle.records.specs.Written.{withHeads, walk, walkOf, leafWord}
 use Rattle.records.proofs.WrittenWalk.{Went, stops, made, both, row, then-then}
@@ -132,59 +132,88 @@ module _ {A : Type 0} (ws : List ℕ) (one : Reader A) (went : (p : ℕ) → Wen
 -- ---- how an atom begins
 
 module _ (ws : List ℕ) (p : ℕ) where
-  pub first-missing : length ws ≤ p → First.Other ≡ firstAt ws p
+  -- what an answer for the word at p is
+  abbrev Begins : First.the-data → Type 0
+  Begins x = firstSays x p ≡ firstAt ws p
+
+  pub first-missing : length ws ≤ p → Begins First.Other
   unfolding firstAt
   first-missing l = rw (le-ltb p (length ws) l)
 
   -- w is the word there
   module _ {w : ℕ} (i : p < length ws) (is : w ≡ getD ws p 0) where
-    pub first-low : w < equalityBase → First.Other ≡ firstAt ws p
+    pub first-low : w < equalityBase → Begins First.Other
     unfolding firstAt
     first-low l = rw (lt-ltb p (length ws) i, lt-leb equalityBase (getD ws p 0) (omega arith))
 
-    pub first-high : literalBase ≤ w → First.Other ≡ firstAt ws p
+    pub first-high : literalBase ≤ w → Begins First.Other
     unfolding firstAt
     first-high l = rw (lt-ltb p (length ws) i, le-leb equalityBase (getD ws p 0) (omega arith), le-ltb (getD ws p 0) literalBase (omega arith))
 
-    pub first-here : equalityBase ≤ w → w < literalBase → First.Atom (atomOf w) ≡ firstAt ws p
+    pub first-here : {a : Begun} → AtomSays a w p → equalityBase ≤ w → w < literalBase → Begins (First.Atom a)
     unfolding firstAt
-    first-here lo hi =
-        ap (λ (u : ℕ). First.Atom (atomOf u)) is
+    first-here {a} s lo hi =
+        ap ok (numbered ∙ ap (λ (u : ℕ). numbersFrom u p) is)
         ∙ rw (lt-ltb p (length ws) i, le-leb equalityBase (getD ws p 0) (omega arith), lt-ltb (getD ws p 0) literalBase (omega arith)) refl
+      where
+        numbered : atomNumbers a ≡ numbersFrom w p
+        numbered i =
+            record {
+              kindIs = s .kindIs i;
+              numberIs = s .numberIs i;
+              countIs = s .countIs i;
+              termsAt = s .termsAt i;
+              nextAt = (s .nextAt ∙ ap (λ (n : ℕ). p + 1 + n) (s .countIs)) i;
+            }
 
-  -- and back: the word that begins an atom is there, and is of kind 3 or 4
-  first-there : {a : Begun} → firstAt ws p ≡ First.Atom a → (p < length ws) × (equalityBase ≤ getD ws p 0) × (getD ws p 0 < literalBase) × (a ≡ atomOf (getD ws p 0))
+-- the atom a begins at p
+pub record AtomAt (ws : List ℕ) (p : ℕ) (a : Begun) : Type 0 where
+  pub inside : p < length ws
+  pub low : equalityBase ≤ getD ws p 0
+  pub high : getD ws p 0 < literalBase
+  pub says : AtomSays a (getD ws p 0) p
+
+module _ {ws : List ℕ} {p : ℕ} {x : First.the-data} (read : firstSays x p ≡ firstAt ws p) where
+  pub atom-there : {a : Begun} → x ≡ First.Atom a → AtomAt ws p a
   unfolding firstAt
-  first-there {a} = go (ltb p (length ws)) refl (leb equalityBase (getD ws p 0)) refl (ltb (getD ws p 0) literalBase) refl
+  atom-there {a} is =
+      go (ltb p (length ws)) refl (leb equalityBase (getD ws p 0)) refl (ltb (getD ws p 0) literalBase) refl (ap (λ (y : First.the-data). firstSays y p) (sym is) ∙ read)
     where
+      says : atomNumbers a ≡ numbersFrom (getD ws p 0) p → AtomSays a (getD ws p 0) p
+      says e =
+          let count = ap (λ (n : AtomNumbers). n .countIs) e in
+          record {
+            kindIs = ap (λ (n : AtomNumbers). n .kindIs) e;
+            numberIs = ap (λ (n : AtomNumbers). n .numberIs) e;
+            countIs = count;
+            termsAt = ap (λ (n : AtomNumbers). n .termsAt) e;
+            nextAt = ap (λ (n : AtomNumbers). n .nextAt) e ∙ ap (λ (n : ℕ). p + 1 + n) (sym count);
+          }
+
       go : (i : Bool) → ltb p (length ws) ≡ i → (l : Bool) → leb equalityBase (getD ws p 0) ≡ l → (h : Bool) → ltb (getD ws p 0) literalBase ≡ h
-          → cond (i && (l && h)) (First.Atom (atomOf (getD ws p 0))) First.Other ≡ First.Atom a
-          → (p < length ws) × (equalityBase ≤ getD ws p 0) × (getD ws p 0 < literalBase) × (a ≡ atomOf (getD ws p 0))
+          → ok (atomNumbers a) ≡ cond (i && (l && h)) (ok (numbersFrom (getD ws p 0) p)) (refuse unfit p)
+          → AtomAt ws p a
       go true ei true el true eh e =
-          (ltb-true p (length ws) ei, leb-true equalityBase (getD ws p 0) el, ltb-true (getD ws p 0) literalBase eh, cc)
+          record {
+            inside = ltb-true p (length ws) ei;
+            low = leb-true equalityBase (getD ws p 0) el;
+            high = ltb-true (getD ws p 0) literalBase eh;
+            says = says (ok-inj _ _ e);
+          }
       go true ei true el false eh e = let z : _≡_ {A = ℕ} 0 1 = cc in absurd (omega arith)
       go true ei false el h eh e = let z : _≡_ {A = ℕ} 0 1 = cc in absurd (omega arith)
       go false ei l el h eh e = let z : _≡_ {A = ℕ} 0 1 = cc in absurd (omega arith)
 
-module _ (w : ℕ) where
-  -- which kind it is, by the atom's head
-  eq-below : atomOf w .head ≡ Eq → w < headBase
-  eq-below e = go (leb headBase w) refl
-    where
-      go : (b : Bool) → leb headBase w ≡ b → w < headBase
-      go true l =
-          let z : _≡_ {A = ℕ} 4 3 = sym (ap headKind e) ∙ ap (λ (a : Begun). headKind (a .head)) (atom-head w (leb-true headBase w l)) in
-          absurd (omega arith)
-      go false l = leb-false headBase w l
-
-  head-above : {h : ℕ} → atomOf w .head ≡ Head h → headBase ≤ w
-  head-above {h} e = go (leb headBase w) refl
-    where
-      go : (b : Bool) → leb headBase w ≡ b → headBase ≤ w
-      go true l = leb-true headBase w l
-      go false l =
-          let z : _≡_ {A = ℕ} 3 4 = sym (ap headKind e) ∙ ap (λ (a : Begun). headKind (a .head)) (atom-equality w (leb-false headBase w l)) in
-          absurd (omega arith)
+-- no word that begins one stands there
+none-there : (ws : List ℕ) (p : ℕ) {x : First.the-data} → firstSays x p ≡ firstAt ws p → x ≡ First.Other
+    → p < length ws → equalityBase ≤ getD ws p 0 → getD ws p 0 < literalBase → ⊥
+unfolding firstAt
+none-there ws p read is i lo hi =
+    let e : refuse unfit p ≡ ok (numbersFrom (getD ws p 0) p) =
+    ap (λ (y : First.the-data). firstSays y p) (sym is) ∙ read
+    ∙ rw (lt-ltb p (length ws) i, le-leb equalityBase (getD ws p 0) lo, lt-ltb (getD ws p 0) literalBase hi) refl in
+    let z : _≡_ {A = ℕ} 0 1 = cc in
+    omega arith
 
 -- ---- atoms
 
@@ -195,11 +224,11 @@ module _ (H : ℕ) (ws : List ℕ) (p : ℕ) where
   abbrev w : ℕ
   w = getD ws p 0
 
-  pub atom-other : {x : First.the-data} → x ≡ firstAt ws p → x ≡ First.Other → walk unfit p ≡ walkOf (readAtom s ws p)
+  pub atom-other : {x : First.the-data} → firstSays x p ≡ firstAt ws p → x ≡ First.Other → walk unfit p ≡ walkOf (readAtom s ws p)
   atom-other read is = go (ltb p (length ws)) refl
     where
       out : p < length ws → equalityBase ≤ w → w < literalBase → ⊥
-      out i lo hi = let z : _≡_ {A = ℕ} 0 1 = cc (first-here ws p i refl lo hi, read, is) in omega arith
+      out = none-there ws p read is
 
       no-equality : p < length ws → (b : Bool) → isEqualityWord w ≡ b → b ≡ false
       no-equality i true e = let r = within-true equalityBase equalityBase w e in absurd (out i (r .0) (omega arith))
@@ -218,29 +247,39 @@ module _ (H : ℕ) (ws : List ℕ) (p : ℕ) where
           rw (no-equality i (isEqualityWord w) refl, no-table i (isHeadWord (heads s) w) refl)
       go false e = refl
 
--- the atom a begins at p
-pub record AtomAt (ws : List ℕ) (p : ℕ) (a : Begun) : Type 0 where
-  pub inside : p < length ws
-  pub low : equalityBase ≤ getD ws p 0
-  pub high : getD ws p 0 < literalBase
-  pub is : a ≡ atomOf (getD ws p 0)
+-- its kind, by its head
+module _ {a : Begun} {w p : ℕ} (s : AtomSays a w p) where
+  eq-below : a .head ≡ Eq → w < headBase
+  eq-below e = go (leb headBase w) refl
+    where
+      go : (b : Bool) → leb headBase w ≡ b → w < headBase
+      go true l =
+          let z : _≡_ {A = ℕ} 4 3 = ap headKind (sym e ∙ atom-head s (leb-true headBase w l) .0) in
+          absurd (omega arith)
+      go false l = leb-false headBase w l
 
-pub atom-there : {ws : List ℕ} {p : ℕ} {a : Begun} {x : First.the-data} → x ≡ firstAt ws p → x ≡ First.Atom a → AtomAt ws p a
-atom-there {ws} {p} read is = let t = first-there ws p (sym read ∙ is) in record { inside = t .0; low = t .1; high = t .2; is = t .3 }
+  head-above : {h : ℕ} → a .head ≡ Head h → headBase ≤ w
+  head-above {h} e = go (leb headBase w) refl
+    where
+      go : (b : Bool) → leb headBase w ≡ b → headBase ≤ w
+      go true l = leb-true headBase w l
+      go false l =
+          let z : _≡_ {A = ℕ} 3 4 = ap headKind (sym e ∙ atom-equality s (leb-false headBase w l) .0) in
+          absurd (omega arith)
 
 -- an equality
 module _ (H : ℕ) {ws : List ℕ} {p : ℕ} {a : Begun} (t : AtomAt ws p a) (is : a .head ≡ Eq) where
   equality-is-word : (isEqualityWord (getD ws p 0) ≡ true) × (getD ws p 0 ≡ equalityBase + a .count)
   equality-is-word =
       let w : ℕ = getD ws p 0 in
-      let low = eq-below w (sym (ap (λ (b : Begun). b .head) (t .is)) ∙ is) in
-      let count : a .count ≡ w - equalityBase = ap (λ (b : Begun). b .count) (t .is ∙ atom-equality w low) in
+      let low = eq-below (t .says) is in
+      let count = atom-equality (t .says) low .1 in
       (true-within equalityBase equalityBase w (t .low) (omega arith), omega (arith, t .low))
 
-  pub pair-goes : a .count ≡ 2 → walkOf (readRow (readTerm (withHeads H) ws) (a .count) (p + 1)) ≡ walkOf (readAtom (withHeads H) ws p)
+  pub pair-goes : a .count ≡ 2 → walkOf (readRow (readTerm (withHeads H) ws) (a .count) (a .terms)) ≡ walkOf (readAtom (withHeads H) ws p)
   pair-goes two =
       let e = equality-is-word in
-      rw (two, add-one p, lt-ltb p (length ws) (t .inside), e .0, eq-eqb (getD ws p 0) equalityWord (omega arith))
+      rw (two, t .says .termsAt, add-one p, lt-ltb p (length ws) (t .inside), e .0, eq-eqb (getD ws p 0) equalityWord (omega arith))
       (row-pair ws (readTerm (withHeads H) ws) (went-term (withHeads H) ws) (suc p) _)
 
   pub odd-refused : ¬ (a .count ≡ 2) → walk notTwo p ≡ walkOf (readAtom (withHeads H) ws p)
@@ -253,13 +292,13 @@ module _ (H : ℕ) {ws : List ℕ} {p h : ℕ} {a : Begun} (t : AtomAt ws p a) (
   table-word : (isEqualityWord (getD ws p 0) ≡ false) × (isHeadWord (heads (withHeads H)) (getD ws p 0) ≡ ltb h H) × (countOf (getD ws p 0) ≡ a .count)
   table-word =
       let w : ℕ = getD ws p 0 in
-      let above = head-above w (sym (ap (λ (b : Begun). b .head) (t .is)) ∙ is) in
-      let same : a ≡ atomWith (Head (headOf w)) (countOf w) = t .is ∙ atom-head w above in
-      let head : Head (headOf w) ≡ Head h = sym (ap (λ (b : Begun). b .head) same) ∙ is in
+      let above = head-above (t .says) is in
+      let same = atom-head (t .says) above in
+      let head : Head (headOf w) ≡ Head h = sym (same .0) ∙ is in
       let number : headOf w ≡ h = cc in
       let inside = true-within headBase headBase w above (omega (arith, t .high)) in
       let says : wordOf w ≡ Said.Head h (countOf w) = is-head w inside ∙ ap (λ n. Said.Head n (countOf w)) number in
-      (false-above equalityBase equalityBase w (omega arith), head-with H w h (countOf w) says, sym (ap (λ (b : Begun). b .count) same))
+      (false-above equalityBase equalityBase w (omega arith), head-with H w h (countOf w) says, sym (same .1))
 
   pub head-refused : H ≤ h → walk unfit p ≡ walkOf (readAtom (withHeads H) ws p)
   head-refused high =
@@ -271,12 +310,12 @@ module _ (H : ℕ) {ws : List ℕ} {p h : ℕ} {a : Begun} (t : AtomAt ws p a) (
       let e = table-word in
       rw (lt-ltb p (length ws) (t .inside), e .0, e .1, lt-ltb h H low, eq-eqb (countOf (getD ws p 0)) 0 (omega arith))
 
-  pub table-goes : h < H → ¬ (a .count ≡ 0) → walkOf (readRow (readTerm (withHeads H) ws) (a .count) (p + 1)) ≡ walkOf (readAtom (withHeads H) ws p)
+  pub table-goes : h < H → ¬ (a .count ≡ 0) → walkOf (readRow (readTerm (withHeads H) ws) (a .count) (a .terms)) ≡ walkOf (readAtom (withHeads H) ws p)
   table-goes low some =
       let e = table-word in
       let n : ℕ = countOf (getD ws p 0) in
       let up : a .count ≡ suc (n - 1) = omega arith in
-      rw (add-one p, lt-ltb p (length ws) (t .inside), e .0, e .1, lt-ltb h H low, ne-eqb n 0 (λ z. some (omega arith)))
+      rw (t .says .termsAt, add-one p, lt-ltb p (length ws) (t .inside), e .0, e .1, lt-ltb h H low, ne-eqb n 0 (λ z. some (omega arith)))
       (ap (λ n. walkOf (readRow (readTerm (withHeads H) ws) n (suc p))) up ∙ row-last ws (readTerm (withHeads H) ws) (went-term (withHeads H) ws) (n - 1) (suc p) _)
 
 -- ---- a kind 3 word and its terms

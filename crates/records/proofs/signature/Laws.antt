@@ -10,14 +10,14 @@ use borrow.Author.Tests.{lt-ltb, le-ltb, ltb-true, leb-true, ne-eqb, eq-eqb, eqb
 use Rattle.rules.specs.Words.{signatureBase, within, limit12}
 use Rattle.rules.specs.Refusals.{Res, ok, refuse, _>>=_, demand, badSignature}
 use Rattle.rules.specs.Signature.{Sig, payloadAt, kindsAt, readSignature}
-use Rattle.words.specs.Word.{wordOf, kind}
+use Rattle.words.specs.Word.{numbers, kind, numbersOf}
 use Rattle.words.specs.declared.Word.{Word}
 use Rattle.words.specs.declared.Word.the-variants.{Signature}
 use Rattle.words.proofs.Ranges.{within-true, true-within, false-below, false-above}
-use Rattle.words.proofs.WordLaws.{said, signature-kind}
+use Rattle.words.proofs.WordLaws.{wordOf, answered, said, signature-kind}
 use Rattle.meaning.proofs.Lists.{and-left, and-right}
 use Rattle.meaning.proofs.Results.{demand-ok}
-use Rattle.records.specs.Signature.{isKindAt, allKinds, firstBad, payloadOf, signOf, Begins}
+use Rattle.records.specs.Signature.{isKindAt, allKinds, firstBad, payloadSays, signOf, Begins}
 use Rattle.records.specs.declared.signature.Payload.{Payload}
 use Rattle.records.specs.declared.signature.Payload.the-variants.{Fits, Unfit}
 use Rattle.records.specs.declared.signature.Signature.{Signature as Sign}
@@ -169,22 +169,22 @@ pub record PayloadAt (ws : List ℕ) (p n : ℕ) : Type 0 where
   pub here : p < length ws
   pub is : getD ws p 0 ≡ signatureBase + n
 
-pub payload-there : {ws : List ℕ} {p w n : ℕ} {x : Word} → p < length ws → w ≡ getD ws p 0 → x ≡ wordOf w → x ≡ Signature n → PayloadAt ws p n
-payload-there {ws} {p} {w} here read says is = record { here = here; is = sym read ∙ said w (sym says ∙ is) (lit< tt) .0 }
+pub payload-there : {ws : List ℕ} {p w n : ℕ} {x : Word} → p < length ws → w ≡ getD ws p 0 → numbers x ≡ numbersOf w → x ≡ Signature n → PayloadAt ws p n
+payload-there {ws} {p} {w} here read says is = record { here = here; is = sym read ∙ said w (sym (answered w says) ∙ is) (lit< tt) .0 }
 
 module _ (ws : List ℕ) (low size p : ℕ) where
-  -- what the code answers for it
-  abbrev answer : Payload
-  answer = payloadOf (payloadAt ws low size p)
+  -- what an answer for it is
+  abbrev Answers : Payload → Type 0
+  Answers x = payloadSays x p ≡ payloadAt ws low size p
 
-  pub payload-missing : length ws ≤ p → Unfit ≡ answer
+  pub payload-missing : length ws ≤ p → Answers Unfit
   payload-missing l = rw (le-ltb p (length ws) l)
 
-  pub payload-other : {w : ℕ} {x : Word} → low + size ≤ signatureBase → p < length ws → w ≡ getD ws p 0 → x ≡ wordOf w → eqb (kind x) 7 ≡ false → Unfit ≡ answer
-  payload-other {w} {x} most here read says other = rw (lt-ltb p (length ws) here, out (within (signatureBase + low) size (getD ws p 0)) refl)
+  pub payload-other : {w : ℕ} (x : Word) → low + size ≤ signatureBase → p < length ws → w ≡ getD ws p 0 → numbers x ≡ numbersOf w → eqb (kind x) 7 ≡ false → Answers Unfit
+  payload-other {w} x most here read says other = rw (lt-ltb p (length ws) here, out (within (signatureBase + low) size (getD ws p 0)) refl)
     where
       none : eqb (kind (wordOf (getD ws p 0))) 7 ≡ false
-      none = ap (λ (u : ℕ). eqb (kind (wordOf u)) 7) (sym read) ∙ ap (λ (y : Word). eqb (kind y) 7) (sym says) ∙ other
+      none = ap (λ (u : ℕ). eqb (kind (wordOf u)) 7) (sym read) ∙ ap (λ (y : Word). eqb (kind y) 7) (sym (answered w {x = x} says)) ∙ other
 
       out : (b : Bool) → within (signatureBase + low) size (getD ws p 0) ≡ b → b ≡ false
       out true e =
@@ -194,32 +194,21 @@ module _ (ws : List ℕ) (low size p : ℕ) where
       out false e = refl
 
   module _ {n : ℕ} (t : PayloadAt ws p n) where
-    pub payload-low : n < low → Unfit ≡ answer
+    pub payload-low : n < low → Answers Unfit
     payload-low l = let e = t .is in rw (lt-ltb p (length ws) (t .here), false-below (signatureBase + low) size (getD ws p 0) (omega arith))
 
-    pub payload-high : low + size ≤ n → Unfit ≡ answer
+    pub payload-high : low + size ≤ n → Answers Unfit
     payload-high l = let e = t .is in rw (lt-ltb p (length ws) (t .here), false-above (signatureBase + low) size (getD ws p 0) (omega arith))
 
-    pub payload-good : low ≤ n → n < low + size → Fits n ≡ answer
+    pub payload-good : low ≤ n → n < low + size → Answers (Fits n)
     payload-good lo hi =
         let e = t .is in
         let same : signatureBase + n - signatureBase ≡ n = omega arith in
         rw (lt-ltb p (length ws) (t .here), true-within (signatureBase + low) size (getD ws p 0) (omega arith) (omega arith), e, same)
 
   -- and back, from the answer
-  pub payload-fits : {x : Payload} {n : ℕ} → x ≡ answer → x ≡ Fits n → payloadAt ws low size p ≡ ok n
-  payload-fits says e = go (payloadAt ws low size p) (sym says ∙ e)
-    where
-      go : (x : Res ℕ) {n : ℕ} → payloadOf x ≡ Fits n → x ≡ ok n
-      go (ok k) e = cc
-      go (refuse k q) e = let z : _≡_ {A = ℕ} 0 1 = cc in absurd (omega arith)
-
-  pub payload-unfit : {x : Payload} → x ≡ answer → x ≡ Unfit → payloadAt ws low size p ≡ refuse 1 p
-  payload-unfit says e = go (ltb p (length ws) && within (signatureBase + low) size (getD ws p 0)) (sym says ∙ e)
-    where
-      go : (b : Bool) → payloadOf (demand b 1 p (getD ws p 0 - signatureBase)) ≡ Unfit → demand b 1 p (getD ws p 0 - signatureBase) ≡ refuse 1 p
-      go true e = let z : _≡_ {A = ℕ} 0 1 = cc in absurd (omega arith)
-      go false e = refl
+  pub payload-is : {x y : Payload} → Answers x → x ≡ y → payloadAt ws low size p ≡ payloadSays y p
+  payload-is says e = sym says ∙ ap (λ (y : Payload). payloadSays y p) e
 
   -- a payload that was read lies in its range
   pub payload-range : {n : ℕ} → payloadAt ws low size p ≡ ok n → (p < length ws) × (low ≤ n) × (n < low + size)

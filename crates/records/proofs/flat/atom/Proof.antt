@@ -2,7 +2,6 @@
 -- refused with its own number. Assumes nothing.
 use native.Mathlib.Omega.{arith}
 use Rattle.octets.specs.Words.{words}
-use Rattle.octets.proofs.Words.{length-words}
 use Rattle.records.proofs.flat.Laws.{AtomAt, atom-there, atom-other, pair-goes, odd-refused, head-refused, empty-refused, table-goes}
 use mathlib.Core.Path.{_∙_}
 use borrow.Author.Needs.{needs}
@@ -43,9 +42,6 @@ enum-told-2 c = search needs
 abbrev equal : tie.After-enum-told2 → tie.After-known-told
 equal c = c .before .before
 
-add-terms : tie.Need-add-terms
-add-terms c = let t = equal (c .before) in omega (arith, at-first t .inside, length-words (start (told t) .args .rule .now))
-
 terms-requires : tie.Need-terms-requires
 terms-requires c κs = search needs
 
@@ -67,9 +63,6 @@ returns-3 c =
     let k = c .before .before in
     let t = headed k in
     empty-refused (start (told t) .args .heads) (at-first t) (k .before .head .given .1) (omega arith) (c .if3 .taken)
-
-add-terms-2 : tie.Need-add-terms-2
-add-terms-2 c = let t = headed (c .before .before) in omega (arith, at-first t .inside, length-words (start (told t) .args .rule .now))
 
 terms-requires-2 : tie.Need-terms-requires-2
 terms-requires-2 c κs = search needs
@@ -99,12 +92,10 @@ atom-spec =
     enum-told
     returns
     enum-told-2
-    add-terms
     terms-requires
     enum-known-head
     returns-2
     returns-3
-    add-terms-2
     terms-requires-2
     returns-4
     returns-5

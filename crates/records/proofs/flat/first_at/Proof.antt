@@ -1,10 +1,9 @@
 -- The range of the word at the index tells whether an atom begins there. Assumes nothing.
 use Prim.Native.Nat.{ℕ}
 use mathlib.Core.List.{List}
-use mathlib.Core.Path.{_∙_, ap}
 use native.Mathlib.Omega.{arith}
 use Rattle.octets.specs.Words.{words}
-use Rattle.records.specs.declared.flat.First.the-variants as First
+use Rattle.octets.proofs.Words.{length-words}
 use Rattle.records.proofs.flat.Laws.{first-missing, first-low, first-high, first-here}
 use borrow.Author.Needs.{needs}
 use Rattle.records.proofs.flat.first_at.Statement.{statement}
@@ -34,12 +33,14 @@ returns-3 : tie.Need-returns-3
 returns-3 c = let g = c .before .before in first-high (ws (start g)) (start g .args .at) (omega arith) (g .get .ensures .is) (c .if3 .taken)
 
 atom-of-requires : tie.Need-atom-of-requires
-atom-of-requires c κs = search needs
+atom-of-requires c κs =
+    let s = start (c .before .before) in
+    (omega arith, omega arith, omega (arith, length-words (s .args .rule .now), s .good))
 
 returns-4 : tie.Need-returns-4
 returns-4 c =
     let g = c .before .before .before in
-    ap First.Atom (c .atom-of .ensures) ∙ first-here (ws (start g)) (start g .args .at) (omega arith) (g .get .ensures .is) (omega arith) (omega arith)
+    first-here (ws (start g)) (start g .args .at) (omega arith) (g .get .ensures .is) (c .atom-of .ensures) (omega arith) (omega arith)
 
 pub first-at-spec : {M : Type 1} → statement M
 first-at-spec =

@@ -36,7 +36,7 @@ returns-2 : tie.Need-returns-2
 returns-2 c =
     let w = c .before in
     let s = start w in
-    payload-other (ws s) (s .args .low) (s .args .size) (s .args .at) (s .pre) (omega arith) (w .before .get .ensures .is) (w .word-of .ensures)
+    payload-other (ws s) (s .args .low) (s .args .size) (s .args .at) (w .word-of .result) (s .pre) (omega arith) (w .before .get .ensures .is) (w .word-of .ensures)
     (other-kind 7 (w .word-of .result) tt (c .match .keys2))
 
 -- ---- it has a payload

@@ -8,7 +8,7 @@ use Rattle.octets.specs.Words.{words}
 use Rattle.rules.specs.Refusals.{ok}
 use Rattle.rules.specs.Signature.{payloadAt}
 use Rattle.rules.specs.Words.{limit12}
-use Rattle.records.proofs.signature.Laws.{payload-fits, payload-unfit, payload-range, heads-bad, globals-bad, equals-bad, flag-bad}
+use Rattle.records.proofs.signature.Laws.{payload-is, payload-range, heads-bad, globals-bad, equals-bad, flag-bad}
 use borrow.Author.Needs.{needs}
 use Rattle.records.proofs.signature.read.Statement.{statement}
 use Rattle.records.proofs.signature.read.Tie as tie
@@ -37,7 +37,7 @@ returns : tie.Need-returns
 returns c =
     let p = c .before .before .before in
     let l = ws (start p) in
-    c .turned-back .ensures ∙ heads-bad l (payload-unfit l 1 limit12 0 (p .payload-at .ensures) (c .before .enum-told .given .1))
+    c .turned-back .ensures ∙ heads-bad l (payload-is l 1 limit12 0 (p .payload-at .ensures) (c .before .enum-told .given .1))
 
 -- ---- G
 
@@ -48,7 +48,7 @@ abbrev h : tie.After-known-told → ℕ
 h c = c .before .heads .given .0 .0
 
 at-heads : (c : tie.After-known-told) → payloadAt (ws (start (heads-at c))) 1 limit12 0 ≡ ok (h c)
-at-heads c = payload-fits (ws (start (heads-at c))) 1 limit12 0 (heads-at c .payload-at .ensures) (c .before .heads .given .1)
+at-heads c = payload-is (ws (start (heads-at c))) 1 limit12 0 (heads-at c .payload-at .ensures) (c .before .heads .given .1)
 
 payload-at-requires-2 : tie.Need-payload-at-requires-2
 payload-at-requires-2 c κs = search needs
@@ -66,7 +66,7 @@ returns-2 : tie.Need-returns-2
 returns-2 c =
     let p = c .before .before .before in
     let l = ws (start (heads-at (p .before))) in
-    let bad = payload-unfit l 0 (suc limit12) 1 (p .payload-at2 .ensures) (c .before .enum-told2 .given .1) in
+    let bad = payload-is l 0 (suc limit12) 1 (p .payload-at2 .ensures) (c .before .enum-told2 .given .1) in
     c .turned-back2 .ensures ∙ globals-bad l (at-heads (p .before)) bad
 
 -- ---- the value-eq head
@@ -78,7 +78,7 @@ abbrev start2 : tie.After-known-told2 → tie.Start
 start2 c = start (heads-at (globals-heads c))
 
 at-globals : (c : tie.After-known-told2) → payloadAt (ws (start2 c)) 0 (suc limit12) 1 ≡ ok (c .before .globals .given .0 .0)
-at-globals c = payload-fits (ws (start2 c)) 0 (suc limit12) 1 (c .before .before .before .payload-at2 .ensures) (c .before .globals .given .1)
+at-globals c = payload-is (ws (start2 c)) 0 (suc limit12) 1 (c .before .before .before .payload-at2 .ensures) (c .before .globals .given .1)
 
 payload-at-requires-3 : tie.Need-payload-at-requires-3
 payload-at-requires-3 c κs = omega (arith, payload-range (ws (start2 c)) 1 limit12 0 (at-heads (globals-heads c)))
@@ -96,7 +96,7 @@ returns-3 : tie.Need-returns-3
 returns-3 c =
     let p = c .before .before .before in
     let g = p .before in
-    let bad = payload-unfit (ws (start2 g)) 0 (h (globals-heads g)) 2 (p .payload-at3 .ensures) (c .before .enum-told3 .given .1) in
+    let bad = payload-is (ws (start2 g)) 0 (h (globals-heads g)) 2 (p .payload-at3 .ensures) (c .before .enum-told3 .given .1) in
     c .turned-back3 .ensures ∙ equals-bad (ws (start2 g)) (at-heads (globals-heads g)) (at-globals g) bad
 
 -- ---- the flag
@@ -108,7 +108,7 @@ abbrev start3 : tie.After-known-told3 → tie.Start
 start3 c = start2 (equals-globals c)
 
 at-equals : (c : tie.After-known-told3) → payloadAt (ws (start3 c)) 0 (h (globals-heads (equals-globals c))) 2 ≡ ok (c .before .equals .given .0 .0)
-at-equals c = payload-fits (ws (start3 c)) 0 (h (globals-heads (equals-globals c))) 2 (c .before .before .before .payload-at3 .ensures) (c .before .equals .given .1)
+at-equals c = payload-is (ws (start3 c)) 0 (h (globals-heads (equals-globals c))) 2 (c .before .before .before .payload-at3 .ensures) (c .before .equals .given .1)
 
 payload-at-requires-4 : tie.Need-payload-at-requires-4
 payload-at-requires-4 c κs = search needs
@@ -126,7 +126,7 @@ returns-4 : tie.Need-returns-4
 returns-4 c =
     let p = c .before .before .before in
     let g = equals-globals (p .before) in
-    let bad = payload-unfit (ws (start2 g)) 0 2 3 (p .payload-at4 .ensures) (c .before .enum-told4 .given .1) in
+    let bad = payload-is (ws (start2 g)) 0 2 3 (p .payload-at4 .ensures) (c .before .enum-told4 .given .1) in
     c .turned-back4 .ensures ∙ flag-bad (ws (start2 g)) (at-heads (globals-heads g)) (at-globals g) (at-equals (p .before)) bad
 
 -- ---- the kinds
@@ -139,7 +139,7 @@ read-kinds-requires c κs =
       heads-read = at-heads (globals-heads g);
       globals-read = at-globals g;
       equals-read = at-equals (p .before);
-      flag-read = payload-fits (ws (start2 g)) 0 2 3 (p .payload-at4 .ensures) (c .before .flag .given .1);
+      flag-read = payload-is (ws (start2 g)) 0 2 3 (p .payload-at4 .ensures) (c .before .flag .given .1);
     }
 
 returns-5 : tie.Need-returns-5

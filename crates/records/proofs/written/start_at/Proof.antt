@@ -5,17 +5,16 @@ use mathlib.Core.Bool.{cond}
 use mathlib.Core.List.{List, _∷_, []}
 use Prim.Native.Nat.{ℕ}
 use lib.Dec.{ltb}
-use lib.ListN.{getD}
 use borrow.Author.Needs.{needs}
 use borrow.Author.Tests.{lt-ltb, le-ltb}
 use types.Run.{OneOf, miss}
 use denote.Enum.Declared.{tagOf}
 use Rattle.octets.specs.Words.{words}
-use Rattle.rules.specs.Written.{shapeAt}
 use Rattle.words.proofs.Word.{the-type}
 use Rattle.words.specs.declared.Word.{Word}
 use Rattle.words.specs.declared.Word.the-variants.{Fresh, Name, Literal, Head, Equality, Header, Action, Signature, Unfit}
-use Rattle.records.specs.Written.{withHeads, startOf}
+use Rattle.records.specs.Written.{withHeads, startSays, takenAt}
+use Rattle.records.specs.declared.written.Start.{Start}
 use Rattle.records.specs.declared.written.Start.the-variants.{Takes, Other}
 use Rattle.records.proofs.WrittenLaws.{startWith, start-at}
 use Rattle.records.proofs.written.start_at.Statement.{statement}
@@ -38,12 +37,11 @@ others H Unfit k = refl
 abbrev start : tie.After-word-at → tie.Start
 start c = c .before .before
 
--- the answer is that of the word there
-by-word : (c : tie.After-word-at)
+-- an answer that is that of the word there
+by-word : (c : tie.After-word-at) {x : Start}
     → let a = start c .args in
-    let ws = words (a .rule .now) in
-    startWith (a .heads) (c .word-at .result) ≡ startOf (shapeAt (withHeads (a .heads)) ws (a .at)) (getD ws (a .at) 0)
-by-word c = let a = start c .args in ap (startWith (a .heads)) (c .word-at .ensures) ∙ start-at (words (a .rule .now)) (a .heads) (a .at)
+    x ≡ startWith (a .heads) (c .word-at .result) → startSays x (a .at) ≡ takenAt (withHeads (a .heads)) (words (a .rule .now)) (a .at)
+by-word c is = let a = start c .args in ap (λ (y : Start). startSays y (a .at)) is ∙ start-at (words (a .rule .now)) (a .heads) (a .at) (c .word-at .ensures)
 
 word-at-requires : tie.Need-word-at-requires
 word-at-requires c κs = search needs
@@ -59,10 +57,10 @@ enum-known-w c = search needs
 
 -- a name, a literal
 returns : tie.Need-returns
-returns c = let w = c .before .before in ap (startWith (start w .args .heads)) (sym (c .enum-told .given .1)) ∙ by-word w
+returns c = let w = c .before .before in by-word w (ap (startWith (start w .args .heads)) (sym (c .enum-told .given .1)))
 
 returns-2 : tie.Need-returns-2
-returns-2 c = let w = c .before .before in ap (startWith (start w .args .heads)) (sym (c .enum-told2 .given .1)) ∙ by-word w
+returns-2 c = let w = c .before .before in by-word w (ap (startWith (start w .args .heads)) (sym (c .enum-told2 .given .1)))
 
 -- a head, below H or not
 abbrev told : tie.After-known-told → tie.After-word-at
@@ -75,14 +73,14 @@ by-head : (c : tie.After-known-told)
 by-head c = ap (startWith (start (told c) .args .heads)) (sym (c .before .w .given .1))
 
 returns-3 : tie.Need-returns-3
-returns-3 c = let t = c .before in rw (lt-ltb _ _ (c .if1 .taken)) at (by-head t) ∙ by-word (told t)
+returns-3 c = let t = c .before in by-word (told t) (rw (lt-ltb _ _ (c .if1 .taken)) at (by-head t))
 
 returns-4 : tie.Need-returns-4
-returns-4 c = let t = c .before in rw (le-ltb _ _ (c .if1 .left)) at (by-head t) ∙ by-word (told t)
+returns-4 c = let t = c .before in by-word (told t) (rw (le-ltb _ _ (c .if1 .left)) at (by-head t))
 
 -- any other word
 returns-5 : tie.Need-returns-5
-returns-5 c = let w = c .before in others (start w .args .heads) (w .word-at .result) (c .match .keys4) ∙ by-word w
+returns-5 c = let w = c .before in by-word w (others (start w .args .heads) (w .word-at .result) (c .match .keys4))
 
 pub start-at-spec : {M : Type 1} → statement M
 start-at-spec =

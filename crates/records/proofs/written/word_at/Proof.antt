@@ -6,7 +6,6 @@ use lib.ListN.{length}
 use borrow.Author.Tests.{lt-ltb, le-ltb}
 use borrow.Author.Needs.{needs}
 use Rattle.octets.specs.Words.{words}
-use Rattle.records.specs.Written.{wordAt}
 use Rattle.records.proofs.written.word_at.Statement.{statement}
 use Rattle.records.proofs.written.word_at.Tie as tie
 
@@ -20,19 +19,17 @@ word-of-requires : tie.Need-word-of-requires
 word-of-requires c κs = search needs
 
 returns : tie.Need-returns
-unfolding wordAt
 returns c =
     let g = c .before in
     let a = g .before .before .before .before .args in
     let h : a .at < length (words (a .rule .now)) = omega arith in
-    c .word-of .ensures ∙ simp (lt-ltb _ _ h, g .get .ensures .is)
+    record { numbersAre = c .word-of .ensures ∙ simp (lt-ltb _ _ h, g .get .ensures .is) }
 
 returns-2 : tie.Need-returns-2
-unfolding wordAt
 returns-2 c =
     let a = c .before .before .before .args in
     let h : length (words (a .rule .now)) ≤ a .at = omega arith in
-    simp (le-ltb _ _ h)
+    record { numbersAre = simp (le-ltb _ _ h) }
 
 pub word-at-spec : {M : Type 1} → statement M
 word-at-spec = tie.close (tie.spec count-requires get-requires word-of-requires returns returns-2)
