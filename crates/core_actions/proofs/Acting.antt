@@ -14,15 +14,15 @@ use Rattle.walks.specs.Steps.{Piece, nothing, Kept, Walked, InAnswer, ExprAt}
 use Rattle.walks.specs.declared.Walk.{Walk}
 use Rattle.walks.proofs.Frames.{kept-wide}
 use Rattle.walks.proofs.Steps.{went, stop, none-walked, written}
-use Rattle.core_actions.specs.Scopes.{Scoped, ScopeRoom, grown}
-use Rattle.core_actions.specs.Lowered.{donePiece, lowered}
-use Rattle.core_actions.specs.Acts.{Gave, Acts}
-use Rattle.core_actions.specs.declared.scope.Scope.{Scope}
+use Rattle.head_exprs.specs.Scopes.{Scoped, ScopeRoom, grown}
+use Rattle.head_exprs.specs.Lowered.{lowered}
+use Rattle.head_exprs.specs.declared.scope.Scope.{Scope}
+use Rattle.head_exprs.proofs.Scopes.{scoped-kept}
+use Rattle.head_exprs.proofs.Sites.{Site, RoomAt, ScopeRoomAt, Every, WalkedAt, Begun}
+use Rattle.core_actions.specs.Acts.{donePiece, Gave, Acts}
 use Rattle.core_actions.specs.declared.actions.Acted.{Acted}
-use Rattle.core_actions.proofs.Scopes.{scoped-kept}
 use Rattle.core_actions.proofs.Pieces.{silent, done-expression, SameBound, same-expression}
 use Rattle.core_actions.proofs.Does.{Does, second}
-use Rattle.core_actions.proofs.Sites.{Site, RoomAt, ScopeRoomAt, Every, WalkedAt, Begun}
 
 -- ---- from a walk to what an action leaves
 

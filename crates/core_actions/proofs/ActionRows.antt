@@ -16,10 +16,9 @@ use Rattle.walks.proofs.Steps.{went, none-walked, walk-then, retold}
 use Rattle.walks.proofs.Read.{moved, row-cases, no-row-cases}
 use Rattle.walks.proofs.Rows.{Going, going-next}
 use Rattle.walks.proofs.Words.{words-append}
-use Rattle.core_actions.specs.Scopes.{Scoped}
-use Rattle.core_actions.specs.Lowered.{donePiece}
-use Rattle.core_actions.specs.Acts.{ActionAt, ActionsAt, Acts}
-use Rattle.core_actions.specs.declared.scope.Scope.{Scope}
+use Rattle.head_exprs.specs.Scopes.{Scoped}
+use Rattle.head_exprs.specs.declared.scope.Scope.{Scope}
+use Rattle.core_actions.specs.Acts.{donePiece, ActionAt, ActionsAt, Acts}
 use Rattle.core_actions.specs.declared.actions.Acted.{Acted}
 use Rattle.core_actions.proofs.ReadActions.{action-on, action-some}
 

@@ -11,11 +11,10 @@ use Rattle.rules.specs.Written.{Action, expr′, panic′}
 use Rattle.rules.specs.Flat.{CoreAction, Delete, Subsume, actionWords}
 use Rattle.rules.specs.ToCoreActions.{Done, lowerChange, lowerSet, lowerAction}
 use Rattle.walks.specs.Steps.{Piece, ExprAt}
-use Rattle.core_actions.specs.Scopes.{Scoped}
-use Rattle.core_actions.specs.Lowered.{donePiece}
-use Rattle.core_actions.specs.Acts.{ActionAt, LetAt, ChangeAt, PairAt, changed, Gave}
+use Rattle.head_exprs.specs.Scopes.{Scoped}
+use Rattle.head_exprs.proofs.Sites.{Site, Known, RoomAt, ScopeRoomAt, Every, WalkedAt}
+use Rattle.core_actions.specs.Acts.{donePiece, ActionAt, LetAt, ChangeAt, PairAt, changed, Gave}
 use Rattle.core_actions.specs.declared.actions.Acted.{Acted}
-use Rattle.core_actions.proofs.Sites.{Site, Known, RoomAt, ScopeRoomAt, Every, WalkedAt}
 use Rattle.core_actions.proofs.Does.{KnownSigned, Does, DoesAction, second, Changes}
 use Rattle.core_actions.proofs.Lets as lets
 use Rattle.core_actions.proofs.UnionAsSet as unions

@@ -17,12 +17,12 @@ use Rattle.walks.specs.declared.Walk.{Walk}
 use Rattle.walks.proofs.Steps.{went, stop, Own, full-last, last-done}
 use Rattle.walks.proofs.Read.{exprs-many, recount}
 use Rattle.walks.proofs.Words.{head-word}
-use Rattle.core_actions.specs.Lowered.{loweredAll}
+use Rattle.head_exprs.specs.Lowered.{loweredAll}
+use Rattle.head_exprs.proofs.Sites.{Site, RoomAt, Asks, Every, WalkedAt, Tree, tree, Begun, begun-as, asks}
 use Rattle.core_actions.specs.Acts.{ChangeAt, changePiece, changed, Gave}
 use Rattle.core_actions.specs.declared.actions.Acted.{Acted}
 use Rattle.core_actions.proofs.Acting.{ended}
 use Rattle.core_actions.proofs.Does.{second, Changes}
-use Rattle.core_actions.proofs.Sites.{Site, RoomAt, Asks, Every, WalkedAt, Tree, tree, Begun, begun-as, asks}
 
 -- ---- where it stands
 

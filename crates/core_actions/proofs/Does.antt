@@ -9,10 +9,10 @@ use Rattle.rules.specs.Refusals.{Res}
 use Rattle.rules.specs.Signature.{Sig}
 use Rattle.rules.specs.ToCoreActions.{Done, lowerAction}
 use Rattle.walks.specs.Steps.{Under, Counted}
-use Rattle.core_actions.specs.Scopes.{Scoped, Names}
+use Rattle.head_exprs.specs.Scopes.{Scoped, Names}
+use Rattle.head_exprs.proofs.Sites.{Site, Every, WalkedAt}
 use Rattle.core_actions.specs.Acts.{ActionAt, ChangeAt, changed, Gave, Acts, Signed}
 use Rattle.core_actions.specs.declared.actions.Acted.{Acted}
-use Rattle.core_actions.proofs.Sites.{Site, Every, WalkedAt}
 
 module _ (k : Site) where
   -- a signature under which X stands there, and which the words gs say

@@ -11,14 +11,13 @@ use Rattle.walks.specs.declared.Walk.{Walk}
 use Rattle.walks.proofs.Asks.{counted-kept}
 use Rattle.walks.proofs.Steps.{went}
 use Rattle.walks.proofs.Rows.{Going, going-start, going-room}
-use Rattle.core_actions.specs.Scopes.{Scoped, ScopeRoom, Names}
-use Rattle.core_actions.specs.Lowered.{donePiece}
-use Rattle.core_actions.specs.Acts.{ActionAt, ActionsAt, Acts, Gave, Signed}
-use Rattle.core_actions.specs.declared.scope.Scope.{Scope}
+use Rattle.head_exprs.specs.Scopes.{Scoped, ScopeRoom, Names}
+use Rattle.head_exprs.specs.declared.scope.Scope.{Scope}
+use Rattle.head_exprs.proofs.Sites.{Site, site-of, RoomAt, ScopeRoomAt}
+use Rattle.head_exprs.proofs.Expressions.{standing}
+use Rattle.core_actions.specs.Acts.{donePiece, ActionAt, ActionsAt, Acts, Gave, Signed}
 use Rattle.core_actions.specs.declared.actions.Acted.{Acted}
-use Rattle.core_actions.proofs.Sites.{Site, site-of, RoomAt, ScopeRoomAt}
 use Rattle.core_actions.proofs.Does.{KnownSigned, DoesAction}
-use Rattle.core_actions.proofs.Expressions.{standing}
 use Rattle.core_actions.proofs.ReadActions.{action-inside}
 use Rattle.core_actions.proofs.ActionRows.{having, acts-few, Left, left-all, left-none, first-action, left-stop, left-next, left-going}
 

@@ -17,14 +17,14 @@ use Rattle.walks.specs.Steps.{Piece, InAnswer, ExprAt}
 use Rattle.walks.specs.declared.Walk.{Walk}
 use Rattle.walks.proofs.Frames.{kept-none}
 use Rattle.walks.proofs.Steps.{stop, stored, Own, written}
-use Rattle.core_actions.specs.Scopes.{Scoped, ScopeFits}
-use Rattle.core_actions.specs.Lowered.{lowered}
+use Rattle.head_exprs.specs.Scopes.{Scoped, ScopeFits}
+use Rattle.head_exprs.specs.Lowered.{lowered}
+use Rattle.head_exprs.proofs.Scopes.{scope-let, scope-fits}
+use Rattle.head_exprs.proofs.Sites.{Site, Asks, Every, WalkedAt, Tree, tree, Begun, begun-as, asks}
 use Rattle.core_actions.specs.Acts.{LetAt, Gave, ScopeAfter}
 use Rattle.core_actions.specs.declared.actions.Acted.{Acted}
-use Rattle.core_actions.proofs.Scopes.{scope-let, scope-fits}
 use Rattle.core_actions.proofs.Pieces.{letPiece, done-let}
 use Rattle.core_actions.proofs.Does.{Does, second}
-use Rattle.core_actions.proofs.Sites.{Site, Asks, Every, WalkedAt, Tree, tree, Begun, begun-as, asks}
 use Rattle.core_actions.proofs.Acting.{ended, acts-stop, LowAt, Fine, is-fine}
 
 abbrev pub LetThere : Site → Sig → Type 0

@@ -17,14 +17,15 @@ use Rattle.walks.specs.declared.Walk.{Walk}
 use Rattle.walks.proofs.Frames.{kept-none}
 use Rattle.walks.proofs.Steps.{went, stop, walk-then, placed, pushed, stacked}
 use Rattle.walks.proofs.Read.{exprs-many, recount}
-use Rattle.core_actions.specs.Scopes.{Scoped, ScopeFits}
-use Rattle.core_actions.specs.Lowered.{lowered, loweredAll}
+use Rattle.head_exprs.specs.Scopes.{Scoped, ScopeFits}
+use Rattle.head_exprs.specs.Lowered.{lowered, loweredAll}
+use Rattle.head_exprs.proofs.Scopes.{scope-fits}
+use Rattle.head_exprs.proofs.Pieces.{lowered-leaf}
+use Rattle.head_exprs.proofs.Sites.{Site, Every, WalkedAt, Tree, tree, tree-as, Begun}
 use Rattle.core_actions.specs.Acts.{NameCallAt, Gave}
 use Rattle.core_actions.specs.declared.actions.Acted.{Acted}
-use Rattle.core_actions.proofs.Scopes.{scope-fits}
-use Rattle.core_actions.proofs.Pieces.{lowered-leaf, done-set, same-set}
+use Rattle.core_actions.proofs.Pieces.{done-set, same-set}
 use Rattle.core_actions.proofs.Does.{Does, second}
-use Rattle.core_actions.proofs.Sites.{Site, Every, WalkedAt, Tree, tree, tree-as, Begun}
 use Rattle.core_actions.proofs.Acting.{ended, acts-stop, acts-same, scope-after}
 use Rattle.core_actions.proofs.Changes.{Headed, Argued, Fine, Used, Termed, closing, closed-full, closed}
 

@@ -17,13 +17,13 @@ use Rattle.walks.specs.declared.Walk.{Walk}
 use Rattle.walks.proofs.Steps.{went, stop, walk-then, written}
 use Rattle.walks.proofs.Read.{moved}
 use Rattle.walks.proofs.Asks.{counted-kept, right-there}
-use Rattle.core_actions.specs.Scopes.{Scoped}
-use Rattle.core_actions.specs.Lowered.{lowered}
+use Rattle.head_exprs.specs.Scopes.{Scoped}
+use Rattle.head_exprs.specs.Lowered.{lowered}
+use Rattle.head_exprs.proofs.Sites.{Site, site-of, ScopeRoomAt, Asks, Every, WalkedAt, Tree, tree, Begun, begun-as, asks}
 use Rattle.core_actions.specs.Acts.{PairAt, Gave}
 use Rattle.core_actions.specs.declared.actions.Acted.{Acted}
 use Rattle.core_actions.proofs.Pieces.{unionPiece, done-union, same-union}
 use Rattle.core_actions.proofs.Does.{Does}
-use Rattle.core_actions.proofs.Sites.{Site, site-of, ScopeRoomAt, Asks, Every, WalkedAt, Tree, tree, Begun, begun-as, asks}
 use Rattle.core_actions.proofs.Acting.{ended, acts-stop, acts-same, scope-after, LowAt, Fine, is-fine}
 
 abbrev pub Pair : Site → Sig → Type 0

@@ -1,6 +1,6 @@
--- The pieces of lowering, clause by clause: each is the walks' own steps. Assumes nothing.
+-- The pieces of lowering actions, clause by clause: each is the walks' own steps. Assumes nothing.
 use mathlib.Core.Path.{_≡_, refl, sym, ap, _∙_}
-use mathlib.Core.Bool.{Bool, true, false}
+use mathlib.Core.Bool.{false}
 use mathlib.Core.List.{List, [], _∷_, _++_, append-assoc, append-nil}
 use mathlib.Core.Option.{none}
 use Prim.Native.Nat.{ℕ, _+_, _-_}
@@ -8,17 +8,17 @@ use native.Mathlib.Nat.{add-zero, zero-add, add-assoc}
 use native.Mathlib.Omega.{arith}
 use lib.ListN.{length, length-append}
 use Rattle.rules.specs.Words.{headWord, actionWord}
-use Rattle.rules.specs.Refusals.{Res, ok, refuse, _>>=_, demand, unbound}
+use Rattle.rules.specs.Refusals.{Res, ok, refuse, _>>=_}
 use Rattle.rules.specs.Signature.{Sig}
-use Rattle.rules.specs.Written.{Expr, Exprs, leaf, call, end, _then_, expr′}
-use Rattle.rules.specs.Flat.{CoreAction, Let, Set, Union, Call, actionWords, wordsOf}
+use Rattle.rules.specs.Written.{Expr, Exprs, end, _then_, expr′}
+use Rattle.rules.specs.Flat.{CoreAction, Let, Set, Union, actionWords, wordsOf}
 use Rattle.rules.specs.ToQuery.{Fresh, fresh}
-use Rattle.rules.specs.ToCoreActions.{readable, Low, Lows, Done, lowerExpr, lowerExprs, lowerSet, lowerChange, lowerUnion, lowerLet, lowerAction}
+use Rattle.rules.specs.ToCoreActions.{Low, Lows, Done, lowerExpr, lowerExprs, lowerSet, lowerChange, lowerUnion, lowerLet, lowerAction}
 use Rattle.walks.specs.Steps.{Piece, nothing, both, andThen}
-use Rattle.walks.proofs.Rows.{Rowed}
 use Rattle.walks.proofs.Words.{words-append, words-one}
-use Rattle.core_actions.specs.Lowered.{lowPiece, lowsPiece, donePiece, lowered, loweredAll}
-use Rattle.core_actions.specs.Acts.{changePiece, changed}
+use Rattle.head_exprs.specs.Lowered.{lowPiece, lowsPiece, lowered, loweredAll}
+use Rattle.head_exprs.proofs.Pieces.{ofLow, ofLows, lowered-row}
+use Rattle.core_actions.specs.Acts.{donePiece, changePiece, changed}
 
 -- ---- one behind another
 
@@ -71,75 +71,14 @@ letPiece x p = record { terms = []; words = p .words ++ actionWord 1 ∷ x ∷ p
 abbrev pub unionPiece : Piece → Piece
 unionPiece p = record { terms = []; words = p .words ++ actionWord 5 ∷ p .terms; count = p .count + 1; next = p .next }
 
--- a piece from what the definitions give
-abbrev ofLow : Low → Piece
-ofLow r = record { terms = r .term ∷ []; words = wordsOf actionWords (r .acts); count = length (r .acts); next = r .next }
-
-abbrev ofLows : Lows → Piece
-ofLows r = record { terms = r .terms; words = wordsOf actionWords (r .acts); count = length (r .acts); next = r .next }
-
 module _ (sig : Sig) (bound : List ℕ) where
-  -- ---- expressions
-
-  abbrev pub leafPiece : ℕ → List ℕ → Piece
-  leafPiece w cs = record { terms = w ∷ []; words = []; count = 0; next = cs }
-
-  pub lowered-leaf : (p w : ℕ) (cs : List ℕ) → lowered sig bound (leaf p w) cs ≡ demand (readable sig bound w) unbound p (leafPiece w cs)
-  unfolding lowered
-  lowered-leaf p w cs = go (readable sig bound w)
-    where
-      go : (b : Bool) → lowPiece (demand b unbound p (record { term = w; acts = []; next = cs })) ≡ demand b unbound p (leafPiece w cs)
-      go true = refl
-      go false = refl
-
-  -- action 7 behind a piece
-  abbrev pub callPiece : ℕ → Piece → Fresh → Piece
-  callPiece h p f =
-      record { terms = f .var ∷ []; words = p .words ++ actionWord 7 ∷ f .var ∷ headWord h (length (p .terms)) ∷ p .terms; count = p .count + 1; next = f .next }
-
-  pub lowered-call : (p h : ℕ) (es : Exprs) (cs : List ℕ)
-      → lowered sig bound (call p h es) cs ≡ _>>=_ (loweredAll sig bound es cs) (λ q. _>>=_ (fresh p h (q .next)) (λ f. ok (callPiece h q f)))
-  unfolding lowered loweredAll
-  lowered-call p h es cs = go (lowerExprs sig bound es cs)
-    where
-      last : (r : Lows) (y : Res Fresh)
-          → lowPiece (_>>=_ y (λ f. ok (record { term = f .var; acts = r .acts ++ Call (f .var) h (r .terms) ∷ []; next = f .next })))
-          ≡ _>>=_ y (λ f. ok (callPiece h (ofLows r) f))
-      last r (ok f) =
-          let x = Call (f .var) h (r .terms) in
-          λ i. ok (record { terms = f .var ∷ []; words = words-one actionWords (r .acts) x i; count = length-append (r .acts) (x ∷ []) i; next = f .next })
-      last r (refuse n q) = refl
-
-      go : (x : Res Lows)
-          → lowPiece (_>>=_ x (λ r. _>>=_ (fresh p h (r .next)) (λ f. ok (record { term = f .var; acts = r .acts ++ Call (f .var) h (r .terms) ∷ []; next = f .next }))))
-          ≡ _>>=_ (lowsPiece x) (λ q. _>>=_ (fresh p h (q .next)) (λ f. ok (callPiece h q f)))
-      go (ok r) = last r (fresh p h (r .next))
-      go (refuse n q) = refl
-
-  pub lowered-row : Rowed (lowered sig bound) (loweredAll sig bound)
-  unfolding lowered loweredAll
-  lowered-row = record { none = λ cs. refl; more = λ e es cs. go es (lowerExpr sig bound e cs) }
-    where
-      last : (r : Low) (y : Res Lows)
-          → lowsPiece (_>>=_ y (λ q. ok (record { terms = r .term ∷ q .terms; acts = r .acts ++ q .acts; next = q .next })))
-          ≡ _>>=_ (lowsPiece y) (λ q. ok (both (ofLow r) q))
-      last r (ok q) =
-          λ i. ok (record { terms = r .term ∷ q .terms; words = words-append actionWords (r .acts) (q .acts) i; count = length-append (r .acts) (q .acts) i; next = q .next })
-      last r (refuse n q) = refl
-
-      go : (es : Exprs) (x : Res Low)
-          → lowsPiece (_>>=_ x (λ r. _>>=_ (lowerExprs sig bound es (r .next)) (λ q. ok (record { terms = r .term ∷ q .terms; acts = r .acts ++ q .acts; next = q .next }))))
-          ≡ andThen (lowPiece x) (λ l. lowsPiece (lowerExprs sig bound es l))
-      go es (ok r) = last r (lowerExprs sig bound es (r .next))
-      go es (refuse n q) = refl
-
   pub lowered-snoc : (es : Exprs) (e : Expr) (cs : List ℕ) → loweredAll sig bound (snoc es e) cs ≡ andThen (loweredAll sig bound es cs) (lowered sig bound e)
   lowered-snoc end e cs =
-      lowered-row .more e end cs ∙ (λ i. andThen (lowered sig bound e cs) (λ l. lowered-row .none l i)) ∙ and-nothing (lowered sig bound e cs)
-      ∙ sym (ap (λ (x : Res Piece). andThen x (lowered sig bound e)) (lowered-row .none cs) ∙ nothing-and cs (lowered sig bound e))
+      lowered-row sig bound .more e end cs ∙ (λ i. andThen (lowered sig bound e cs) (λ l. lowered-row sig bound .none l i)) ∙ and-nothing (lowered sig bound e cs)
+      ∙ sym (ap (λ (x : Res Piece). andThen x (lowered sig bound e)) (lowered-row sig bound .none cs) ∙ nothing-and cs (lowered sig bound e))
   lowered-snoc (f then fs) e cs =
-      lowered-row .more f (snoc fs e) cs ∙ (λ i. andThen (lowered sig bound f cs) (λ l. lowered-snoc fs e l i))
-      ∙ sym (ap (λ (x : Res Piece). andThen x (lowered sig bound e)) (lowered-row .more f fs cs) ∙ and-assoc (lowered sig bound f cs) (loweredAll sig bound fs) (lowered sig bound e))
+      lowered-row sig bound .more f (snoc fs e) cs ∙ (λ i. andThen (lowered sig bound f cs) (λ l. lowered-snoc fs e l i))
+      ∙ sym (ap (λ (x : Res Piece). andThen x (lowered sig bound e)) (lowered-row sig bound .more f fs cs) ∙ and-assoc (lowered sig bound f cs) (loweredAll sig bound fs) (lowered sig bound e))
 
   -- ---- actions
 

@@ -10,12 +10,13 @@ use Rattle.rules.specs.Words.{maxDepth, literalBase, headBase, freshBase, signa
 use Rattle.rules.specs.Refusals.{Res, ok, refuse, _>>=_}
 use Rattle.rules.specs.Signature.{Sig, heads, isConstructor, isName}
 use Rattle.rules.specs.Written.{Expr, Exprs, leaf, call, readAction, readRow}
+use Rattle.rules.specs.Flat.{actionWords, wordsOf}
 use Rattle.rules.specs.ToQuery.{Fresh, fresh}
 use Rattle.rules.specs.ToCoreActions.{Done}
 use Rattle.walks.specs.Steps.{Piece, Walked, ReadAt, ExprAt, ExprsAt}
-use Rattle.core_actions.specs.Scopes.{Scoped, grown}
-use Rattle.core_actions.specs.Lowered.{donePiece, loweredAll}
-use Rattle.core_actions.specs.declared.scope.Scope.{Scope}
+use Rattle.head_exprs.specs.Scopes.{Scoped, grown}
+use Rattle.head_exprs.specs.Lowered.{loweredAll}
+use Rattle.head_exprs.specs.declared.scope.Scope.{Scope}
 use Rattle.core_actions.specs.declared.actions.Acted.{Acted}
 
 -- ---- where they stand; `at` is the place of the action word
@@ -50,6 +51,11 @@ pub record NameCallAt (sig : Sig) (ws : List ℕ) (at : ℕ) : Type 0 where
   pub exprs : ExprsAt sig ws (maxDepth - 1) (countOf (getD ws (at + 2) 0)) (at + 3)
 
 -- ---- what is left
+
+-- an action, or a row of them, has no term
+abbrev pub donePiece : Res Done → Res Piece
+donePiece (ok d) = ok (record { terms = []; words = wordsOf actionWords (d .acts); count = length (d .acts); next = d .next })
+donePiece (refuse n p) = refuse n p
 
 -- an action of n terms, the last `more` of which its kind 3 word does not count
 abbrev pub changePiece : (code more h : ℕ) → Piece → Fresh → Piece

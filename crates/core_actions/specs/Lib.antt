@@ -1,4 +1,2 @@
 -- What contracts of this crate, and of those above it, cite.
-pub mod Scopes
-pub mod Lowered
 pub mod Acts

@@ -1,10 +1,10 @@
 // The actions of the head, one by one. The names let so far lie at the bottom of the stack, so that the stack of an action starts where they
 // end. Each call below an action has used one counter and given one flat action, so that the log also counts the actions.
-use crate::exprs::lower;
-use crate::exprs::lower_arguments;
-use crate::scope::Scope;
-use crate::scope::may_read;
-use crate::scope::taken;
+use head_exprs::lower;
+use head_exprs::lower_arguments;
+use head_exprs::scope::Scope;
+use head_exprs::scope::may_read;
+use head_exprs::scope::taken;
 use walks::Walk;
 ghost use mathlib.Core.Path.{_≡_};
 ghost use mathlib.Core.List.{List};
@@ -17,7 +17,7 @@ ghost use Rattle.rules.specs.Signature.{Sig, elem};
 ghost use Rattle.rules.specs.Written.{leaf, panic′, expr′};
 ghost use Rattle.rules.specs.ToCoreActions.{lowerLet, lowerUnion, lowerSet, lowerAction};
 ghost use Rattle.walks.specs.Steps.{Walked, Room, Under, Counted, ExprAt};
-ghost use Rattle.core_actions.specs.Scopes.{Scoped, ScopeRoom, Names};
+ghost use Rattle.head_exprs.specs.Scopes.{Scoped, ScopeRoom, Names};
 ghost use Rattle.core_actions.specs.Acts.{LetAt, ChangeAt, PairAt, NameCallAt, changed, Gave, Acts};
 
 // The words of actions 1, 2, 5 and 6.

@@ -3,8 +3,6 @@
 //     written  (set (f (g x)) 1)      flat  (call @g.0 (g x)) (set (f @g.0) 1), and one count of f is used up
 //
 // The walks work in one scratch: actions go to `to`, terms of arguments onto the stack at `sp`, uses of counters to `log`.
-pub mod scope; // scope.rt: which names are bound
-pub mod exprs; // exprs.rt: expressions
 pub mod actions; // actions.rt: each action
 pub mod unions; // unions.rt: unions, and those that become sets
 
@@ -14,8 +12,8 @@ use crate::actions::lower_change;
 use crate::actions::lower_expression;
 use crate::actions::lower_let;
 use crate::actions::lower_panic;
-use crate::scope::Scope;
 use crate::unions::lower_union;
+use head_exprs::scope::Scope;
 use walks::Walk;
 ghost use mathlib.Core.Path.{_≡_};
 ghost use mathlib.Core.List.{List};
@@ -25,9 +23,8 @@ ghost use Rattle.octets.specs.Words.{words};
 ghost use Rattle.rules.specs.Signature.{Sig};
 ghost use Rattle.rules.specs.ToCoreActions.{lowerAction, toCoreActions};
 ghost use Rattle.walks.specs.Steps.{Walked, Room, Under, Counted};
-ghost use Rattle.core_actions.specs.Scopes.{Scoped, ScopeRoom, Names};
-ghost use Rattle.core_actions.specs.Lowered.{donePiece};
-ghost use Rattle.core_actions.specs.Acts.{ActionAt, ActionsAt, Acts, Gave, Signed};
+ghost use Rattle.head_exprs.specs.Scopes.{Scoped, ScopeRoom, Names};
+ghost use Rattle.core_actions.specs.Acts.{donePiece, ActionAt, ActionsAt, Acts, Gave, Signed};
 
 // A word that does not fit.
 const UNFIT: u32 = 5;

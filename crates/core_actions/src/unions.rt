@@ -4,7 +4,7 @@ use crate::actions::SET;
 use crate::actions::lower_change;
 use crate::actions::set_name;
 use crate::actions::unite;
-use crate::scope::Scope;
+use head_exprs::scope::Scope;
 ghost use mathlib.Core.Path.{_≡_};
 ghost use mathlib.Core.List.{List};
 ghost use Prim.Native.Nat.{ℕ, _+_, _<_, _≤_};
@@ -15,7 +15,7 @@ ghost use Rattle.rules.specs.Words.{limit12, maxDepth, headBase, signatureBase,
 ghost use Rattle.rules.specs.Signature.{Sig, heads};
 ghost use Rattle.rules.specs.ToCoreActions.{lowerUnion, unionAsSet};
 ghost use Rattle.walks.specs.Steps.{Room, Under, Counted, ExprAt};
-ghost use Rattle.core_actions.specs.Scopes.{Scoped, ScopeRoom, Names};
+ghost use Rattle.head_exprs.specs.Scopes.{Scoped, ScopeRoom, Names};
 ghost use Rattle.core_actions.specs.Acts.{PairAt, Acts, Signed, setMode, arityOf};
 
 // The word of a signature that says 1: the flag is on, a head is a constructor.

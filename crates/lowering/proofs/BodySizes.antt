@@ -20,7 +20,7 @@ use Rattle.walks.proofs.Read.{recount, leaf-cases, call-cases, first-cases, non
 use Rattle.walks.proofs.Words.{words-append, words-one}
 use Rattle.query.specs.Flattened.{FactAt, FactsAt}
 use Rattle.query.proofs.Facts.{fact-on, equal-cases, holds-cases}
-use Rattle.core_actions.proofs.Body.{Plain, PlainAll}
+use Rattle.head_exprs.proofs.Body.{Plain, PlainAll}
 
 plain-append : (xs ys : List Atom) → PlainAll xs → PlainAll ys → PlainAll (xs ++ ys)
 plain-append [] ys a b = b

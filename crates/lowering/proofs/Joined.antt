@@ -23,12 +23,11 @@ use Rattle.walks.proofs.Frames.{kept-wide, kept-then, restored}
 use Rattle.walks.proofs.Steps.{Went, went}
 use Rattle.walks.proofs.Read.{moved}
 use Rattle.query.specs.Flattened.{queryPiece, query, FactsAt}
-use Rattle.core_actions.specs.Scopes.{Scoped, ScopeRoom, Names}
-use Rattle.core_actions.specs.Lowered.{donePiece}
-use Rattle.core_actions.specs.Acts.{ActionsAt, Gave}
-use Rattle.core_actions.specs.declared.scope.Scope.{Scope}
+use Rattle.head_exprs.specs.Scopes.{Scoped, ScopeRoom, Names}
+use Rattle.head_exprs.specs.declared.scope.Scope.{Scope}
+use Rattle.head_exprs.proofs.Body.{scope-first}
+use Rattle.core_actions.specs.Acts.{ActionsAt, donePiece, Gave}
 use Rattle.core_actions.specs.declared.actions.Acted.{Acted}
-use Rattle.core_actions.proofs.Body.{scope-first}
 use Rattle.lowering.specs.Lowered.{Good, Lowers}
 use Rattle.lowering.specs.declared.Lowering.{Lowering}
 use Rattle.lowering.proofs.SignatureWords.{SignatureWords, signature-words}

@@ -2,7 +2,7 @@
 -- Assumes nothing.
 use native.Mathlib.Omega.{arith}
 use Rattle.octets.specs.Words.{words}
-use Rattle.core_actions.proofs.Sites.{Site, site-of}
+use Rattle.head_exprs.proofs.Sites.{Site, site-of}
 use Rattle.core_actions.proofs.ReadActions.{action-inside}
 use Rattle.core_actions.proofs.ByCode.{Coded, coded, let-asks, let-done, set-asks, set-done, delete-asks, delete-done, subsume-asks, subsume-done}
 use Rattle.core_actions.proofs.ByCode.{union-asks, union-done, panic-asks, panic-done, expression-asks, expression-done, no-code}

@@ -5,7 +5,7 @@ use Rattle.octets.specs.Words.{words}
 use Rattle.octets.proofs.Words.{length-words, length-words-kept}
 use Rattle.rules.specs.Words.{maxDepth}
 use Rattle.walks.specs.Steps.{ExprAt}
-use Rattle.core_actions.proofs.Sites.{Site, site-of, Begun, begun, asks}
+use Rattle.head_exprs.proofs.Sites.{Site, site-of, Begun, begun, asks}
 use Rattle.core_actions.proofs.Acting.{LowAt, expression-logged, expression-done}
 use borrow.Author.Needs.{needs}
 use Rattle.core_actions.proofs.actions.lower_expression.Statement.{statement}

@@ -6,7 +6,7 @@ use native.Mathlib.Omega.{arith}
 use lib.ListN.{length, getD}
 use Rattle.octets.specs.Words.{words}
 use Rattle.octets.proofs.Words.{length-words, length-words-kept}
-use Rattle.core_actions.proofs.Sites.{Site, site-of, begun}
+use Rattle.head_exprs.proofs.Sites.{Site, site-of, begun}
 use Rattle.core_actions.proofs.Acting.{LowAt, Fine}
 use Rattle.core_actions.proofs.Lets.{Letting, name-asks, expr-asks, let-twice, Free, is-free, let-refused, let-fine, let-done}
 use borrow.Author.Needs.{needs}

@@ -5,7 +5,7 @@ use native.Mathlib.Omega.{arith}
 use lib.ListN.{getD}
 use Rattle.octets.specs.Words.{words}
 use Rattle.octets.proofs.Words.{length-words}
-use Rattle.core_actions.proofs.Sites.{Site, site-of}
+use Rattle.head_exprs.proofs.Sites.{Site, site-of}
 use Rattle.core_actions.proofs.Acting.{Panics, panic-done}
 use borrow.Author.Needs.{needs}
 use Rattle.core_actions.proofs.actions.lower_panic.Statement.{statement}

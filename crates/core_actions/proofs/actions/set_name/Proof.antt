@@ -7,8 +7,8 @@ use lib.ListN.{length, getD}
 use Rattle.octets.specs.Words.{words}
 use Rattle.octets.proofs.Words.{length-words, length-words-kept}
 use Rattle.rules.specs.Words.{maxDepth, countOf}
+use Rattle.head_exprs.proofs.Sites.{Site, site-of, begun, begun-as}
 use Rattle.core_actions.specs.Acts.{NameCallAt}
-use Rattle.core_actions.proofs.Sites.{Site, site-of, begun, begun-as}
 use Rattle.core_actions.proofs.Changes.{exprs-ask, Argued, argued, Fine, is-fine}
 use Rattle.core_actions.proofs.NameSets.{name-call-at, Naming, args-refused, name-asks, name-refused, Counting, counting, used-up, set-done}
 use borrow.Author.Needs.{needs}

@@ -6,7 +6,7 @@ use native.Mathlib.Omega.{arith}
 use lib.ListN.{length}
 use Rattle.octets.specs.Words.{words}
 use Rattle.octets.proofs.Words.{length-words, length-words-kept}
-use Rattle.core_actions.proofs.Sites.{Site, site-of, Begun, begun}
+use Rattle.head_exprs.proofs.Sites.{Site, site-of, Begun, begun}
 use Rattle.core_actions.proofs.Acting.{LowAt, Fine}
 use Rattle.core_actions.proofs.Pairs.{Pair, left-asks, left-refused, LeftDone, behind, right-asks, right-refused, both-fine, union-done}
 use borrow.Author.Needs.{needs}

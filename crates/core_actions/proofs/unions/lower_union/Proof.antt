@@ -2,7 +2,7 @@
 -- Assumes nothing.
 use native.Mathlib.Omega.{arith}
 use Rattle.octets.specs.Words.{words}
-use Rattle.core_actions.proofs.Sites.{Site, site-of}
+use Rattle.head_exprs.proofs.Sites.{Site, site-of}
 use Rattle.core_actions.proofs.UnionAsSet.{Moded, left-asks, left-done, right-asks, right-done, stays-asks, stays-done}
 use borrow.Author.Needs.{needs}
 use Rattle.core_actions.proofs.unions.lower_union.Statement.{statement}

@@ -6,7 +6,7 @@ ghost use Rattle.octets.specs.Words.{words};
 ghost use Rattle.rules.specs.Words.{freshBase};
 ghost use Rattle.rules.specs.Signature.{Sig, elem};
 ghost use Rattle.rules.specs.ToCoreActions.{readable};
-ghost use Rattle.core_actions.specs.Scopes.{inScope, Scoped, ScopeFits};
+ghost use Rattle.head_exprs.specs.Scopes.{inScope, Scoped, ScopeFits};
 
 // Names below `globals` are globals. The body's words are the first `body` of the scratch; the `names` words from `first` on are let.
 pub struct Scope {

@@ -20,12 +20,12 @@ use Rattle.walks.proofs.LeavesUpTo.{Leaf, leaves-most, leaves-each}
 use Rattle.walks.proofs.Log.{undone-none}
 use Rattle.walks.proofs.Read.{exprs-many}
 use Rattle.walks.proofs.Rows.{Rowed, Left, left-all, left-next}
-use Rattle.core_actions.specs.Scopes.{Scoped}
-use Rattle.core_actions.specs.Lowered.{lowered, loweredAll}
-use Rattle.core_actions.proofs.Scopes.{scoped-kept, reads-low}
-use Rattle.core_actions.proofs.Pieces.{lowered-row}
-use Rattle.core_actions.proofs.Expressions.{standing, read-way}
-use Rattle.core_actions.proofs.Sites.{Site, site-of, Asks, Every, WalkedAt, Tree, Begun}
+use Rattle.head_exprs.specs.Scopes.{Scoped}
+use Rattle.head_exprs.specs.Lowered.{lowered, loweredAll}
+use Rattle.head_exprs.proofs.Scopes.{scoped-kept, reads-low}
+use Rattle.head_exprs.proofs.Pieces.{lowered-row}
+use Rattle.head_exprs.proofs.Expressions.{standing, read-way}
+use Rattle.head_exprs.proofs.Sites.{Site, site-of, Asks, Every, WalkedAt, Tree, Begun}
 
 -- words go onto the stack, and nothing else is done
 kept-stack : (to te sp se lg le : ℕ) (xs s cs s′ : List ℕ) → to ≤ sp → sp + length xs ≤ se → sp + length xs ≤ length s → lg ≤ le

@@ -1,4 +1,4 @@
--- 01, "Lowering the head": what the definitions of `to_core_actions` give, as pieces that a walk makes.
+-- 01, "Lowering the head": what the definitions give of its expressions, as pieces that a walk makes.
 -- Assumes nothing: these are definitions.
 use mathlib.Core.List.{List, [], _∷_}
 use Prim.Native.Nat.{ℕ}
@@ -7,7 +7,7 @@ use Rattle.rules.specs.Refusals.{Res, ok, refuse}
 use Rattle.rules.specs.Signature.{Sig}
 use Rattle.rules.specs.Written.{Expr, Exprs}
 use Rattle.rules.specs.Flat.{actionWords, wordsOf}
-use Rattle.rules.specs.ToCoreActions.{Low, Lows, Done, lowerExpr, lowerExprs}
+use Rattle.rules.specs.ToCoreActions.{Low, Lows, lowerExpr, lowerExprs}
 use Rattle.walks.specs.Steps.{Piece}
 
 abbrev pub lowPiece : Res Low → Res Piece
@@ -17,11 +17,6 @@ lowPiece (refuse n p) = refuse n p
 abbrev pub lowsPiece : Res Lows → Res Piece
 lowsPiece (ok f) = ok (record { terms = f .terms; words = wordsOf actionWords (f .acts); count = length (f .acts); next = f .next })
 lowsPiece (refuse n p) = refuse n p
-
--- an action, or a row of them, has no term
-abbrev pub donePiece : Res Done → Res Piece
-donePiece (ok d) = ok (record { terms = []; words = wordsOf actionWords (d .acts); count = length (d .acts); next = d .next })
-donePiece (refuse n p) = refuse n p
 
 unfoldable pub lowered : Sig → List ℕ → Expr → List ℕ → Res Piece
 lowered sig bound e cs = lowPiece (lowerExpr sig bound e cs)

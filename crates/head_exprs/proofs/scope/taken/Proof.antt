@@ -4,8 +4,8 @@ use Rattle.octets.specs.Regions.{part}
 use Rattle.octets.specs.Words.{words}
 use Rattle.meaning.proofs.Lists.{in-elem}
 use borrow.Author.Needs.{needs}
-use Rattle.core_actions.proofs.scope.taken.Statement.{statement}
-use Rattle.core_actions.proofs.scope.taken.Tie as tie
+use Rattle.head_exprs.proofs.scope.taken.Statement.{statement}
+use Rattle.head_exprs.proofs.scope.taken.Tie as tie
 
 add-if1 : tie.Need-add-if1
 add-if1 c = search needs

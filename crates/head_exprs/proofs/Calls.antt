@@ -20,9 +20,9 @@ use Rattle.walks.proofs.Asks.{expr-inside, CallFacts, call-facts}
 use Rattle.walks.proofs.Steps.{went, stop, Own, full-last, last-done}
 use Rattle.walks.proofs.Read.{call-cases, exprs-many}
 use Rattle.walks.proofs.Words.{head-word}
-use Rattle.core_actions.specs.Lowered.{lowered, loweredAll}
-use Rattle.core_actions.proofs.Pieces.{callPiece, lowered-call}
-use Rattle.core_actions.proofs.Expressions.{standing, none-way, read-way, unbound-way}
+use Rattle.head_exprs.specs.Lowered.{lowered, loweredAll}
+use Rattle.head_exprs.proofs.Pieces.{callPiece, lowered-call}
+use Rattle.head_exprs.proofs.Expressions.{standing, none-way, read-way, unbound-way}
 
 -- the expression: the words, where it stands and where its walk writes, how deep it may be, and its word w
 pub record Place : Type 0 where

@@ -1,10 +1,10 @@
 -- Whether a variable is bound: the two searches, one behind the other, are the two alternatives of `inScope`. Assumes nothing.
 use mathlib.Core.Path.{sym, _∙_}
 use Rattle.octets.specs.Words.{words}
-use Rattle.core_actions.proofs.Scopes.{in-body, in-names}
+use Rattle.head_exprs.proofs.Scopes.{in-body, in-names}
 use borrow.Author.Needs.{needs}
-use Rattle.core_actions.proofs.scope.has.Statement.{statement}
-use Rattle.core_actions.proofs.scope.has.Tie as tie
+use Rattle.head_exprs.proofs.scope.has.Statement.{statement}
+use Rattle.head_exprs.proofs.scope.has.Tie as tie
 
 among-requires : tie.Need-among-requires
 among-requires c κs = search needs

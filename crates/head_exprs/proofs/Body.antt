@@ -13,8 +13,8 @@ use Rattle.rules.specs.Signature.{Sig, elem, isVar}
 use Rattle.rules.specs.Flat.{Atom, eqn, tab, atomWords, wordsOf}
 use Rattle.rules.specs.ToQuery.{varsOf, termsOf, bodyVars}
 use Rattle.meaning.proofs.DistinctWords.{elem-append}
-use Rattle.core_actions.specs.Scopes.{inScope, Scoped}
-use Rattle.core_actions.proofs.Scopes.{is-var, is-not-var}
+use Rattle.head_exprs.specs.Scopes.{inScope, Scoped}
+use Rattle.head_exprs.proofs.Scopes.{is-var, is-not-var}
 
 -- a variable is among the variables of a list of terms where it is among the terms
 elem-vars : (sig : Sig) (w : ℕ) (ts : List ℕ) → isVar sig w ≡ true → elem w (varsOf sig ts) ≡ elem w ts

@@ -1,10 +1,10 @@
 -- Whether a leaf may be read: a word below the first variable always may, and any other where the scope has it. Assumes nothing.
 use mathlib.Core.Path.{_∙_}
 use Rattle.octets.specs.Words.{words}
-use Rattle.core_actions.proofs.Scopes.{reads-low, reads-high}
+use Rattle.head_exprs.proofs.Scopes.{reads-low, reads-high}
 use borrow.Author.Needs.{needs}
-use Rattle.core_actions.proofs.scope.may_read.Statement.{statement}
-use Rattle.core_actions.proofs.scope.may_read.Tie as tie
+use Rattle.head_exprs.proofs.scope.may_read.Statement.{statement}
+use Rattle.head_exprs.proofs.scope.may_read.Tie as tie
 
 add-if1 : tie.Need-add-if1
 add-if1 c = search needs

@@ -15,8 +15,8 @@ use Rattle.rules.specs.ToCoreActions.{readable}
 use Rattle.meaning.proofs.DistinctWords.{elem-append}
 use Rattle.meaning.proofs.Lists.{in-elem}
 use Rattle.walks.specs.Steps.{Kept, Room}
-use Rattle.core_actions.specs.Scopes.{inScope, grown, ScopeFits, Scoped, ScopeRoom}
-use Rattle.core_actions.specs.declared.scope.Scope.{Scope}
+use Rattle.head_exprs.specs.Scopes.{inScope, grown, ScopeFits, Scoped, ScopeRoom}
+use Rattle.head_exprs.specs.declared.scope.Scope.{Scope}
 
 -- what the two searches say
 pub in-body : (s : List ℕ) (c : Scope) (w : ℕ) → isIn w (part s 0 (c .body)) ≡ true → inScope s c w ≡ true

@@ -3,11 +3,11 @@
 use native.Mathlib.Omega.{arith}
 use Rattle.octets.specs.Words.{words}
 use Rattle.octets.proofs.Words.{length-words, length-words-kept}
-use Rattle.core_actions.proofs.Sites.{Site, site-of, Begun, begun, tree}
-use Rattle.core_actions.proofs.Fronts.{Row, front-room, Stacked, stacked, rest-asks, row-walked}
+use Rattle.head_exprs.proofs.Sites.{Site, site-of, Begun, begun, tree}
+use Rattle.head_exprs.proofs.Fronts.{Row, front-room, Stacked, stacked, rest-asks, row-walked}
 use borrow.Author.Needs.{needs}
-use Rattle.core_actions.proofs.exprs.lower_arguments.Statement.{statement}
-use Rattle.core_actions.proofs.exprs.lower_arguments.Tie as tie
+use Rattle.head_exprs.proofs.lower_arguments.Statement.{statement}
+use Rattle.head_exprs.proofs.lower_arguments.Tie as tie
 
 abbrev site : tie.Start → Site
 site c = let a = c .args in site-of (words (a .rule .now)) (words (a .scratch .now)) (words (a .counters .now)) (a .at) (a .to) (a .sp) (a .log) (a .scope)

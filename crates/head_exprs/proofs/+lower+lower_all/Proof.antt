@@ -8,30 +8,30 @@ use lib.ListN.{length, getD}
 use Rattle.octets.specs.Words.{words}
 use Rattle.octets.proofs.Words.{length-words, length-words-kept}
 use Rattle.rules.specs.Signature.{Sig}
-use Rattle.core_actions.specs.Scopes.{Scoped}
-use Rattle.core_actions.proofs.Scopes.{scope-fits}
-use Rattle.core_actions.proofs.Sites.{site-of, begun}
-use Rattle.core_actions.proofs.Expressions.{scope-in}
-use Rattle.core_actions.proofs.Arguments.{Row, row-start, row-done, on, top-inside, top-fits, next-asks, row-stop, row-next}
-use Rattle.core_actions.proofs.Calls.{Place, place, Begun, word-inside, args-room, leaf-read, leaf-unbound, Called, called, Argued, args-refused}
-use Rattle.core_actions.proofs.Calls.{Fine, is-fine, Used, used-up, call-done}
+use Rattle.head_exprs.specs.Scopes.{Scoped}
+use Rattle.head_exprs.proofs.Scopes.{scope-fits}
+use Rattle.head_exprs.proofs.Sites.{site-of, begun}
+use Rattle.head_exprs.proofs.Expressions.{scope-in}
+use Rattle.head_exprs.proofs.Arguments.{Row, row-start, row-done, on, top-inside, top-fits, next-asks, row-stop, row-next}
+use Rattle.head_exprs.proofs.Calls.{Place, place, Begun, word-inside, args-room, leaf-read, leaf-unbound, Called, called, Argued, args-refused}
+use Rattle.head_exprs.proofs.Calls.{Fine, is-fine, Used, used-up, call-done}
 use borrow.Author.Needs.{needs}
 use borrow.Fn.Kinds.{In, Out}
 use borrow.Fn.PlainCycle.{Measures, is, falls, and}
-use Rattle.core_actions.proofs.exprs.lower.Reads as lower
-use Rattle.core_actions.proofs.exprs.lower.Kinds as lower-kinds
-use Rattle.core_actions.proofs.exprs.+lower+lower_all.Lts-lower as lower-lts
-use Rattle.core_actions.proofs.exprs.lower_all.Reads as lower-all
-use Rattle.core_actions.proofs.exprs.lower_all.Kinds as lower-all-kinds
-use Rattle.core_actions.proofs.exprs.+lower+lower_all.Lts-lower_all as lower-all-lts
-use Rattle.core_actions.proofs.exprs.lower_bare.Reads as lower-bare-reads
-use Rattle.core_actions.proofs.scope.may_read.Reads as may-read-reads
+use Rattle.head_exprs.proofs.lower.Reads as lower
+use Rattle.head_exprs.proofs.lower.Kinds as lower-kinds
+use Rattle.head_exprs.proofs.+lower+lower_all.Lts-lower as lower-lts
+use Rattle.head_exprs.proofs.lower_all.Reads as lower-all
+use Rattle.head_exprs.proofs.lower_all.Kinds as lower-all-kinds
+use Rattle.head_exprs.proofs.+lower+lower_all.Lts-lower_all as lower-all-lts
+use Rattle.head_exprs.proofs.lower_bare.Reads as lower-bare-reads
+use Rattle.head_exprs.proofs.scope.may_read.Reads as may-read-reads
 use Rattle.octets.proofs.get.Reads as get-reads
 use Rattle.octets.proofs.put.Reads as put-reads
 use Rattle.octets.proofs.rows.put_call.Reads as put-call-reads
 use Rattle.walks.proofs.take.Reads as take-reads
-use Rattle.core_actions.proofs.exprs.+lower+lower_all.{statement}
-use Rattle.core_actions.proofs.exprs.+lower+lower_all.Tie.{close}
+use Rattle.head_exprs.proofs.+lower+lower_all.{statement}
+use Rattle.head_exprs.proofs.+lower+lower_all.Tie.{close}
 
 abbrev μ-lower : Measures 3 lower-kinds.ps ℕ
 μ-lower κs a = length (words (a .0 .now)) - a .1 .0 + 2 * a .1 .1 .0

@@ -10,11 +10,11 @@ use Rattle.walks.specs.declared.Walk.{Walk}
 use Rattle.walks.proofs.Asks.{counted-kept, first-at}
 use Rattle.walks.proofs.Rows.{Going, going-start, Left, left-all, left-none, left-stop, left-next, left-going}
 use Rattle.walks.proofs.Turns.{Turn, turn}
-use Rattle.core_actions.specs.Scopes.{Scoped}
-use Rattle.core_actions.specs.Lowered.{lowered, loweredAll}
-use Rattle.core_actions.proofs.Sites.{Site, site-of, Every, WalkedAt, Asks, Tree, tree, Begun}
-use Rattle.core_actions.proofs.Pieces.{lowered-row}
-use Rattle.core_actions.proofs.Expressions.{standing, scope-room, scope-going}
+use Rattle.head_exprs.specs.Scopes.{Scoped}
+use Rattle.head_exprs.specs.Lowered.{lowered, loweredAll}
+use Rattle.head_exprs.proofs.Sites.{Site, site-of, Every, WalkedAt, Asks, Tree, tree, Begun}
+use Rattle.head_exprs.proofs.Pieces.{lowered-row}
+use Rattle.head_exprs.proofs.Expressions.{standing, scope-room, scope-going}
 
 -- n expressions, at most d deep
 abbrev pub Exprs-at : Site → ℕ → ℕ → Sig → Type 0

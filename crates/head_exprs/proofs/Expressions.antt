@@ -14,11 +14,11 @@ use Rattle.walks.specs.declared.Walk.{Walk}
 use Rattle.walks.proofs.Frames.{kept-none}
 use Rattle.walks.proofs.Read.{leaf-cases}
 use Rattle.walks.proofs.Rows.{Going, left-all, left-none}
-use Rattle.core_actions.specs.Scopes.{Scoped, ScopeRoom}
-use Rattle.core_actions.specs.Lowered.{lowered, loweredAll}
-use Rattle.core_actions.specs.declared.scope.Scope.{Scope}
-use Rattle.core_actions.proofs.Scopes.{scoped-kept}
-use Rattle.core_actions.proofs.Pieces.{leafPiece, lowered-leaf, lowered-row}
+use Rattle.head_exprs.specs.Scopes.{Scoped, ScopeRoom}
+use Rattle.head_exprs.specs.Lowered.{lowered, loweredAll}
+use Rattle.head_exprs.specs.declared.scope.Scope.{Scope}
+use Rattle.head_exprs.proofs.Scopes.{scoped-kept}
+use Rattle.head_exprs.proofs.Pieces.{leafPiece, lowered-leaf, lowered-row}
 
 -- ---- the scope on the way through a row
 

@@ -8,8 +8,8 @@ use Rattle.rules.specs.Refusals.{Res}
 use Rattle.rules.specs.Signature.{Sig}
 use Rattle.walks.specs.Steps.{Piece, Walked, Room, Under, Counted}
 use Rattle.walks.specs.declared.Walk.{Walk}
-use Rattle.core_actions.specs.Scopes.{Scoped, ScopeRoom, Names}
-use Rattle.core_actions.specs.declared.scope.Scope.{Scope}
+use Rattle.head_exprs.specs.Scopes.{Scoped, ScopeRoom, Names}
+use Rattle.head_exprs.specs.declared.scope.Scope.{Scope}
 
 -- the words of the rule, of the scratch and of the counters; a place in the rule; where words, stack and log go on; and the names in scope
 pub record Site : Type 0 where

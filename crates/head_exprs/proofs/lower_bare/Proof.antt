@@ -7,10 +7,10 @@ use native.Mathlib.Omega.{arith}
 use Rattle.octets.specs.Words.{words}
 use Rattle.octets.proofs.Words.{length-words, length-words-kept}
 use Rattle.rules.specs.Signature.{Sig}
-use Rattle.core_actions.proofs.Calls.{Place, place, Begun, Called, called, bare, Fine, is-fine, Used, used-up, bare-done}
+use Rattle.head_exprs.proofs.Calls.{Place, place, Begun, Called, called, bare, Fine, is-fine, Used, used-up, bare-done}
 use borrow.Author.Needs.{needs}
-use Rattle.core_actions.proofs.exprs.lower_bare.Statement.{statement}
-use Rattle.core_actions.proofs.exprs.lower_bare.Tie as tie
+use Rattle.head_exprs.proofs.lower_bare.Statement.{statement}
+use Rattle.head_exprs.proofs.lower_bare.Tie as tie
 
 -- ---- what is known, place by place
 

@@ -8,7 +8,7 @@ use lib.ListN.{length}
 use Rattle.octets.specs.Regions.{part}
 use Rattle.rules.specs.Words.{limit12, nameBase, freshBase}
 use Rattle.rules.specs.Signature.{Sig, elem}
-use Rattle.core_actions.specs.declared.scope.Scope.{Scope}
+use Rattle.head_exprs.specs.declared.scope.Scope.{Scope}
 
 unfoldable pub inScope : List ℕ → Scope → ℕ → Bool
 inScope s c w = elem w (part s 0 (c .body)) || elem w (part s (c .first) (c .names))

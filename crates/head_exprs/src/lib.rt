@@ -1,4 +1,10 @@
 // Expressions of the head. A name must be bound or global; a call takes its fresh variable after its arguments, and becomes action 7.
+//
+//     written  (f (g x) 1)      flat  (call @g.0 (g x)) (call @f.0 (f @g.0 1)), and the term @f.0
+//
+// The walks work in one scratch: actions go to `to`, terms of arguments onto the stack at `sp`, uses of counters to `log`.
+pub mod scope; // scope.rt: which names are bound
+
 use crate::scope::Scope;
 use crate::scope::may_read;
 use walks::Walk;
@@ -10,8 +16,8 @@ ghost use Rattle.octets.specs.Words.{words};
 ghost use Rattle.rules.specs.Words.{literalBase, countOf};
 ghost use Rattle.rules.specs.Signature.{Sig};
 ghost use Rattle.walks.specs.Steps.{Walked, InAnswer, OnStack, Room, Under, Counted, ExprAt, ExprsAt};
-ghost use Rattle.core_actions.specs.Scopes.{Scoped, ScopeRoom, Names};
-ghost use Rattle.core_actions.specs.Lowered.{lowered, loweredAll};
+ghost use Rattle.head_exprs.specs.Scopes.{Scoped, ScopeRoom, Names};
+ghost use Rattle.head_exprs.specs.Lowered.{lowered, loweredAll};
 
 // Action 7: a call whose answer is bound.
 const CALL: u32 = 0x0200_0007;

@@ -1,0 +1,3 @@
+-- What contracts of this crate, and of those above it, cite.
+pub mod Scopes
+pub mod Lowered
