@@ -23,8 +23,8 @@ use Rattle.meaning.proofs.Numbers.{lower-numbers}
 use Rattle.meaning.proofs.Results.{bind-ok}
 use Rattle.meaning.proofs.Demand3Bytes.{lowered-words}
 use Rattle.lines.proofs.SignatureLengths.{length-most}
-use Rattle.tulgarent.specs.declared.Answer.{Answer}
-use Rattle.tulgarent.specs.Answers.{answerOf, GivesBoth}
+use Rattle.answers.specs.declared.Answer.{Answer}
+use Rattle.answers.specs.Answers.{answerOf, GivesBoth}
 use Rattle.lower.specs.Answers.{Tells}
 use Rattle.lower.specs.Room.{Zeros}
 use Rattle.lower.proofs.Cutting.{signature-cut, rule-cut, zeros-words}

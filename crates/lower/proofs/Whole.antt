@@ -17,7 +17,7 @@ use Rattle.lines.specs.Printing.{Wrote, accepted}
 use Rattle.lines.proofs.Answers.{words-read, line-refused}
 use Rattle.lines.proofs.Enough.{program-enough}
 use Rattle.lines.proofs.Texts.{wrote-same, printed-accepted}
-use Rattle.tulgarent.specs.declared.Answer.{Answer}
+use Rattle.answers.specs.declared.Answer.{Answer}
 use Rattle.lower.specs.Answers.{Tells}
 
 -- what is printed, once the lines are read: n bytes of it turned l into m

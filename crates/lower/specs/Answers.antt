@@ -6,7 +6,7 @@ use lib.ListN.{length}
 use Rattle.octets.specs.Regions.{part}
 use Rattle.rules.specs.Refusals.{Res, ok, refuse}
 use Rattle.rules.specs.Calls.{Result}
-use Rattle.tulgarent.specs.declared.Answer.{Answer}
+use Rattle.answers.specs.declared.Answer.{Answer}
 
 -- number 0: the result's words are the first of the output
 pub record TellsResult (o : Result) (r : Answer) (output : List ℕ) : Type 0 where

@@ -3,7 +3,7 @@
 // All but reading and writing is `print_program`, a function from the bytes read to the bytes printed, with the definition of both as its contract.
 // What `main` adds is not in a contract, since those of reading and writing speak of counts alone: it reads until its room is full or the input ends, lends the
 // room for the work, and writes the bytes that it is told of. A read that fails counts as the input's end, and a write that fails is not told.
-use tulgarent::Answer;
+use answers::Answer;
 ghost use mathlib.Core.Path.{_≡_};
 ghost use Prim.Native.Nat.{_*_, _≤_, min};
 ghost use lib.ListN.{length};
@@ -71,7 +71,7 @@ fn lower_words(
 {
     let signature = lines::reading::signature_length(given, count);
     let cut = 4 * least(signature, count);
-    tulgarent::lower::tulgarent_lower(
+    tulgarent::tulgarent_lower(
         &given[..cut],
         &given[cut..4 * count],
         &mut counters[..4 * signature],

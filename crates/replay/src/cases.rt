@@ -2,7 +2,7 @@
 ghost use Prim.Native.Nat.{_+_, _*_, _<_, _≤_};
 ghost use lib.ListN.{length};
 ghost use Rattle.replay.specs.Cases.{Small, Laid, word};
-use tulgarent::Answer;
+use answers::Answer;
 
 // The bytes in front of a case's slices: the call, five lengths, and an answer's five numbers, a word each.
 pub const FRONT: usize = 44;

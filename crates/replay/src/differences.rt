@@ -1,7 +1,7 @@
 // What differs between the answer that a case expects and what a call gave. Each function prints a line for what it finds, and answers how many lines.
 ghost use Prim.Native.Nat.{_≤_};
 ghost use lib.ListN.{length};
-use tulgarent::Answer;
+use answers::Answer;
 
 // Where `io` prints.
 const STANDARD_OUTPUT: i32 = 1;

@@ -11,10 +11,10 @@ ghost use lib.ListN.{length};
 ghost use mathlib.Core.Path.{_≡_};
 ghost use Rattle.io.specs.Counts.{Counts};
 ghost use Rattle.replay.specs.Cases.{Called, Compares, Runs};
+use answers::Answer;
 use cases::FRONT;
 use cases::Lent;
 use cases::Places;
-use tulgarent::Answer;
 
 // Where `io` reads and prints.
 const STANDARD_INPUT: i32 = 0;
@@ -168,10 +168,10 @@ fn call_named(
     scratch: &mut [u8],
 ) -> Answer {
     if call == LOWER {
-        return tulgarent::lower::tulgarent_lower(signature, rule, counters, output, scratch);
+        return tulgarent::tulgarent_lower(signature, rule, counters, output, scratch);
     }
     if call == SETTLE {
-        return tulgarent::settle::tulgarent_settle(signature, rule, output, scratch);
+        return tulgarent::tulgarent_settle(signature, rule, output, scratch);
     }
     tulgarent::tulgarent_free_vars(signature, rule, output)
 }

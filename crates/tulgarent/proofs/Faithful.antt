@@ -1,23 +1,14 @@
--- The contract of `tulgarent_lower` and demand 3 joined: whatever bytes it answers with number 0 are a lowered rule that is faithful to the written one.
+-- The contract of `tulgarent_lower` and demand 3 joined: the contract says that answer and output are the definition's, and of these demand 3 speaks.
 -- Assumes nothing beyond what demand 3 supposes.
-use Prim.Native.Nat.{ℕ, _*_}
-use mathlib.Core.Path.{_≡_, sym, _∙_, ap, subst}
+use Prim.Native.Nat.{ℕ}
+use mathlib.Core.Path.{sym, _∙_, ap, subst}
 use mathlib.Core.List.{List}
-use lib.ListN.{take}
-use Rattle.octets.specs.Words.{words}
 use Rattle.rules.specs.Calls.{lower}
-use Rattle.meaning.specs.Demand3.{CarriedFaithfully}
 use Rattle.meaning.proofs.Demand3Bytes.{demand3-bytes}
-use Rattle.tulgarent.specs.declared.Answer.{Answer}
-use Rattle.tulgarent.specs.Answers.{GivesBoth}
+use Rattle.answers.specs.declared.Answer.{Answer}
+use Rattle.tulgarent.specs.Faithful.{Carried, LoweredFaithful}
 
--- the first n words of the output l are a lowered rule, faithful to the written one, with so many replacements
-abbrev Carried : (signature rule counters l : List ℕ) → (n replacements : ℕ) → Type 1
-Carried signature rule counters l n k = CarriedFaithfully (words signature) (words rule) (words counters) (words (take (4 * n) l)) k
-
-pub lowered-faithful : (signature rule counters output : List ℕ) (scratch : ℕ) (r : Answer) (output′ counters′ : List ℕ)
-    → GivesBoth (lower signature rule counters output scratch) r output′ counters′ → r .number ≡ 0
-    → CarriedFaithfully (words signature) (words rule) (words counters) (words (take (4 * r .words) output′)) (r .replacements)
+pub lowered-faithful : LoweredFaithful
 lowered-faithful signature rule counters output scratch r output′ counters′ g z =
     let o = lower signature rule counters output scratch in
     let f = demand3-bytes signature rule counters output scratch (sym (ap (λ (a : Answer). a .number) (g .answer)) ∙ z) in

@@ -1,12 +1,1 @@
-pub mod Slices
-pub mod Fronts
-pub mod Ends
-pub mod Lent
-pub mod Calls
-pub mod FreeVars
-pub mod Emitting
-pub mod SettleGood
-pub mod Settled
-pub mod Lowering
-pub mod LowerCall
 pub mod Faithful

@@ -1,5 +1,1 @@
-pub mod Answers
-pub mod Fronts
-pub mod Emit
-pub mod Settle
-pub mod Lower
+pub mod Faithful

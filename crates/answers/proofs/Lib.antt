@@ -1,0 +1,5 @@
+pub mod Slices
+pub mod Tests
+pub mod Ends
+pub mod Lent
+pub mod Calls

@@ -1,0 +1,2 @@
+pub mod SettleGood
+pub mod Settled
