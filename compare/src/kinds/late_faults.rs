@@ -25,23 +25,34 @@ fn length(draw: &mut Draw, most: usize) -> usize {
     draw.pick(&[most, most, most - 1, any])
 }
 
-/// An expression inside 31, 32 or 33 calls, in the last action. Refusal 6 comes before all that names and counters give,
-/// so what stands before it may be anything well formed.
+/// An expression inside 31, 32 or 33 calls, in the last fact or action. Refusal 6 comes before all that names and counters
+/// give, so what stands before it may be anything well formed.
 fn too_deep(draw: &mut Draw) -> Case {
     let signature = Signature::any_size(draw);
     let head = draw.below(signature.heads());
     let innermost = draw.pick(&[name(1), literal(3), call(head, 0)]);
     let deep = [vec![call(head, 1); draw.between(CALLS - 1, CALLS + 1)], vec![innermost]].concat();
-    let last = match draw.below(5) {
-        0 => [vec![action(EXPRESSION)], deep].concat(),
-        1 => [vec![action(LET), name(NAMES - 1)], deep].concat(),
-        2 => [vec![action(SET), call(head, 0)], deep].concat(),
-        3 => [vec![action(draw.pick(&[DELETE, SUBSUME])), call(head, 2), literal(1)], deep].concat(),
+    let words = length(draw, WRITTEN_WORDS);
+    let last = match draw.below(7) {
+        0 | 1 => {
+            let rule = with_fact(facts_of(head, words - deep.len()), &deep);
+            return Case::new(Call::Lower, signature.words(), rule);
+        }
+        2 => [vec![action(EXPRESSION)], deep].concat(),
+        3 => [vec![action(LET), name(NAMES - 1)], deep].concat(),
+        4 => [vec![action(SET), call(head, 0)], deep].concat(),
+        5 => [vec![action(draw.pick(&[DELETE, SUBSUME])), call(head, 2), literal(1)], deep].concat(),
         _ => [vec![action(UNION), literal(0)], deep].concat(),
     };
-    let words = length(draw, WRITTEN_WORDS) - last.len();
-    let rule = Writer::new(draw, &signature).written(words);
+    let rule = Writer::new(draw, &signature).written(words - last.len());
     Case::new(Call::Lower, signature.words(), with_action(rule, &last))
+}
+
+/// The rule, which has no actions, with one fact more.
+fn with_fact(mut rule: Vec<u32>, last: &[u32]) -> Vec<u32> {
+    rule[0] += header(1, 0) - header(0, 0);
+    rule.extend(last);
+    rule
 }
 
 /// The rule with one action more.
