@@ -125,14 +125,14 @@ pub fn lower_bytes(
     if sign.refused != 0 {
         return refused(sign.refused, sign.place);
     }
-    let n = octets::count(rule);
+    let size = octets::count(rule);
     let lowered = lower_good(
         signature,
         rule,
         sign,
         counters,
         output,
-        &mut scratch[..LENT * n],
+        &mut scratch[..LENT * size],
     );
     if lowered.refused != 0 {
         return refused(lowered.refused, lowered.place);
