@@ -26,10 +26,6 @@ use Rattle.core_actions.proofs.Does.{Does, second}
 
 -- ---- from a walk to what an action leaves
 
--- an answer that is a refusal
-abbrev pub ended : Walk → Acted
-ended a = record { walk = a; names = 0; count = 0 }
-
 -- a refused action
 pub acts-stop : {sig : Sig} {c : Scope} {k at to sp lg : ℕ} {s cs s′ cs′ : List ℕ} {r : Acted} (x : Res Done)
     → Walked 0 (Gave r) (donePiece x) k at to sp lg s cs s′ cs′ (r .walk) → (r .walk .refused ≡ 0 → ⊥) → Acts x sig c k at to sp lg s cs s′ cs′ r

@@ -8,10 +8,11 @@ use Rattle.rules.specs.Words.{headOf}
 use Rattle.rules.specs.Refusals.{Res}
 use Rattle.rules.specs.Signature.{Sig}
 use Rattle.rules.specs.ToCoreActions.{Done, lowerAction}
-use Rattle.walks.specs.Steps.{Under, Counted}
+use Rattle.walks.specs.Steps.{Piece, Under, Counted}
+use Rattle.walks.specs.declared.Walk.{Walk}
 use Rattle.head_exprs.specs.Scopes.{Scoped, Names}
 use Rattle.head_exprs.proofs.Sites.{Site, Every, WalkedAt}
-use Rattle.core_actions.specs.Acts.{ActionAt, ChangeAt, changed, Gave, Acts, Signed}
+use Rattle.core_actions.specs.Acts.{ActionAt, ChangeAt, changed, Termed, Gave, Acts, Signed}
 use Rattle.core_actions.specs.declared.actions.Acted.{Acted}
 
 module _ (k : Site) where
@@ -30,6 +31,10 @@ module _ (k : Site) where
   -- what the contract of `lower_action` says of an answer
   abbrev pub DoesAction : (gs s′ cs′ : List ℕ) → Acted → Type 0
   DoesAction gs s′ cs′ r = EverySigned gs (λ sig. ActionAt sig (k .ws) (k .at)) (λ sig x bound. Does sig (lowerAction sig bound (x .value) (k .cs)) (x .size) s′ cs′ r)
+
+  -- n terms are on the stack, of the words behind the first two of the action's `size`
+  abbrev pub TermedAt : (size n : ℕ) → Res Piece → List ℕ → List ℕ → Walk → Type 0
+  TermedAt size n x s1 cs1 a = Termed (k .at) (k .to) size n (k .sp) (k .lg) x (k .s) (k .cs) s1 cs1 a
 
   -- the word behind the action's word: the name that is let, the kind 3 word of a change
   abbrev pub second : ℕ

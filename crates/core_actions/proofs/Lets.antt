@@ -21,11 +21,11 @@ use Rattle.head_exprs.specs.Scopes.{Scoped, ScopeFits}
 use Rattle.head_exprs.specs.Lowered.{lowered}
 use Rattle.head_exprs.proofs.Scopes.{scope-let, scope-fits}
 use Rattle.head_exprs.proofs.Sites.{Site, Asks, Every, WalkedAt, Tree, tree, Begun, begun-as, asks}
-use Rattle.core_actions.specs.Acts.{LetAt, Gave, ScopeAfter}
+use Rattle.core_actions.specs.Acts.{LetAt, refusedAction, Gave, ScopeAfter}
 use Rattle.core_actions.specs.declared.actions.Acted.{Acted}
 use Rattle.core_actions.proofs.Pieces.{letPiece, done-let}
 use Rattle.core_actions.proofs.Does.{Does, second}
-use Rattle.core_actions.proofs.Acting.{ended, acts-stop, LowAt, Fine, is-fine}
+use Rattle.core_actions.proofs.Acting.{acts-stop, LowAt, Fine, is-fine}
 
 abbrev pub LetThere : Site → Sig → Type 0
 LetThere k sig = LetAt sig (k .ws) (k .at)
@@ -72,11 +72,11 @@ module _ {k : Site} {v : ℕ} (h : Letting k v) {b : Bool} (test : Test k v b) w
       (λ (u : ℕ). Does k sig (lowerLet (elem u bound) sig bound (k .at) u (x .expr .value) (k .cs)) (2 + x .expr .size) s′ cs′ r) (h .is)
       (subst (λ (u : Bool). Ends k v u s′ cs′ r (tree sig x bound n sc)) (sym e ∙ there) (f (tree sig x bound n sc)))
 
-  pub let-twice : b ≡ true → Answers k (k .s) (k .cs) (ended (record { next = k .at; to = k .to; log = k .lg; term = 0; refused = alreadyDefined }))
+  pub let-twice : b ≡ true → Answers k (k .s) (k .cs) (refusedAction (record { next = k .at; to = k .to; log = k .lg; term = 0; refused = alreadyDefined }))
   let-twice e = answers true e twice
     where
       twice : (t : Tree k (LetThere k))
-          → Ends k v true (k .s) (k .cs) (ended (record { next = k .at; to = k .to; log = k .lg; term = 0; refused = alreadyDefined })) t
+          → Ends k v true (k .s) (k .cs) (refusedAction (record { next = k .at; to = k .to; log = k .lg; term = 0; refused = alreadyDefined })) t
       twice t =
           let m : ℕ = 2 + t .it .expr .size in
           record {
@@ -107,10 +107,10 @@ module _ {k : Site} {v : ℕ} (f : Free k v) {s1 cs1 : List ℕ} {e : Walk} (l :
   walk : (t : Tree k (LetThere k)) → WalkedAt k 1 (InAnswer (k .lg) e) (low t) (t .it .expr .size) (k .at + 2) s1 cs1 e
   walk t = l .walk (t .sig) (t .it .expr) (t .bound) (t .counted) (t .scoped)
 
-  pub let-refused : (e .refused ≡ 0 → ⊥) → Answers k s1 cs1 (ended e)
+  pub let-refused : (e .refused ≡ 0 → ⊥) → Answers k s1 cs1 (refusedAction e)
   let-refused bad = answers (f .letting) (f .test) false (f .free) stopped
     where
-      stopped : (t : Tree k (LetThere k)) → Ends k v false s1 cs1 (ended e) t
+      stopped : (t : Tree k (LetThere k)) → Ends k v false s1 cs1 (refusedAction e) t
       stopped t =
           acts-stop (let-of k v false t)
           (rw (done-let (t .sig) (t .bound) (k .at) v (t .it .expr .value) (k .cs))

@@ -4,6 +4,7 @@ pub mod Does
 pub mod Acting
 pub mod Lets
 pub mod Pairs
+pub mod Closing
 pub mod Changes
 pub mod NameSets
 pub mod Forests

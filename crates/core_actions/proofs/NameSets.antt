@@ -1,18 +1,17 @@
 -- A union of a name and a call that becomes a set. The call's arguments are those of an action with a head (`Changes`), and the name is one more
 -- term behind them. What is known at each step of `set_name`, and each way out. Assumes nothing.
-use mathlib.Core.Path.{_≡_, refl, sym, ap, _∙_, subst}
+use mathlib.Core.Path.{_≡_, refl, sym, ap, subst}
 use mathlib.Core.Bool.{Bool, true, false}
-use mathlib.Core.List.{List, _∷_}
+use mathlib.Core.List.{List}
 use Prim.Native.Nat.{ℕ, _+_, _-_, _*_, _≤_, _<_}
 use native.Mathlib.Omega.{arith}
 use lib.ListN.{length, getD, set}
-use Rattle.octets.specs.Regions.{splice, part}
 use Rattle.rules.specs.Words.{maxDepth, headBase, freshBase, actionWord, headOf, countOf}
-use Rattle.rules.specs.Refusals.{Res, ok, _>>=_, unbound, usedUp}
+use Rattle.rules.specs.Refusals.{Res, ok, _>>=_, unbound}
 use Rattle.rules.specs.Signature.{Sig, heads}
 use Rattle.rules.specs.Written.{Exprs, leaf}
 use Rattle.rules.specs.ToCoreActions.{readable, Done, lowerSet}
-use Rattle.walks.specs.Steps.{Piece, both, andThen, Walked, InAnswer, OnStack}
+use Rattle.walks.specs.Steps.{Piece, both, andThen, stoppedAt, Walked, InAnswer, OnStack}
 use Rattle.walks.specs.declared.Walk.{Walk}
 use Rattle.walks.proofs.Frames.{kept-none}
 use Rattle.walks.proofs.Steps.{went, stop, walk-then, placed, pushed, stacked}
@@ -22,12 +21,13 @@ use Rattle.head_exprs.specs.Lowered.{lowered, loweredAll}
 use Rattle.head_exprs.proofs.Scopes.{scope-fits}
 use Rattle.head_exprs.proofs.Pieces.{lowered-leaf}
 use Rattle.head_exprs.proofs.Sites.{Site, Every, WalkedAt, Tree, tree, tree-as, Begun}
-use Rattle.core_actions.specs.Acts.{NameCallAt, Gave}
+use Rattle.core_actions.specs.Acts.{NameCallAt, refusedAction, closing, andChange, ChangeFits, Gave}
 use Rattle.core_actions.specs.declared.actions.Acted.{Acted}
 use Rattle.core_actions.proofs.Pieces.{done-set, same-set}
-use Rattle.core_actions.proofs.Does.{Does, second}
-use Rattle.core_actions.proofs.Acting.{ended, acts-stop, acts-same, scope-after}
-use Rattle.core_actions.proofs.Changes.{Headed, Argued, Fine, Used, Termed, closing, closed-full, closed}
+use Rattle.core_actions.proofs.Does.{Does, TermedAt, second}
+use Rattle.core_actions.proofs.Acting.{acts-stop, acts-same, scope-after}
+use Rattle.core_actions.proofs.Closing.{Closes}
+use Rattle.core_actions.proofs.Changes.{Headed, Argued, Fine}
 
 -- ---- both words are read: the name as v, and the call's kind 3 word as w
 
@@ -101,7 +101,7 @@ module _ {k : Site} {v w : ℕ} (h : Naming k v w) where
 
   abbrev Walks : List ℕ → List ℕ → Acted → Tree k (NameCall k v w) → Type 0
   Walks s′ cs′ r t =
-      WalkedAt k 0 (Gave r) (_>>=_ (andThen (args t) (name t)) (closing (actionWord 2) 1 (k .at + 2) (headOf w))) (3 + t .it .call .exprs .size)
+      WalkedAt k 0 (Gave r) (andChange (actionWord 2) 1 (k .at + 2) (headOf w) (andThen (args t) (name t))) (3 + t .it .call .exprs .size)
       (k .at) s′ cs′ (r .walk)
 
   refused : {s′ cs′ : List ℕ} {r : Acted} (t : Tree k (NameCall k v w)) → Walks s′ cs′ r t → (r .walk .refused ≡ 0 → ⊥) → Ends s′ cs′ r t
@@ -124,13 +124,13 @@ module _ {k : Site} {v w : ℕ} (h : Naming k v w) where
         (k .at + 3) s1 cs1 a
     walk t = m .walk (tree-as t (λ sig x. x .call))
 
-    pub args-refused : (a .refused ≡ 0 → ⊥) → Answers k s1 cs1 (ended a)
+    pub args-refused : (a .refused ≡ 0 → ⊥) → Answers k s1 cs1 (refusedAction a)
     args-refused bad = answers (λ t. refused t (stopped t) bad)
       where
-        stopped : (t : Tree k (NameCall k v w)) → Walks s1 cs1 (ended a) t
+        stopped : (t : Tree k (NameCall k v w)) → Walks s1 cs1 (refusedAction a) t
         stopped t =
             let n = 3 + t .it .call .exprs .size in
-            let one : WalkedAt k 0 (Gave (ended a)) (andThen (args t) (name t)) n (k .at) s1 cs1 a =
+            let one : WalkedAt k 0 (Gave (refusedAction a)) (andThen (args t) (name t)) n (k .at) s1 cs1 a =
             stop n (k .at) (args t) (λ p. _>>=_ (name t (p .next)) (λ q. ok (both p q))) (walk t) bad (omega arith) in
             stop n (k .at) (andThen (args t) (name t)) (closing (actionWord 2) 1 (k .at + 2) (headOf w)) one bad (omega arith)
 
@@ -161,11 +161,11 @@ module _ {k : Site} {v w : ℕ} (h : Naming k v w) where
             let i = x .inside in
             test (t .sig) (t .bound) (scope-after (length (k .ws)) (x .size) (h .begun .scopeRoom) (omega arith) (walk t .kept) (t .scoped)) (t .it .old)
 
-        pub name-refused : b ≡ false → Answers k s1 cs1 (ended (record { next = k .at + 1; to = a .to; log = a .log; term = 0; refused = unbound }))
+        pub name-refused : b ≡ false → Answers k s1 cs1 (refusedAction (stoppedAt (k .at + 1) (a .to) (a .log) unbound))
         name-refused not = answers (λ t. refused t (stopped t) (λ z. omega arith))
           where
             ans : Walk
-            ans = record { next = k .at + 1; to = a .to; log = a .log; term = 0; refused = unbound }
+            ans = stoppedAt (k .at + 1) (a .to) (a .log) unbound
 
             second : (t : Tree k (NameCall k v w)) → Walked 1 (λ p. ⊥) (name t cs1) 1 (early t .next) (a .to) (k .sp + countOf w) (a .log) s1 cs1 s1 cs1 ans
             second t =
@@ -175,7 +175,7 @@ module _ {k : Site} {v w : ℕ} (h : Naming k v w) where
                   ended = record { number = refl; place = refl; some = omega arith };
                 })
 
-            stopped : (t : Tree k (NameCall k v w)) → Walks s1 cs1 (ended ans) t
+            stopped : (t : Tree k (NameCall k v w)) → Walks s1 cs1 (refusedAction ans) t
             stopped t =
                 let x = t .it .call .exprs in
                 let i = x .inside in
@@ -193,7 +193,7 @@ module _ {k : Site} {v w : ℕ} (h : Naming k v w) where
           abbrev late : Walk
           late = record { next = a .next; to = a .to; log = a .log; term = v; refused = 0 }
 
-          termed : (t : Tree k (NameCall k v w)) → Termed k (3 + t .it .call .exprs .size) (countOf w + 1) (andThen (args t) (name t)) s2 cs1 late
+          termed : (t : Tree k (NameCall k v w)) → TermedAt k (3 + t .it .call .exprs .size) (countOf w + 1) (andThen (args t) (name t)) s2 cs1 a
           termed t =
               let x = t .it .call .exprs in
               let i = x .inside in
@@ -223,42 +223,37 @@ module _ {k : Site} {v w : ℕ} (h : Naming k v w) where
               walk-then (x .size) 1 (k .at + 2) (k .to) (k .sp) (k .sp + countOf w) (k .lg) (k .s) (k .cs) s1 cs1 s2 cs1 (early t) late
               (omega arith) (omega arith) (omega arith) (countOf w + 1) (OnStack (k .sp) (countOf w + 1) (k .lg) s2 late) (args t) (name t) (omega arith)
               (first t) refl there (λ p q y u. stacked p q (countOf w + 1) refl (omega arith) refl (there .kept) y u) in
-              record { behind = x .size + 1; whole = omega arith; walk = all; fine = refl; many = omega arith; inside = omega arith; room = r }
+              record {
+                behind = x .size + 1;
+                whole = omega arith;
+                walk =
+                    placed (k .at + 2) a (andThen (args t) (name t)) all refl (f .fine) (omega arith) refl refl
+                    (λ p u. record { size = u .size; terms = u .terms; uses = u .uses });
+                fine = f .fine;
+                many = omega arith;
+                words = r1;
+                stack = r2;
+                log = r3;
+              }
 
--- ---- one count of the head is used, which leaves s3 and cs2
+          -- what the end of the action asks
+          pub end-asks : length s2 ≡ length s1 → ChangeFits w (countOf w + 1) (k .sp) (k .lg) a s2 cs1
+          end-asks same =
+              let x = f .fits in
+              record {
+                high = x .high;
+                head = x .head;
+                counter = x .counter;
+                logged = x .logged;
+                log = omega (arith, x .log);
+                words = x .words;
+                stack = omega (arith, f .stack);
+              }
 
-pub record Counting (k : Site) (v w : ℕ) (a : Walk) (s3 cs2 : List ℕ) (u : ℕ) : Type 0 where
-  pub naming : Naming k v w
-  pub s1 : List ℕ
-  pub cs1 : List ℕ
-  pub s2 : List ℕ
-  pub args : Argued k 3 (maxDepth - 1) (countOf w) w s1 cs1 a
-  pub fine : Fine args
-  pub b : Bool
-  pub test : Test k s1 v b
-  pub may : b ≡ true
-  pub push : s2 ≡ set s1 (k .sp + countOf w) v
-  pub used : Used w (a .log) s2 cs1 s3 cs2 u
-  pub size : length s3 ≡ length s1
-
-pub counting : {k : Site} {v w : ℕ} {a : Walk} {s1 cs1 s2 s3 cs2 : List ℕ} {b : Bool} {u : ℕ} → Naming k v w → (m : Argued k 3 (maxDepth - 1) (countOf w) w s1 cs1 a)
-    → Fine m → Test k s1 v b → b ≡ true → s2 ≡ set s1 (k .sp + countOf w) v → length s2 ≡ length s1 → Used w (a .log) s2 cs1 s3 cs2 u → Counting k v w a s3 cs2 u
-counting {s1 = s1} {cs1 = cs1} {s2 = s2} {b = b} h m f test may push same o =
-    record { naming = h; s1 = s1; cs1 = cs1; s2 = s2; args = m; fine = f; b = b; test = test; may = may; push = push; used = o; size = o .size ∙ same }
-
-module _ {k : Site} {v w : ℕ} {a : Walk} {s3 cs2 : List ℕ} {u : ℕ} (c : Counting k v w a s3 cs2 u) where
-  name-termed : (t : Tree k (NameCall k v w))
-      → Termed k (3 + t .it .call .exprs .size) (countOf w + 1) (andThen (args (c .naming) t) (name (c .naming) t)) (c .s2) (c .cs1)
-      (record { next = a .next; to = a .to; log = a .log; term = v; refused = 0 })
-  name-termed = termed (c .naming) (c .args) (c .fine) (c .test) (c .may) (c .push)
-
-  pub used-up : u ≡ 0 → Answers k s3 cs2 (ended (record { next = k .at + 2; to = a .to; log = a .log; term = 0; refused = usedUp }))
-  used-up z = answers (c .naming) (λ t. refused (c .naming) t (closed-full (name-termed t) (actionWord 2) 1 (k .at + 2) (c .used) 0 z) (λ y. omega arith))
-
-  -- the set is written, up to e, which leaves s4
-  pub set-done : {s4 : List ℕ} {e : ℕ} → (u ≡ 0 → ⊥)
-      → (e ≡ a .to + 2 + (countOf w + 1)) × (s4 ≡ splice s3 (a .to) (actionWord 2 ∷ w ∷ part s3 (k .sp) (countOf w + 1)))
-      → Answers k s4 cs2
-      (record { walk = record { next = a .next; to = e; log = a .log + 1; term = 0; refused = 0 }; names = 0; count = a .log - k .lg + 1 })
-  set-done some put =
-      answers (c .naming) (λ t. done (c .naming) t (closed (name-termed t) (actionWord 2) 1 (k .at + 2) (c .used) (t .it .call .high) refl some put) refl)
+          -- it leaves s3 and cs2
+          pub set-ends : {s3 cs2 : List ℕ} {r : Acted} → Closes (actionWord 2) w (countOf w + 1) (k .at + 2) (k .sp) (k .lg) s2 cs1 s3 cs2 a r
+              → Answers k s3 cs2 r
+          set-ends e =
+              answers
+              (λ t. done t
+              (e .1 1 (k .at) (k .to) (3 + t .it .call .exprs .size) (andThen (args t) (name t)) (k .s) (k .cs) refl (termed t)) (e .0))

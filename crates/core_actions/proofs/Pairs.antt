@@ -20,11 +20,11 @@ use Rattle.walks.proofs.Asks.{counted-kept, right-there}
 use Rattle.head_exprs.specs.Scopes.{Scoped}
 use Rattle.head_exprs.specs.Lowered.{lowered}
 use Rattle.head_exprs.proofs.Sites.{Site, site-of, ScopeRoomAt, Asks, Every, WalkedAt, Tree, tree, Begun, begun-as, asks}
-use Rattle.core_actions.specs.Acts.{PairAt, Gave}
+use Rattle.core_actions.specs.Acts.{PairAt, refusedAction, Gave}
 use Rattle.core_actions.specs.declared.actions.Acted.{Acted}
 use Rattle.core_actions.proofs.Pieces.{unionPiece, done-union, same-union}
 use Rattle.core_actions.proofs.Does.{Does}
-use Rattle.core_actions.proofs.Acting.{ended, acts-stop, acts-same, scope-after, LowAt, Fine, is-fine}
+use Rattle.core_actions.proofs.Acting.{acts-stop, acts-same, scope-after, LowAt, Fine, is-fine}
 
 abbrev pub Pair : Site → Sig → Type 0
 Pair k sig = PairAt sig (k .ws) (k .at)
@@ -59,7 +59,7 @@ module _ {k : Site} (t : Tree k (Pair k)) where
 
   -- a walk over both sides that stops
   refused : {m p : ℕ} {T : Piece → Type 0} {s′ cs′ : List ℕ} {a : Walk} (n : ℕ) → WalkedAt k m T (andThen X Y) n p s′ cs′ a → n ≤ 1 + size → (a .refused ≡ 0 → ⊥)
-      → Ends s′ cs′ (ended a)
+      → Ends s′ cs′ (refusedAction a)
   refused n w h bad =
       acts-stop union
       (rw (done-union (t .sig) (t .bound) (t .it .left .value) (t .it .right .value) (k .cs))
@@ -71,12 +71,12 @@ module _ {k : Site} {s1 cs1 : List ℕ} {l : Walk} (left : LowAt k (k .at + 1) s
   walk : (t : Tree k (Pair k)) → WalkedAt k 1 (InAnswer (k .lg) l) (X t) (t .it .left .size) (k .at + 1) s1 cs1 l
   walk t = left .walk (t .sig) (t .it .left) (t .bound) (t .counted) (t .scoped)
 
-  pub left-refused : (l .refused ≡ 0 → ⊥) → Answers k s1 cs1 (ended l)
+  pub left-refused : (l .refused ≡ 0 → ⊥) → Answers k s1 cs1 (refusedAction l)
   left-refused bad sig x bound n sc = stopped (tree sig x bound n sc)
     where
-      stopped : (t : Tree k (Pair k)) → Ends t s1 cs1 (ended l)
+      stopped : (t : Tree k (Pair k)) → Ends t s1 cs1 (refusedAction l)
       stopped t =
-          let one : WalkedAt k 0 (Gave (ended l)) (andThen (X t) (Y t)) (1 + size t) (k .at) s1 cs1 l =
+          let one : WalkedAt k 0 (Gave (refusedAction l)) (andThen (X t) (Y t)) (1 + size t) (k .at) s1 cs1 l =
           stop (1 + size t) (k .at) (X t) (λ p. _>>=_ (Y t (p .next)) (λ q. ok (both p q))) (walk t) bad (omega arith) in
           refused t (1 + size t) one (omega arith) bad
 
@@ -139,7 +139,7 @@ module _ {k : Site} {s1 cs1 : List ℕ} {l : Walk} (d : LeftDone k s1 cs1 l) whe
         (low .walk (u .sig) (u .it) (u .bound) (u .counted) (u .scoped))
         (λ p q t u. record { terms = λ i. t .term i ++ u .term i; uses = omega (arith, t .uses, u .uses) })
 
-    pub right-refused : (r .refused ≡ 0 → ⊥) → Answers k s2 cs2 (ended r)
+    pub right-refused : (r .refused ≡ 0 → ⊥) → Answers k s2 cs2 (refusedAction r)
     right-refused bad sig x bound n sc = let t : Tree k (Pair k) = tree sig x bound n sc in refused t (size t) (sides t) (omega arith) bad
 
     pub both-fine : r .refused ≡ 0 → Fine k s2 r

@@ -3,17 +3,18 @@
 use mathlib.Core.Path.{_≡_}
 use mathlib.Core.Bool.{_&&_, cond}
 use mathlib.Core.List.{List, [], _∷_, _++_}
-use Prim.Native.Nat.{ℕ, _+_, _-_, _<_, _≤_}
+use Prim.Native.Nat.{ℕ, _+_, _-_, _*_, _<_, _≤_}
 use lib.Dec.{eqb, ltb}
 use lib.ListN.{length, getD}
-use Rattle.rules.specs.Words.{maxDepth, literalBase, headBase, freshBase, signatureBase, headWord, headOf, countOf}
+use Rattle.rules.specs.Words.{limit12, maxDepth, literalBase, headBase, freshBase, signatureBase, headWord, headOf, countOf}
 use Rattle.rules.specs.Refusals.{Res, ok, refuse, _>>=_}
 use Rattle.rules.specs.Signature.{Sig, heads, isConstructor, isName}
 use Rattle.rules.specs.Written.{Expr, Exprs, leaf, call, readAction, readRow}
 use Rattle.rules.specs.Flat.{actionWords, wordsOf}
 use Rattle.rules.specs.ToQuery.{Fresh, fresh}
 use Rattle.rules.specs.ToCoreActions.{Done}
-use Rattle.walks.specs.Steps.{Piece, Walked, ReadAt, ExprAt, ExprsAt}
+use Rattle.walks.specs.Steps.{Piece, OnStack, Walked, ReadAt, ExprAt, ExprsAt}
+use Rattle.walks.specs.declared.Walk.{Walk}
 use Rattle.head_exprs.specs.Scopes.{Scoped, grown}
 use Rattle.head_exprs.specs.Lowered.{loweredAll}
 use Rattle.head_exprs.specs.declared.scope.Scope.{Scope}
@@ -57,17 +58,50 @@ abbrev pub donePiece : Res Done → Res Piece
 donePiece (ok d) = ok (record { terms = []; words = wordsOf actionWords (d .acts); count = length (d .acts); next = d .next })
 donePiece (refuse n p) = refuse n p
 
+-- the answer of a refusal
+abbrev pub refusedAction : Walk → Acted
+refusedAction a = record { walk = a; names = 0; count = 0 }
+
 -- an action of n terms, the last `more` of which its kind 3 word does not count
 abbrev pub changePiece : (code more h : ℕ) → Piece → Fresh → Piece
 changePiece code more h p f =
     record { terms = []; words = p .words ++ code ∷ headWord h (length (p .terms) - more) ∷ p .terms; count = p .count + 1; next = f .next }
 
--- expressions, then one use of the head's counter, then the action of their terms
-abbrev pub changed : Sig → List ℕ → (code more p h : ℕ) → Exprs → List ℕ → Res Piece
-changed sig bound code more p h es cs = do
-  q ← loweredAll sig bound es cs
+-- one use of the head's counter, refused at the place p, then the action of the terms
+abbrev pub closing : (code more p h : ℕ) → Piece → Res Piece
+closing code more p h q = do
   f ← fresh p h (q .next)
   ok (changePiece code more h q f)
+
+abbrev pub andChange : (code more p h : ℕ) → Res Piece → Res Piece
+andChange code more p h x = do
+  q ← x
+  closing code more p h q
+
+-- expressions, and that behind them
+abbrev pub changed : Sig → List ℕ → (code more p h : ℕ) → Exprs → List ℕ → Res Piece
+changed sig bound code more p h es cs = andChange code more p h (loweredAll sig bound es cs)
+
+-- n terms are on the stack, of the words behind the first two of the action's `size`; x is what they are lowered to, and a the walk over them
+pub record Termed (at to size n sp lg : ℕ) (x : Res Piece) (s cs s1 cs1 : List ℕ) (a : Walk) : Type 0 where
+  pub behind : ℕ
+  pub whole : size ≡ 2 + behind
+  pub walk : Walked n (OnStack sp n lg s1 a) x behind (at + 2) to sp lg s cs s1 cs1 a
+  pub fine : a .refused ≡ 0
+  pub many : n ≤ behind
+  pub words : to + 4 * size ≤ sp
+  pub stack : sp + size ≤ lg
+  pub log : lg + size ≤ length s
+
+-- what the kind 3 word w of an action asks behind the walk a over its n terms: a counter, and room in the log and before the stack
+pub record ChangeFits (w n sp lg : ℕ) (a : Walk) (s cs : List ℕ) : Type 0 where
+  pub high : headBase ≤ w
+  pub head : headOf w < limit12
+  pub counter : headOf w < length cs
+  pub logged : lg ≤ a .log
+  pub log : a .log < length s
+  pub words : a .to + 2 ≤ sp
+  pub stack : sp + n ≤ length s
 
 -- the answer says how many flat actions were given
 abbrev pub Gave : Acted → Piece → Type 0

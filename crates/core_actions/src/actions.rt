@@ -12,13 +12,14 @@ ghost use mathlib.Core.Option.{none};
 ghost use Prim.Native.Nat.{ℕ, _+_, _-_, _<_, _≤_};
 ghost use lib.ListN.{length, getD};
 ghost use Rattle.octets.specs.Words.{words};
-ghost use Rattle.rules.specs.Words.{maxDepth, headOf};
+ghost use Rattle.rules.specs.Words.{maxDepth, headOf, countOf};
+ghost use Rattle.rules.specs.Refusals.{Res};
 ghost use Rattle.rules.specs.Signature.{Sig, elem};
 ghost use Rattle.rules.specs.Written.{leaf, panic′, expr′};
 ghost use Rattle.rules.specs.ToCoreActions.{lowerLet, lowerUnion, lowerSet, lowerAction};
-ghost use Rattle.walks.specs.Steps.{Walked, Room, Under, Counted, ExprAt};
+ghost use Rattle.walks.specs.Steps.{Piece, Walked, Room, Under, Counted, ExprAt};
 ghost use Rattle.head_exprs.specs.Scopes.{Scoped, ScopeRoom, Names};
-ghost use Rattle.core_actions.specs.Acts.{LetAt, ChangeAt, PairAt, NameCallAt, changed, Gave, Acts};
+ghost use Rattle.core_actions.specs.Acts.{LetAt, ChangeAt, PairAt, NameCallAt, refusedAction, ChangeFits, Termed, andChange, changed, Gave, Acts};
 
 // The words of actions 1, 2, 5 and 6.
 const LET: u32 = 0x0200_0001;
@@ -34,6 +35,17 @@ pub struct Acted {
     pub walk: Walk,
     pub names: usize,
     pub count: usize,
+}
+
+// The answer of an action that is refused: it let no name and gave no flat action.
+pub fn refused_action(walk: Walk) -> Acted
+    ensures { λ r. ⌜ r ≡ refusedAction walk ⌝ }
+{
+    Acted {
+        walk,
+        names: 0,
+        count: 0,
+    }
 }
 
 // The same answer, field by field. A call writes its answer into memory; whoever goes on with this one may hold it in registers.
@@ -77,17 +89,7 @@ pub fn lower_let(
 {
     let name = octets::get(rule, at + 1);
     if taken(scratch, scope, name) {
-        return Acted {
-            walk: Walk {
-                next: at,
-                to,
-                log,
-                term: 0,
-                refused: walks::ALREADY_DEFINED,
-            },
-            names: 0,
-            count: 0,
-        };
+        return refused_action(walks::stopped(at, to, log, walks::ALREADY_DEFINED));
     }
     let e = lower(
         rule,
@@ -101,11 +103,7 @@ pub fn lower_let(
         log,
     );
     if e.refused != 0 {
-        return Acted {
-            walk: e,
-            names: 0,
-            count: 0,
-        };
+        return refused_action(e);
     }
     let end = octets::rows::put_three(scratch, e.to, LET, name, e.term);
     octets::put(scratch, sp, name);
@@ -119,6 +117,45 @@ pub fn lower_let(
         },
         names: 1,
         count: e.log - log + 1,
+    }
+}
+
+// The end of an action with a head: behind the n terms that the walk `terms` left on the stack, one count of the head of its kind 3 word w is used,
+// and the action `code` is written. Where no count is left, it is refused at `place`.
+fn put_change(
+    terms: Walk,
+    place: usize,
+    code: u32,
+    w: u32,
+    n: usize,
+    counters: &mut [u8],
+    scratch: &mut [u8],
+    sp: usize,
+    log: usize,
+) -> Acted
+    requires { ⌜ ChangeFits w n sp log terms (words (now scratch)) (words (now counters)) ⌝ }
+    ensures { λ r. ⌜ (r .names ≡ 0)
+        × ((more at to size : ℕ) (x : Res Piece) (s cs : List ℕ) → n ≡ countOf w + more
+        → Termed at to size n sp log x s cs (words (now (scratch .entry))) (words (now (counters .entry))) terms
+        → Walked 0 (Gave r) (andChange code more place (headOf w) x) size
+        at to sp log s cs (words (now (scratch .exit))) (words (now (counters .exit))) (r .walk)) ⌝ }
+{
+    let h = (w - walks::HEAD) / walks::LIMIT_16;
+    let used = walks::take(counters, scratch, terms.log, h);
+    if used == 0 {
+        return refused_action(walks::stopped(place, terms.to, terms.log, walks::USED_UP));
+    }
+    let end = octets::rows::put_terms(scratch, terms.to, code, w, sp, n);
+    Acted {
+        walk: Walk {
+            next: terms.next,
+            to: end,
+            log: terms.log + 1,
+            term: 0,
+            refused: 0,
+        },
+        names: 0,
+        count: terms.log - log + 1,
     }
 }
 
@@ -148,7 +185,6 @@ pub fn lower_change(
         at to sp log (words (now (scratch .entry))) (words (now (counters .entry))) (words (now (scratch .exit))) (words (now (counters .exit))) (r .walk)) ⌝ }
 {
     let w = octets::get(rule, at + 1);
-    let h = (w - walks::HEAD) / walks::LIMIT_16;
     let n = ((w - walks::HEAD) % walks::LIMIT_16) as usize + more;
     let args = lower_arguments(
         rule,
@@ -163,38 +199,9 @@ pub fn lower_change(
         log,
     );
     if args.refused != 0 {
-        return Acted {
-            walk: args,
-            names: 0,
-            count: 0,
-        };
+        return refused_action(args);
     }
-    let v = walks::take(counters, scratch, args.log, h);
-    if v == 0 {
-        return Acted {
-            walk: Walk {
-                next: at + 1,
-                to: args.to,
-                log: args.log,
-                term: 0,
-                refused: walks::USED_UP,
-            },
-            names: 0,
-            count: 0,
-        };
-    }
-    let end = octets::rows::put_terms(scratch, args.to, code, w, sp, n);
-    Acted {
-        walk: Walk {
-            next: args.next,
-            to: end,
-            log: args.log + 1,
-            term: 0,
-            refused: 0,
-        },
-        names: 0,
-        count: args.log - log + 1,
-    }
+    put_change(args, at + 1, code, w, n, counters, scratch, sp, log)
 }
 
 // A panic, whose action word stands at `at`, with its literal.
@@ -301,11 +308,7 @@ pub fn unite(
         log,
     );
     if left.refused != 0 {
-        return Acted {
-            walk: left,
-            names: 0,
-            count: 0,
-        };
+        return refused_action(left);
     }
     let right = lower(
         rule,
@@ -319,11 +322,7 @@ pub fn unite(
         left.log,
     );
     if right.refused != 0 {
-        return Acted {
-            walk: right,
-            names: 0,
-            count: 0,
-        };
+        return refused_action(right);
     }
     let end = octets::rows::put_three(scratch, right.to, UNION, left.term, right.term);
     Acted {
@@ -362,7 +361,6 @@ pub fn set_name(
 {
     let name = octets::get(rule, at + 1);
     let w = octets::get(rule, at + 2);
-    let h = (w - walks::HEAD) / walks::LIMIT_16;
     let n = ((w - walks::HEAD) % walks::LIMIT_16) as usize;
     let args = lower_arguments(
         rule,
@@ -377,50 +375,11 @@ pub fn set_name(
         log,
     );
     if args.refused != 0 {
-        return Acted {
-            walk: args,
-            names: 0,
-            count: 0,
-        };
+        return refused_action(args);
     }
     if may_read(scratch, scope, name) {
         octets::put(scratch, sp + n, name);
-        let used = walks::take(counters, scratch, args.log, h);
-        if used == 0 {
-            return Acted {
-                walk: Walk {
-                    next: at + 2,
-                    to: args.to,
-                    log: args.log,
-                    term: 0,
-                    refused: walks::USED_UP,
-                },
-                names: 0,
-                count: 0,
-            };
-        }
-        let end = octets::rows::put_terms(scratch, args.to, SET, w, sp, n + 1);
-        return Acted {
-            walk: Walk {
-                next: args.next,
-                to: end,
-                log: args.log + 1,
-                term: 0,
-                refused: 0,
-            },
-            names: 0,
-            count: args.log - log + 1,
-        };
+        return put_change(args, at + 2, SET, w, n + 1, counters, scratch, sp, log);
     }
-    Acted {
-        walk: Walk {
-            next: at + 1,
-            to: args.to,
-            log: args.log,
-            term: 0,
-            refused: walks::UNBOUND,
-        },
-        names: 0,
-        count: 0,
-    }
+    refused_action(walks::stopped(at + 1, args.to, args.log, walks::UNBOUND))
 }

@@ -12,6 +12,7 @@ use crate::actions::lower_change;
 use crate::actions::lower_expression;
 use crate::actions::lower_let;
 use crate::actions::lower_panic;
+use crate::actions::refused_action;
 use crate::unions::lower_union;
 use head_exprs::scope::Scope;
 use walks::Walk;
@@ -30,7 +31,7 @@ ghost use Rattle.core_actions.specs.Acts.{donePiece, ActionAt, ActionsAt
 const UNFIT: u32 = 5;
 
 // Lowers the action at `at`, by its code.
-pub fn lower_action(
+fn lower_action(
     signature: &[u8],
     rule: &[u8],
     at: usize,
@@ -61,17 +62,7 @@ pub fn lower_action(
         5 => lower_union(signature, rule, at, scope, counters, scratch, to, sp, log),
         6 => lower_panic(rule, at, scope, counters, scratch, to, sp, log),
         8 => lower_expression(rule, at, scope, counters, scratch, to, sp, log),
-        _ => Acted {
-            walk: Walk {
-                next: at,
-                to,
-                log,
-                term: 0,
-                refused: UNFIT,
-            },
-            names: 0,
-            count: 0,
-        },
+        _ => refused_action(walks::stopped(at, to, log, UNFIT)),
     }
 }
 

@@ -33,7 +33,7 @@ fn arity(w: u32) -> usize
 }
 
 // The place behind the expression at `at`. It counts the expressions that are still to be passed.
-pub fn skip(rule: &[u8], at: usize) -> usize
+fn skip(rule: &[u8], at: usize) -> usize
     requires { ⌜ Under (λ sig. ExprAt sig (words (now rule)) maxDepth at × (heads sig ≤ limit12)) ⌝ }
     ensures { λ r. ⌜ ((sig : Sig) (x : ExprAt sig (words (now (rule .entry))) maxDepth at) → heads sig ≤ limit12 → r ≡ at + x .size) ⌝ }
 {
@@ -57,7 +57,7 @@ fn constructs(signature: &[u8], w: u32) -> bool
 }
 
 // Whether the union at `at` becomes a set: 1 where its left side is the constructor call, 2 where its right side is, else 0.
-pub fn as_set(signature: &[u8], rule: &[u8], at: usize) -> u32
+fn as_set(signature: &[u8], rule: &[u8], at: usize) -> u32
     requires { ⌜ Under (λ sig. PairAt sig (words (now rule)) at × (heads sig ≤ limit12) × Signed sig (words (now signature))) ⌝ }
     ensures { λ r. ⌜ ((sig : Sig) (x : PairAt sig (words (now (rule .entry))) at)
         → heads sig ≤ limit12 → Signed sig (words (now (signature .entry))) → r ≡ setMode sig (x .left .value) (x .right .value)) ⌝ }

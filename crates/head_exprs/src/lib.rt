@@ -44,13 +44,7 @@ fn lower_bare(
     let h = (w - walks::HEAD) / walks::LIMIT_16;
     let v = walks::take(counters, scratch, log, h);
     if v == 0 {
-        return Walk {
-            next: at,
-            to,
-            log,
-            term: 0,
-            refused: walks::USED_UP,
-        };
+        return walks::stopped(at, to, log, walks::USED_UP);
     }
     let end = octets::rows::put_three(scratch, to, CALL, v, w);
     Walk {
@@ -93,13 +87,7 @@ pub fn lower(
                 refused: 0,
             };
         }
-        return Walk {
-            next: at,
-            to,
-            log,
-            term: 0,
-            refused: walks::UNBOUND,
-        };
+        return walks::stopped(at, to, log, walks::UNBOUND);
     }
     let h = (w - walks::HEAD) / walks::LIMIT_16;
     let n = (w - walks::HEAD) % walks::LIMIT_16;
@@ -123,13 +111,7 @@ pub fn lower(
     }
     let v = walks::take(counters, scratch, args.log, h);
     if v == 0 {
-        return Walk {
-            next: at,
-            to: args.to,
-            log: args.log,
-            term: 0,
-            refused: walks::USED_UP,
-        };
+        return walks::stopped(at, args.to, args.log, walks::USED_UP);
     }
     let end = octets::rows::put_call(scratch, args.to, CALL, v, w, sp, n as usize);
     Walk {

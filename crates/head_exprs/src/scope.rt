@@ -17,7 +17,7 @@ pub struct Scope {
 }
 
 // Whether the variable w is bound.
-pub fn has(s: &[u8], scope: Scope, w: u32) -> bool
+fn has(s: &[u8], scope: Scope, w: u32) -> bool
     requires { ⌜ ScopeFits (words (now s)) scope ⌝ }
     ensures { λ r. ⌜ r ≡ inScope (words (now (s .entry))) scope w ⌝ }
 {

@@ -86,13 +86,7 @@ pub fn flatten_call(
     let n = (w - walks::HEAD) % walks::LIMIT_16;
     let v = walks::take(counters, scratch, log, h);
     if v == 0 {
-        return Walk {
-            next: at,
-            to,
-            log,
-            term: 0,
-            refused: walks::USED_UP,
-        };
+        return walks::stopped(at, to, log, walks::USED_UP);
     }
     let k = walks::leaves(rule, at + 1, n as usize, u32::MAX, scratch, to + 1);
     if k == n as usize {

@@ -58,6 +58,10 @@ pub record Wrote (m : ℕ) (p : Piece) (k nx t : ℕ) (s′ cs′ : List ℕ) (r
   pub written : part s′ t (length (p .words)) ≡ p .words
   pub fits : length (p .words) + m ≤ 4 * k
 
+-- the answer of a refusal
+abbrev pub stoppedAt : (place to log number : ℕ) → Walk
+stoppedAt p t l n = record { next = p; to = t; log = l; term = 0; refused = n }
+
 pub record Stopped (n p : ℕ) (r : Walk) : Type 0 where
   pub number : r .refused ≡ n
   pub place : r .next ≡ p

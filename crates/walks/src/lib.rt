@@ -9,6 +9,7 @@ ghost use Rattle.rules.specs.Words.{limit12};
 ghost use Rattle.rules.specs.ToQuery.{fresh};
 ghost use Rattle.walks.specs.Log.{Taken, undone};
 ghost use Rattle.walks.specs.Leaves.{leavesUpTo};
+ghost use Rattle.walks.specs.Steps.{stoppedAt};
 
 // Counts and literals are numbered below LIMIT_16.
 pub const LIMIT_16: u32 = 65536;
@@ -42,6 +43,19 @@ pub struct Walk {
     pub log: usize,
     pub term: u32,
     pub refused: u32,
+}
+
+// The answer of a walk that is refused with this number at this place: nothing more was written or logged, and there is no term.
+pub fn stopped(place: usize, to: usize, log: usize, number: u32) -> Walk
+    ensures { λ r. ⌜ r ≡ stoppedAt place to log number ⌝ }
+{
+    Walk {
+        next: place,
+        to,
+        log,
+        term: 0,
+        refused: number,
+    }
 }
 
 // The next fresh variable of the head h, logged at `log`; 0 where its counter is used up.

@@ -173,10 +173,18 @@ returns-7 c =
 
 -- ---- no other code
 
+stopped-requires : tie.Need-stopped-requires
+stopped-requires c κs = search needs
+
+refused-action-requires : tie.Need-refused-action-requires
+refused-action-requires c κs = search needs
+
 returns-8 : tie.Need-returns-8
 returns-8 c =
-    let r = c .match .rest in
-    no-code (at-get (c .before)) (r .0 .0 .0 .0 .0 .0 .1) (r .0 .0 .0 .0 .0 .1) (r .0 .0 .0 .0 .1) (r .0 .0 .0 .1) (r .0 .0 .1) (r .0 .1) (r .1)
+    let m = c .before .before in
+    let r = m .match .rest in
+    rw (c .refused-action .ensures, c .before .stopped .ensures)
+    (no-code (at-get (m .before)) (r .0 .0 .0 .0 .0 .0 .1) (r .0 .0 .0 .0 .0 .1) (r .0 .0 .0 .0 .1) (r .0 .0 .0 .1) (r .0 .0 .1) (r .0 .1) (r .1))
 
 pub lower-action-spec : {M : Type 1} → statement M
 lower-action-spec =
@@ -194,6 +202,8 @@ lower-action-spec =
     lower-union-requires
     lower-panic-requires
     lower-expression-requires
+    stopped-requires
+    refused-action-requires
     same-length
     same-length-2
     returns

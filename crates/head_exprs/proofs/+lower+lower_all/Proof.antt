@@ -29,6 +29,7 @@ use Rattle.head_exprs.proofs.scope.may_read.Reads as may-read-reads
 use Rattle.octets.proofs.get.Reads as get-reads
 use Rattle.octets.proofs.put.Reads as put-reads
 use Rattle.octets.proofs.rows.put_call.Reads as put-call-reads
+use Rattle.walks.proofs.stopped.Reads as stopped-reads
 use Rattle.walks.proofs.take.Reads as take-reads
 use Rattle.head_exprs.proofs.+lower+lower_all.{statement}
 use Rattle.head_exprs.proofs.+lower+lower_all.Tie.{close}
@@ -58,6 +59,8 @@ lower-calls t = (
   get-reads.Learnt,
   may-read-reads.Asked,
   may-read-reads.Learnt,
+  stopped-reads.Asked,
+  stopped-reads.Learnt,
   lower-bare-reads.Asked,
   lower-bare-reads.Learnt,
   lower-all-below t,
@@ -168,11 +171,17 @@ module _ (t : ℕ) where
   lower-returns : In-lower lower-lts.Need-returns
   lower-returns c = let l = c .before .before .before in leaf-read (lower-word (l .before)) (l .if1 .taken) (c .before .may-read .ensures) (c .if2 .taken)
 
+  lower-stopped-requires : In-lower lower-lts.Need-stopped-requires
+  lower-stopped-requires c κs = search needs
+
   lower-same-length-2 : In-lower lower-lts.Need-same-length-2
   lower-same-length-2 c = search needs
 
   lower-returns-2 : In-lower lower-lts.Need-returns-2
-  lower-returns-2 c = let l = c .before .before .before in leaf-unbound (lower-word (l .before)) (l .if1 .taken) (c .before .may-read .ensures) (c .if2 .left)
+  lower-returns-2 c =
+      let u = c .before in
+      let l = u .before .before .before in
+      rw (c .stopped .ensures) (leaf-unbound (lower-word (l .before)) (l .if1 .taken) (u .before .may-read .ensures) (u .if2 .left))
 
   -- ---- a call without arguments
 
@@ -237,14 +246,20 @@ module _ (t : ℕ) where
       let e = c .before .before in
       (lower-call (args-call (fine-args e)) .facts .small, lower-fine e .head, lower-fine e .log)
 
+  abbrev none-left : In-lower lower-lts.Then5 → In-lower lower-lts.After-take
+  none-left c = c .before .before .before .before .before
+
+  lower-stopped-requires-2 : In-lower lower-lts.Need-stopped-requires-2
+  lower-stopped-requires-2 c κs = search needs
+
   lower-same-length-7 : In-lower lower-lts.Need-same-length-7
-  lower-same-length-7 c = counters-kept (c .before .before .before .before .before)
+  lower-same-length-7 c = counters-kept (none-left (c .before))
 
   lower-same-length-8 : In-lower lower-lts.Need-same-length-8
-  lower-same-length-8 c = scratch-kept (c .before .before .before .before .before)
+  lower-same-length-8 c = scratch-kept (none-left (c .before))
 
   lower-returns-5 : In-lower lower-lts.Need-returns-5
-  lower-returns-5 c = used-up (lower-used (c .before .before .before .before .before)) (c .if5 .taken)
+  lower-returns-5 c = let u = c .before in rw (c .stopped2 .ensures) (used-up (lower-used (none-left u)) (u .if5 .taken))
 
   -- ---- its own action
 
@@ -393,6 +408,7 @@ pub +lower+lower-all-spec : {M : Type 1} → statement M
     (lower-add-t20 t)
     (lower-same-length t)
     (lower-returns t)
+    (lower-stopped-requires t)
     (lower-same-length-2 t)
     (lower-returns-2 t)
     (lower-sub-h t)
@@ -409,6 +425,7 @@ pub +lower+lower-all-spec : {M : Type 1} → statement M
     (lower-same-length-6 t)
     (lower-returns-4 t)
     (lower-take-requires t)
+    (lower-stopped-requires-2 t)
     (lower-same-length-7 t)
     (lower-same-length-8 t)
     (lower-returns-5 t)

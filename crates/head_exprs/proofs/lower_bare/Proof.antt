@@ -61,6 +61,12 @@ take-requires c κs =
 
 -- ---- none is left
 
+abbrev none-left : tie.Then1 → tie.After-take
+none-left c = c .before .before .before .before .before
+
+stopped-requires : tie.Need-stopped-requires
+stopped-requires c κs = search needs
+
 same-length : tie.Need-same-length
 same-length c = search needs
 
@@ -68,7 +74,9 @@ same-length-2 : tie.Need-same-length-2
 same-length-2 c = search needs
 
 returns : tie.Need-returns
-returns c = λ sig x bound n. used-up (at-take (c .before .before .before .before .before)) (c .if1 .taken) sig x bound n tt
+returns c =
+    let u = c .before in
+    rw (c .stopped .ensures) (λ sig x bound n. used-up (at-take (none-left u)) (u .if1 .taken) sig x bound n tt)
 
 -- ---- the call's action is written
 
@@ -99,4 +107,4 @@ returns-2 c =
 pub lower-bare-spec : {M : Type 1} → statement M
 lower-bare-spec =
     tie.close
-    (tie.spec sub-h take-requires same-length same-length-2 returns put-three-requires add-t21 add-t22 same-length-3 same-length-4 returns-2)
+    (tie.spec sub-h take-requires stopped-requires same-length same-length-2 returns put-three-requires add-t21 add-t22 same-length-3 same-length-4 returns-2)

@@ -25,6 +25,7 @@ use Rattle.octets.proofs.put.Reads as put-reads
 use Rattle.octets.proofs.rows.put_atom.Reads as put-atom-reads
 use Rattle.query.proofs.put_around.Reads as put-around-reads
 use Rattle.walks.proofs.leaves.Reads as leaves-reads
+use Rattle.walks.proofs.stopped.Reads as stopped-reads
 use Rattle.walks.proofs.take.Reads as take-reads
 use Rattle.query.proofs.+flatten_all+flatten_call.{statement}
 use Rattle.query.proofs.+flatten_all+flatten_call.Tie.{close}
@@ -55,6 +56,8 @@ abbrev call-calls : ℕ → call-lts.Claims
 call-calls t = (
   take-reads.Asked,
   take-reads.Learnt,
+  stopped-reads.Asked,
+  stopped-reads.Learnt,
   leaves-reads.Asked,
   leaves-reads.Learnt,
   put-around-reads.Asked,
@@ -252,6 +255,9 @@ module _ (t : ℕ) where
   abbrev start : In-call call-lts.After-take → In-call call-lts.Start
   start c = c .before .before .before .before .before .before
 
+  call-stopped-requires : In-call call-lts.Need-stopped-requires
+  call-stopped-requires c κs = search needs
+
   call-same-length : In-call call-lts.Need-same-length
   call-same-length c = search needs
 
@@ -259,7 +265,10 @@ module _ (t : ℕ) where
   call-same-length-2 c = search needs
 
   call-returns : In-call call-lts.Need-returns
-  call-returns c = let k : In-call call-lts.After-take = c .before .before .before .before .before in none-left (at-start (start k)) (k .take .ensures) (c .if1 .taken)
+  call-returns c =
+      let u = c .before in
+      let k : In-call call-lts.After-take = u .before .before .before .before .before in
+      rw (c .stopped .ensures) (none-left (at-start (start k)) (k .take .ensures) (u .if1 .taken))
 
   -- ---- it has its variable
 
@@ -461,6 +470,7 @@ pub +flatten-all+flatten-call-spec : {M : Type 1} → statement M
     (call-sub-h t)
     (call-sub-n t)
     (call-take-requires t)
+    (call-stopped-requires t)
     (call-same-length t)
     (call-same-length-2 t)
     (call-returns t)

@@ -1,5 +1,5 @@
--- Set, delete and subsume: the expressions are lowered onto the stack, so that behind one count of the head the action's words are its code, its kind 3
--- word and the terms that lie there; a refusal of either step is the action's own. Assumes nothing.
+-- Set, delete and subsume: the expressions are lowered onto the stack, and what lies there is what the end of an action with a head asks; a refusal of
+-- either step is the action's own. Assumes nothing.
 use Prim.Native.Nat.{ℕ, _+_}
 use mathlib.Core.Path.{_≡_, refl, _∙_}
 use native.Mathlib.Omega.{arith}
@@ -10,7 +10,7 @@ use Rattle.rules.specs.Words.{maxDepth, countOf}
 use Rattle.head_exprs.proofs.Sites.{Site, site-of, begun, begun-as}
 use Rattle.core_actions.specs.Acts.{ChangeAt}
 use Rattle.core_actions.proofs.Changes.{exprs-ask, Argued, argued, Fine, is-fine}
-use Rattle.core_actions.proofs.Changes.{change-at, Changing, change-refused, Counting, counting, change-full, change-done}
+use Rattle.core_actions.proofs.Changes.{change-at, Changing, change-refused, change-ends}
 use borrow.Author.Needs.{needs}
 use Rattle.core_actions.proofs.actions.lower_change.Statement.{statement}
 use Rattle.core_actions.proofs.actions.lower_change.Tie as tie
@@ -45,9 +45,6 @@ start c = c .before .before .before .before
 at-get : (c : tie.After-get) → Changing (site (start c)) (start c .args .code) (start c .args .more) (c .get .result)
 at-get c = at-start (start c) _ (c .get .ensures .is)
 
-sub-h : tie.Need-sub-h
-sub-h c = at-get c .begun .tree .it .high
-
 sub-n : tie.Need-sub-n
 sub-n c = at-get c .begun .tree .it .high
 
@@ -77,18 +74,26 @@ at-args c =
     let a = c .lower-arguments in
     argued (at-get (args-get c) .begun) (length-words-kept _ _ (a .kept .1 .1 .1 .1 .1 .1 .0)) (length-words-kept _ _ (a .kept .1 .1 .1 .1 .1 .0)) (a .ensures)
 
+-- ---- one of them is refused
+
+refused-action-requires : tie.Need-refused-action-requires
+refused-action-requires c κs = search needs
+
 same-length : tie.Need-same-length
 same-length c = search needs
 
 same-length-2 : tie.Need-same-length-2
 same-length-2 c = search needs
 
+abbrev then-args : tie.Then1 → tie.After-lower-arguments
+then-args c = c .before .before .before .before .before .before
+
 returns : tie.Need-returns
 returns c =
-    let a = c .before .before .before .before .before .before in
-    change-refused (at-get (args-get a)) (at-args a) (c .if1 .taken)
+    let a = then-args (c .before) in
+    rw (c .refused-action .ensures) (change-refused (at-get (args-get a)) (at-args a) (c .before .if1 .taken))
 
--- ---- they are fine, and a fresh variable is taken
+-- ---- they are fine, and the end of the action is written
 
 abbrev else-args : tie.Else1 → tie.After-lower-arguments
 else-args c = c .before .before .before .before .before .before
@@ -96,80 +101,34 @@ else-args c = c .before .before .before .before .before .before
 at-else : (c : tie.Else1) → Fine (at-args (else-args c))
 at-else c = is-fine (at-args (else-args c)) (omega arith) (c .if1 .left)
 
-take-requires : tie.Need-take-requires
-take-requires c κs =
-    let f = at-else (c .before .before) in
-    (f .head, f .counter, f .log)
+add-put-change : tie.Need-add-put-change
+add-put-change c = omega (arith, at-else c .next)
 
-abbrev take-else : tie.After-take → tie.Else1
-take-else c = c .before .before .before
+put-change-requires : tie.Need-put-change-requires
+put-change-requires c κs = at-else (c .before .before) .fits
 
-at-take : (c : tie.After-take)
-    → let g = args-get (else-args (take-else c)) in
-    Counting (site (start g)) (start g .args .code) (start g .args .more) (g .get .result) (else-args (take-else c) .lower-arguments .result)
-    (words (c .take .last .1 .0)) (words (c .take .last .0)) (c .take .result)
-at-take c =
-    let t = c .take in
-    let a = else-args (take-else c) in
-    counting (at-get (args-get a)) (at-args a) (at-else (take-else c))
-    (record { taken = t .ensures; size = length-words-kept _ _ (t .kept .1 .0); counters = length-words-kept _ _ (t .kept .0) })
+abbrev put-else : tie.After-put-change → tie.Else1
+put-else c = c .before .before .before
 
--- both slices are as long as at the start
-counters-kept : (c : tie.After-take) → length (c .take .last .0) ≡ length (start (args-get (else-args (take-else c))) .args .counters .now)
-counters-kept c = c .take .kept .0 ∙ else-args (take-else c) .lower-arguments .kept .1 .1 .1 .1 .1 .0
-
-scratch-kept : (c : tie.After-take) → length (c .take .last .1 .0) ≡ length (start (args-get (else-args (take-else c))) .args .scratch .now)
-scratch-kept c = c .take .kept .1 .0 ∙ else-args (take-else c) .lower-arguments .kept .1 .1 .1 .1 .1 .1 .0
-
--- ---- none is left
-
-abbrev then-take : tie.Then2 → tie.After-take
-then-take c = c .before .before .before .before .before
-
-add-t29 : tie.Need-add-t29
-add-t29 c = omega (arith, at-take (then-take c) .fine)
+-- back from the end to where it is written
+abbrev end-put : tie.After-slice-known6 → tie.After-put-change
+end-put c = c .before .before .before .before
 
 same-length-3 : tie.Need-same-length-3
-same-length-3 c = counters-kept (then-take c)
+same-length-3 c =
+    let p = end-put c in
+    p .put-change .kept .1 .1 .1 .1 .1 .0 ∙ else-args (put-else p) .lower-arguments .kept .1 .1 .1 .1 .1 .0
 
 same-length-4 : tie.Need-same-length-4
-same-length-4 c = scratch-kept (then-take c)
+same-length-4 c =
+    let p = end-put c in
+    p .put-change .kept .1 .1 .1 .1 .1 .1 .0 ∙ else-args (put-else p) .lower-arguments .kept .1 .1 .1 .1 .1 .1 .0
 
 returns-2 : tie.Need-returns-2
-returns-2 c = change-full (at-take (then-take c)) (c .if2 .taken)
-
--- ---- the action is written
-
-abbrev else-take : tie.Else2 → tie.After-take
-else-take c = c .before .before .before .before .before
-
-abbrev put-else : tie.After-put-terms → tie.Else2
-put-else c = c .before .before
-
-put-terms-requires : tie.Need-put-terms-requires
-put-terms-requires c κs =
-    let t = at-take (else-take (c .before)) in
-    (t .fine .words, omega (arith, t .fine .stack, t .used .size))
-
-add-t17 : tie.Need-add-t17
-add-t17 c = omega (arith, at-take (else-take (put-else (c .before .before .before))) .fine)
-
-sub-t34 : tie.Need-sub-t34
-sub-t34 c = at-take (else-take (put-else (c .before .before .before .before))) .fine .logged
-
-add-t35 : tie.Need-add-t35
-add-t35 c = omega (arith, at-take (else-take (put-else (c .before .before .before .before))) .fine)
-
-same-length-5 : tie.Need-same-length-5
-same-length-5 c = counters-kept (else-take (put-else (c .before .before .before .before)))
-
-same-length-6 : tie.Need-same-length-6
-same-length-6 c = let p = c .before .before .before .before in p .put-terms .kept .0 ∙ scratch-kept (else-take (put-else p))
-
-returns-3 : tie.Need-returns-3
-returns-3 c =
-    let p = c .before .before .before .before in
-    change-done (at-take (else-take (put-else p))) (put-else p .if2 .left) (p .put-terms .ensures)
+returns-2 c =
+    let p = end-put c in
+    let a = else-args (put-else p) in
+    change-ends (at-get (args-get a)) (at-args a) (at-else (put-else p)) (p .put-change .ensures)
 
 pub lower-change-spec : {M : Type 1} → statement M
 lower-change-spec =
@@ -177,24 +136,17 @@ lower-change-spec =
     (tie.spec
     add-get
     get-requires
-    sub-h
     sub-n
     cast-n
     add-n
     add-lower-arguments
     lower-arguments-requires
+    refused-action-requires
     same-length
     same-length-2
     returns
-    take-requires
-    add-t29
+    add-put-change
+    put-change-requires
     same-length-3
     same-length-4
-    returns-2
-    put-terms-requires
-    add-t17
-    sub-t34
-    add-t35
-    same-length-5
-    same-length-6
-    returns-3)
+    returns-2)

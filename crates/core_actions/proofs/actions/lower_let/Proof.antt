@@ -45,11 +45,20 @@ taken-requires c κs = name-asks (at-get (c .before))
 
 -- ---- it is bound already
 
+stopped-requires : tie.Need-stopped-requires
+stopped-requires c κs = search needs
+
+refused-action-requires : tie.Need-refused-action-requires
+refused-action-requires c κs = search needs
+
 same-length : tie.Need-same-length
 same-length c = search needs
 
 returns : tie.Need-returns
-returns c = let t = c .before in let-twice (at-get (t .before .before)) (t .taken .ensures) (c .if1 .taken)
+returns c =
+    let b = c .before .before in
+    let t = b .before in
+    rw (c .refused-action .ensures, c .before .stopped .ensures) (let-twice (at-get (t .before .before)) (t .taken .ensures) (b .if1 .taken))
 
 -- ---- it is free: the expression
 
@@ -76,16 +85,22 @@ at-lower c =
     let e = c .lower in
     record { walk = e .ensures; size = length-words-kept _ _ (e .kept .1 .1 .1 .1 .1 .0); counters = length-words-kept _ _ (e .kept .1 .1 .1 .1 .0) }
 
+refused-action-requires-2 : tie.Need-refused-action-requires-2
+refused-action-requires-2 c κs = search needs
+
 same-length-2 : tie.Need-same-length-2
 same-length-2 c = search needs
 
 same-length-3 : tie.Need-same-length-3
 same-length-3 c = search needs
 
+abbrev then-low : tie.Then2 → tie.After-lower
+then-low c = c .before .before .before .before .before .before
+
 returns-2 : tie.Need-returns-2
 returns-2 c =
-    let l = c .before .before .before .before .before .before in
-    let-refused (at-free (low-else l)) (at-lower l) (c .if2 .taken)
+    let l = then-low (c .before) in
+    rw (c .refused-action2 .ensures) (let-refused (at-free (low-else l)) (at-lower l) (c .before .if2 .taken))
 
 -- ---- it is fine: the action, and the name behind those let
 
@@ -138,10 +153,13 @@ lower-let-spec =
     add-get
     get-requires
     taken-requires
+    stopped-requires
+    refused-action-requires
     same-length
     returns
     add-lower
     lower-requires
+    refused-action-requires-2
     same-length-2
     same-length-3
     returns-2

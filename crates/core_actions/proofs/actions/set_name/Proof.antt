@@ -1,5 +1,5 @@
--- A union of a name and a call that becomes a set: the name is one more term behind those of the call's arguments, so that behind one count of the
--- head the action is written as any other with a head; it is refused where an argument, the name or the count is. Assumes nothing.
+-- A union of a name and a call that becomes a set: the name is one more term behind those of the call's arguments, so that the end of the action is that
+-- of any other with a head; it is refused where an argument, the name or the count is. Assumes nothing.
 use Prim.Native.Nat.{ℕ, _+_, _-_}
 use mathlib.Core.Path.{_≡_, refl, _∙_}
 use native.Mathlib.Omega.{arith}
@@ -10,7 +10,7 @@ use Rattle.rules.specs.Words.{maxDepth, countOf}
 use Rattle.head_exprs.proofs.Sites.{Site, site-of, begun, begun-as}
 use Rattle.core_actions.specs.Acts.{NameCallAt}
 use Rattle.core_actions.proofs.Changes.{exprs-ask, Argued, argued, Fine, is-fine}
-use Rattle.core_actions.proofs.NameSets.{name-call-at, Naming, args-refused, name-asks, name-refused, Counting, counting, used-up, set-done}
+use Rattle.core_actions.proofs.NameSets.{name-call-at, Naming, args-refused, name-asks, name-refused, end-asks, set-ends}
 use borrow.Author.Needs.{needs}
 use Rattle.core_actions.proofs.actions.set_name.Statement.{statement}
 use Rattle.core_actions.proofs.actions.set_name.Tie as tie
@@ -52,9 +52,6 @@ get-requires-2 c κs = omega (arith, at-start (start c) _ _ refl refl .begun)
 at-get : (c : tie.After-get2) → Naming (site (start (c .before))) (c .before .get .result) (c .get2 .result)
 at-get c = at-start (start (c .before)) _ _ (c .before .get .ensures .is) (c .get2 .ensures .is)
 
-sub-h : tie.Need-sub-h
-sub-h c = at-get c .begun .tree .it .high
-
 sub-n : tie.Need-sub-n
 sub-n c = at-get c .begun .tree .it .high
 
@@ -83,16 +80,24 @@ at-args c =
     let a = c .lower-arguments in
     argued (at-get (args-call c) .begun) (length-words-kept _ _ (a .kept .1 .1 .1 .1 .1 .1 .0)) (length-words-kept _ _ (a .kept .1 .1 .1 .1 .1 .0)) (a .ensures)
 
+-- ---- one of them is refused
+
+abbrev then-args : tie.Then1 → tie.After-lower-arguments
+then-args c = c .before .before .before .before .before .before
+
 same-length : tie.Need-same-length
 same-length c = search needs
 
 same-length-2 : tie.Need-same-length-2
 same-length-2 c = search needs
 
+refused-action-requires : tie.Need-refused-action-requires
+refused-action-requires c κs = search needs
+
 returns : tie.Need-returns
 returns c =
-    let a = c .before .before .before .before .before .before in
-    args-refused (at-get (args-call a)) (at-args a) (c .if1 .taken)
+    let a = then-args (c .before) in
+    rw (c .refused-action .ensures) (args-refused (at-get (args-call a)) (at-args a) (c .before .if1 .taken))
 
 -- ---- the arguments are fine
 
@@ -117,7 +122,7 @@ add-put c = omega (arith, at-else (then-else (c .before)))
 put-requires : tie.Need-put-requires
 put-requires c κs = omega (arith, at-else (then-else (c .before)))
 
--- ---- the name is put behind them, and a fresh variable is taken
+-- ---- the name is put behind them, and the end of the action is written
 
 abbrev put-then : tie.After-put → tie.Then2
 put-then c = c .before .before
@@ -125,105 +130,67 @@ put-then c = c .before .before
 at-put : (c : tie.After-put) → length (words (c .put .last .0)) ≡ length (words (else-args (then-else (put-then c)) .lower-arguments .last .1 .1 .1 .1 .1 .1 .0))
 at-put c = length-words-kept _ _ (c .put .kept .0)
 
-take-requires : tie.Need-take-requires
-take-requires c κs =
+add-put-change : tie.Need-add-put-change
+add-put-change c = omega (arith, at-else (then-else (put-then (c .before .before))))
+
+add-put-change-2 : tie.Need-add-put-change-2
+add-put-change-2 c = omega (arith, at-else (then-else (put-then (c .before .before))))
+
+put-change-requires : tie.Need-put-change-requires
+put-change-requires c κs =
     let p = c .before .before .before .before in
-    let f = at-else (then-else (put-then p)) in
-    (f .head, f .counter, omega (arith, f .log, at-put p))
-
-abbrev take-put : tie.After-take → tie.After-put
-take-put c = c .before .before .before .before .before
-
-abbrev take-else : tie.After-take → tie.Else1
-take-else c = then-else (put-then (take-put c))
-
-at-take : (c : tie.After-take)
-    → let g = args-call (else-args (take-else c)) in
-    Counting (site (start (g .before))) (g .before .get .result) (g .get2 .result) (else-args (take-else c) .lower-arguments .result)
-    (words (c .take .last .1 .0)) (words (c .take .last .0)) (c .take .result)
-at-take c =
-    let t = c .take in
-    let p = take-put c in
     let d = put-then p in
     let a = else-args (then-else d) in
-    counting (at-get (args-call a)) (at-args a) (at-else (then-else d)) (d .before .may-read .ensures) (d .if2 .taken) (p .put .ensures) (at-put p)
-    (record { taken = t .ensures; size = length-words-kept _ _ (t .kept .1 .0); counters = length-words-kept _ _ (t .kept .0) })
+    end-asks (at-get (args-call a)) (at-args a) (at-else (then-else d)) (d .before .may-read .ensures) (d .if2 .taken) (p .put .ensures) (at-put p)
 
--- both slices are as long as at the start
-counters-kept : (c : tie.After-take) → length (c .take .last .0) ≡ length (start (args-call (else-args (take-else c)) .before) .args .counters .now)
-counters-kept c = c .take .kept .0 ∙ else-args (take-else c) .lower-arguments .kept .1 .1 .1 .1 .1 .0
+abbrev change-put : tie.After-put-change → tie.After-put
+change-put c = c .before .before .before .before .before
 
-scratch-kept : (c : tie.After-take) → length (c .take .last .1 .0) ≡ length (start (args-call (else-args (take-else c)) .before) .args .scratch .now)
-scratch-kept c = c .take .kept .1 .0 ∙ take-put c .put .kept .0 ∙ else-args (take-else c) .lower-arguments .kept .1 .1 .1 .1 .1 .1 .0
+-- back from the end to where it is written
+abbrev end-change : tie.After-slice-known7 → tie.After-put-change
+end-change c = c .before .before .before .before
 
--- ---- none is left
-
-abbrev then-take : tie.Then3 → tie.After-take
-then-take c = c .before .before .before .before .before
-
-add-t36 : tie.Need-add-t36
-add-t36 c = omega (arith, at-take (then-take c) .fine)
+abbrev end-args : tie.After-slice-known7 → tie.After-lower-arguments
+end-args c = else-args (then-else (put-then (change-put (end-change c))))
 
 same-length-3 : tie.Need-same-length-3
-same-length-3 c = counters-kept (then-take c)
+same-length-3 c = end-change c .put-change .kept .1 .1 .1 .1 .1 .0 ∙ end-args c .lower-arguments .kept .1 .1 .1 .1 .1 .0
 
 same-length-4 : tie.Need-same-length-4
-same-length-4 c = scratch-kept (then-take c)
+same-length-4 c =
+    end-change c .put-change .kept .1 .1 .1 .1 .1 .1 .0 ∙ change-put (end-change c) .put .kept .0 ∙ end-args c .lower-arguments .kept .1 .1 .1 .1 .1 .1 .0
 
 returns-2 : tie.Need-returns-2
-returns-2 c = used-up (at-take (then-take c)) (c .if3 .taken)
-
--- ---- the set is written
-
-abbrev else-take : tie.Else3 → tie.After-take
-else-take c = c .before .before .before .before .before
-
-abbrev terms-else : tie.After-put-terms → tie.Else3
-terms-else c = c .before .before
-
-add-put-terms : tie.Need-add-put-terms
-add-put-terms c = omega (arith, at-take (else-take (c .before)) .fine)
-
-put-terms-requires : tie.Need-put-terms-requires
-put-terms-requires c κs =
-    let t = at-take (else-take (c .before)) in
-    (t .fine .words, omega (arith, t .fine .stack, t .size))
-
-add-t30 : tie.Need-add-t30
-add-t30 c = omega (arith, at-take (else-take (terms-else (c .before .before .before))) .fine)
-
-sub-t41 : tie.Need-sub-t41
-sub-t41 c = at-take (else-take (terms-else (c .before .before .before .before))) .fine .logged
-
-add-t42 : tie.Need-add-t42
-add-t42 c = omega (arith, at-take (else-take (terms-else (c .before .before .before .before))) .fine)
-
-same-length-5 : tie.Need-same-length-5
-same-length-5 c = counters-kept (else-take (terms-else (c .before .before .before .before)))
-
-same-length-6 : tie.Need-same-length-6
-same-length-6 c = let p = c .before .before .before .before in p .put-terms .kept .0 ∙ scratch-kept (else-take (terms-else p))
-
-returns-3 : tie.Need-returns-3
-returns-3 c =
-    let p = c .before .before .before .before in
-    set-done (at-take (else-take (terms-else p))) (terms-else p .if3 .left) (p .put-terms .ensures)
+returns-2 c =
+    let p = change-put (end-change c) in
+    let d = put-then p in
+    let a = else-args (then-else d) in
+    set-ends (at-get (args-call a)) (at-args a) (at-else (then-else d)) (d .before .may-read .ensures) (d .if2 .taken) (p .put .ensures)
+    (end-change c .put-change .ensures)
 
 -- ---- the name may not be read
 
-add-t16 : tie.Need-add-t16
-add-t16 c = omega (arith, at-else (c .before .before .before))
+add-stopped : tie.Need-add-stopped
+add-stopped c = omega (arith, at-else (c .before .before .before))
 
-same-length-7 : tie.Need-same-length-7
-same-length-7 c = search needs
+stopped-requires : tie.Need-stopped-requires
+stopped-requires c κs = search needs
 
-same-length-8 : tie.Need-same-length-8
-same-length-8 c = search needs
+refused-action-requires-2 : tie.Need-refused-action-requires-2
+refused-action-requires-2 c κs = search needs
 
-returns-4 : tie.Need-returns-4
-returns-4 c =
-    let e = c .before .before .before in
-    name-refused (at-get (args-call (else-args e))) (at-args (else-args e)) (at-else e) (c .before .may-read .ensures) (c .if2 .left)
+same-length-5 : tie.Need-same-length-5
+same-length-5 c = search needs
+
+same-length-6 : tie.Need-same-length-6
+same-length-6 c = search needs
+
+returns-3 : tie.Need-returns-3
+returns-3 c =
+    let n = c .before .before in
+    let e = n .before .before .before in
+    rw (c .refused-action2 .ensures, c .before .stopped .ensures)
+    (name-refused (at-get (args-call (else-args e))) (at-args (else-args e)) (at-else e) (n .before .may-read .ensures) (n .if2 .left))
 
 pub set-name-spec : {M : Type 1} → statement M
 set-name-spec =
@@ -233,32 +200,27 @@ set-name-spec =
     get-requires
     add-get-2
     get-requires-2
-    sub-h
     sub-n
     cast-n
     add-lower-arguments
     sub-lower-arguments
     lower-arguments-requires
+    refused-action-requires
     same-length
     same-length-2
     returns
     may-read-requires
     add-put
     put-requires
-    take-requires
-    add-t36
+    add-put-change
+    add-put-change-2
+    put-change-requires
     same-length-3
     same-length-4
     returns-2
-    add-put-terms
-    put-terms-requires
-    add-t30
-    sub-t41
-    add-t42
+    add-stopped
+    stopped-requires
+    refused-action-requires-2
     same-length-5
     same-length-6
-    returns-3
-    add-t16
-    same-length-7
-    same-length-8
-    returns-4)
+    returns-3)

@@ -40,16 +40,20 @@ at-left c =
     let l = c .lower in
     record { walk = l .ensures; size = length-words-kept _ _ (l .kept .1 .1 .1 .1 .1 .0); counters = length-words-kept _ _ (l .kept .1 .1 .1 .1 .0) }
 
+refused-action-requires : tie.Need-refused-action-requires
+refused-action-requires c κs = search needs
+
 same-length : tie.Need-same-length
 same-length c = search needs
 
 same-length-2 : tie.Need-same-length-2
 same-length-2 c = search needs
 
+abbrev then-left : tie.Then1 → tie.After-lower
+then-left c = c .before .before .before .before .before .before
+
 returns : tie.Need-returns
-returns c =
-    let l = c .before .before .before .before .before .before in
-    left-refused (at-left l) (c .if1 .taken)
+returns c = rw (c .refused-action .ensures) (left-refused (at-left (then-left (c .before))) (c .before .if1 .taken))
 
 -- ---- it is fine: the right side
 
@@ -86,14 +90,19 @@ scratch-kept c = c .lower2 .kept .1 .1 .1 .1 .1 .0 ∙ else-left (right-else c) 
 abbrev then-right : tie.Then2 → tie.After-lower2
 then-right c = c .before .before .before .before .before .before
 
+refused-action-requires-2 : tie.Need-refused-action-requires-2
+refused-action-requires-2 c κs = search needs
+
 same-length-3 : tie.Need-same-length-3
-same-length-3 c = counters-kept (then-right c)
+same-length-3 c = counters-kept (then-right (c .before))
 
 same-length-4 : tie.Need-same-length-4
-same-length-4 c = scratch-kept (then-right c)
+same-length-4 c = scratch-kept (then-right (c .before))
 
 returns-2 : tie.Need-returns-2
-returns-2 c = right-refused (at-else1 (right-else (then-right c))) (at-right (then-right c)) (c .if2 .taken)
+returns-2 c =
+    let r = then-right (c .before) in
+    rw (c .refused-action2 .ensures) (right-refused (at-else1 (right-else r)) (at-right r) (c .before .if2 .taken))
 
 -- ---- both are fine: the action
 
@@ -134,10 +143,12 @@ unite-spec =
     (tie.spec
     add-lower
     lower-requires
+    refused-action-requires
     same-length
     same-length-2
     returns
     lower-requires-2
+    refused-action-requires-2
     same-length-3
     same-length-4
     returns-2

@@ -1,0 +1,110 @@
+-- The end of an action with a head: the terms of the walk lie on the stack, so that behind one count of the head the action's words are its code, its kind
+-- 3 word and what lies there; where the count is refused, the action is. Assumes nothing.
+use mathlib.Core.Path.{_∙_}
+use Prim.Native.Nat.{_+_, _^_, _<_}
+use native.Mathlib.Omega.{arith}
+use Rattle.octets.specs.Words.{words}
+use Rattle.octets.proofs.Words.{length-words, length-words-kept}
+use Rattle.core_actions.proofs.Closing.{Used, closed-full, closed}
+use borrow.Author.Needs.{needs}
+use Rattle.core_actions.proofs.actions.put_change.Statement.{statement}
+use Rattle.core_actions.proofs.actions.put_change.Tie as tie
+
+sub-h : tie.Need-sub-h
+sub-h c = c .before .before .pre .high
+
+take-requires : tie.Need-take-requires
+take-requires c κs =
+    let f = c .before .before .before .before .pre in
+    (f .head, f .counter, f .log)
+
+-- ---- a fresh variable is taken
+
+abbrev start : tie.After-take → tie.Start
+start c = c .before .before .before .before .before
+
+at-take : (c : tie.After-take)
+    → let a = start c .args in
+    Used (a .w) (a .n) (a .sp) (a .log) (words (a .scratch .now)) (words (a .counters .now)) (a .terms)
+    (words (c .take .last .1 .0)) (words (c .take .last .0)) (c .take .result)
+at-take c =
+    let t = c .take in
+    record { fits = start c .pre; taken = t .ensures; size = length-words-kept _ _ (t .kept .1 .0); counters = length-words-kept _ _ (t .kept .0) }
+
+-- ---- none is left
+
+abbrev then-take : tie.Then1 → tie.After-take
+then-take c = c .before .before .before .before .before
+
+stopped-requires : tie.Need-stopped-requires
+stopped-requires c κs = search needs
+
+refused-action-requires : tie.Need-refused-action-requires
+refused-action-requires c κs = search needs
+
+same-length : tie.Need-same-length
+same-length c = search needs
+
+same-length-2 : tie.Need-same-length-2
+same-length-2 c = search needs
+
+returns : tie.Need-returns
+returns c =
+    let u = c .before .before in
+    rw (c .refused-action .ensures, c .before .stopped .ensures) (closed-full (at-take (then-take u)) _ _ (u .if1 .taken))
+
+-- ---- the action is written
+
+abbrev else-take : tie.Else1 → tie.After-take
+else-take c = c .before .before .before .before .before
+
+put-terms-requires : tie.Need-put-terms-requires
+put-terms-requires c κs =
+    let u = at-take (else-take (c .before)) in
+    (u .fits .words, omega (arith, u .fits .stack, u .size))
+
+abbrev put-else : tie.After-put-terms → tie.Else1
+put-else c = c .before .before
+
+-- the log's next place is a place of the scratch
+log-fits : (c : tie.After-take) → start c .args .terms .log + 1 < 2 ^ 64
+log-fits c = omega (arith, start c .pre .log, length-words (start c .args .scratch .now), start c .good)
+
+add-t22 : tie.Need-add-t22
+add-t22 c = omega (arith, log-fits (else-take (put-else (c .before .before .before))))
+
+sub-t24 : tie.Need-sub-t24
+sub-t24 c = start (else-take (put-else (c .before .before .before .before))) .pre .logged
+
+add-t25 : tie.Need-add-t25
+add-t25 c = omega (arith, log-fits (else-take (put-else (c .before .before .before .before))))
+
+same-length-3 : tie.Need-same-length-3
+same-length-3 c = search needs
+
+same-length-4 : tie.Need-same-length-4
+same-length-4 c = let p = c .before .before .before .before in p .put-terms .kept .0 ∙ else-take (put-else p) .take .kept .1 .0
+
+returns-2 : tie.Need-returns-2
+returns-2 c =
+    let p = c .before .before .before .before in
+    closed (at-take (else-take (put-else p))) _ _ (put-else p .if1 .left) (p .put-terms .ensures)
+
+pub put-change-spec : {M : Type 1} → statement M
+put-change-spec =
+    tie.close
+    (tie.spec
+    sub-h
+    take-requires
+    stopped-requires
+    refused-action-requires
+    same-length
+    same-length-2
+    returns
+    put-terms-requires
+    add-t22
+    sub-t24
+    add-t25
+    same-length-3
+    same-length-4
+    returns-2)
