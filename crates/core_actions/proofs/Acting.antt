@@ -19,7 +19,7 @@ use Rattle.head_exprs.specs.Lowered.{lowered}
 use Rattle.head_exprs.specs.declared.scope.Scope.{Scope}
 use Rattle.head_exprs.proofs.Scopes.{scoped-kept}
 use Rattle.head_exprs.proofs.Sites.{Site, RoomAt, ScopeRoomAt, Every, WalkedAt, Begun}
-use Rattle.core_actions.specs.Acts.{donePiece, Gave, Acts}
+use Rattle.core_actions.specs.Acts.{donePiece, refusedAction, Gave, Quiet, Acts}
 use Rattle.core_actions.specs.declared.actions.Acted.{Acted}
 use Rattle.core_actions.proofs.Pieces.{silent, done-expression, SameBound, same-expression}
 use Rattle.core_actions.proofs.Does.{Does, second}
@@ -28,9 +28,10 @@ use Rattle.core_actions.proofs.Does.{Does, second}
 
 -- a refused action
 pub acts-stop : {sig : Sig} {c : Scope} {k at to sp lg : ℕ} {s cs s′ cs′ : List ℕ} {r : Acted} (x : Res Done)
-    → Walked 0 (Gave r) (donePiece x) k at to sp lg s cs s′ cs′ (r .walk) → (r .walk .refused ≡ 0 → ⊥) → Acts x sig c k at to sp lg s cs s′ cs′ r
-acts-stop (ok d) w bad = absurd (bad (w .ended .0 .fine))
-acts-stop (refuse n p) w bad = record { piece = w; after = tt }
+    → Walked 0 (Gave r) (donePiece x) k at to sp lg s cs s′ cs′ (r .walk) → (r .walk .refused ≡ 0 → ⊥) → Quiet r
+    → Acts x sig c k at to sp lg s cs s′ cs′ r
+acts-stop (ok d) w bad quiet = absurd (bad (w .ended .0 .fine))
+acts-stop (refuse n p) w bad quiet = record { piece = w; after = (quiet .0, quiet .1 (omega (arith, w .ended .number, w .ended .some))) }
 
 -- the scope of a part that binds nothing
 pub scope-after : {at to sp lg log : ℕ} {c : Scope} {sig : Sig} {bound s cs s′ cs′ : List ℕ} (n k : ℕ) → ScopeRoom n at to sp c → at + k ≤ n
@@ -39,14 +40,15 @@ scope-after n k r h kp x = scoped-kept kp (r .body) (omega (arith, r .names)) (r
 
 -- an action that binds nothing
 pub acts-same : {k at to sp lg : ℕ} {s cs s′ cs′ : List ℕ} {r : Acted} (sig : Sig) (bound : List ℕ) (c : Scope) (n : ℕ) (x : Res Done)
-    → SameBound sig bound x → r .names ≡ 0 → ScopeRoom n at to sp c → at + k ≤ n → Scoped sig bound s c
+    → SameBound sig bound x → Quiet r → ScopeRoom n at to sp c → at + k ≤ n → Scoped sig bound s c
     → Walked 0 (Gave r) (donePiece x) k at to sp lg s cs s′ cs′ (r .walk) → Acts x sig c k at to sp lg s cs s′ cs′ r
-acts-same sig bound c n (refuse i p) same z sr h sc w = record { piece = w; after = tt }
-acts-same {k = k} {s′ = s′} {r = r} sig bound c n (ok d) same z sr h sc w =
-    let e : c .names ≡ c .names + r .names = omega arith in
+acts-same sig bound c n (refuse i p) same quiet sr h sc w =
+    record { piece = w; after = (quiet .0, quiet .1 (omega (arith, w .ended .number, w .ended .some))) }
+acts-same {k = k} {s′ = s′} {r = r} sig bound c n (ok d) same quiet sr h sc w =
+    let e : c .names ≡ c .names + r .names = omega (arith, quiet .0) in
     let now = scope-after n k sr h (w .kept) sc in
     let big = subst (λ (t : ℕ). Scoped sig bound s′ (record { globals = c .globals; body = c .body; first = c .first; names = t })) e now in
-    record { piece = w; after = (omega arith, subst (λ (b : List ℕ). Scoped sig b s′ (grown c (r .names))) (sym same) big) }
+    record { piece = w; after = (omega (arith, quiet .0), subst (λ (b : List ℕ). Scoped sig b s′ (grown c (r .names))) (sym same) big) }
 
 -- ---- an expression
 
@@ -86,18 +88,22 @@ module _ {k : Site} (g : Begun k (λ sig. ExprAt sig (k .ws) maxDepth (k .at + 1
   pub expression-logged : k .lg ≤ e .log
   expression-logged = let t = g .tree in omega (arith, l .walk (t .sig) (t .it) (t .bound) (t .counted) (t .scoped) .kept .upTo)
 
-  abbrev answer : Acted
-  answer = record { walk = e; names = 0; count = e .log - k .lg }
+  -- the walk of its calls is the action's own, with any count that is so where it is fine
+  abbrev Answers : Acted → Type 0
+  Answers r =
+      Every k (λ sig. ExprAt sig (k .ws) maxDepth (k .at + 1)) (λ sig x bound. Does k sig (lowerAction sig bound (expr′ (x .value)) (k .cs)) (1 + x .size) s1 cs1 r)
 
-  pub expression-done : Every k (λ sig. ExprAt sig (k .ws) maxDepth (k .at + 1))
-      (λ sig x bound. Does k sig (lowerAction sig bound (expr′ (x .value)) (k .cs)) (1 + x .size) s1 cs1 answer)
-  expression-done sig x bound n sc =
+  abbrev with : ℕ → Acted
+  with count = record { walk = e; names = 0; count = count }
+
+  ends : (count : ℕ) → Quiet (with count) → (e .refused ≡ 0 → count ≡ e .log - k .lg) → Answers (with count)
+  ends count quiet gives sig x bound n sc =
       let i = x .inside in
-      acts-same sig bound (k .scope) (length (k .ws)) (lowerAction sig bound (expr′ (x .value)) (k .cs)) (same-expression sig bound (x .value) (k .cs)) refl
+      acts-same sig bound (k .scope) (length (k .ws)) (lowerAction sig bound (expr′ (x .value)) (k .cs)) (same-expression sig bound (x .value) (k .cs)) quiet
       (g .scopeRoom) (omega arith) sc (rw (done-expression sig bound (x .value) (k .cs)) (wide (lowered sig bound (x .value) (k .cs)) (l .walk sig x bound n sc)))
     where
       wide : (y : Res Piece) → WalkedAt k 1 (InAnswer (k .lg) e) y (x .size) (k .at + 1) s1 cs1 e
-          → WalkedAt k 0 (Gave answer) (_>>=_ y (λ p. ok (silent p))) (1 + x .size) (k .at) s1 cs1 e
+          → WalkedAt k 0 (λ p. p .count ≡ count) (_>>=_ y (λ p. ok (silent p))) (1 + x .size) (k .at) s1 cs1 e
       wide (refuse n p) w = stop (1 + x .size) (k .at) (refuse n p) (λ p. ok (silent p)) w (λ z. omega (arith, w .ended .number, w .ended .some)) (omega arith)
       wide (ok p) w =
           let o = w .ended .0 in
@@ -107,9 +113,15 @@ module _ {k : Site} (g : Begun k (λ sig. ExprAt sig (k .ws) maxDepth (k .at + 1
                 kept-wide (k .to) (k .to + 4 * m) (k .sp) (k .sp + m) (k .lg + m) (w .kept) (omega arith) (omega arith) (omega arith) (omega arith) (omega arith);
             ended = (
               record { fine = o .fine; next = omega (arith, o .next); to = o .to; counters = o .counters; written = o .written; fits = omega (arith, o .fits) },
-              omega (arith, w .ended .1 .uses),
+              omega (arith, w .ended .1 .uses, gives (o .fine)),
             );
           }
+
+  pub expression-refused : (e .refused ≡ 0 → ⊥) → Answers (refusedAction e)
+  expression-refused bad = ends 0 (refl, λ some. refl) (λ fine. absurd (bad fine))
+
+  pub expression-done : e .refused ≡ 0 → Answers (record { walk = e; names = 0; count = e .log - k .lg })
+  expression-done fine = ends (e .log - k .lg) (refl, λ bad. absurd (omega (arith, fine))) (λ z. refl)
 
 -- ---- a panic
 
@@ -132,7 +144,7 @@ module _ {k : Site} {l : ℕ} (h : Panics k l) where
   panic-done {s1} {e} put sig bound sc =
       let i = h .inside in
       let r = h .room in
-      acts-same sig bound (k .scope) (length (k .ws)) (lowerAction sig bound (panic′ (second k)) (k .cs)) refl refl (h .scopeRoom) (omega arith) sc
+      acts-same sig bound (k .scope) (length (k .ws)) (lowerAction sig bound (panic′ (second k)) (k .cs)) refl (refl, λ bad. absurd (omega arith)) (h .scopeRoom) (omega arith) sc
       (written 0 (λ p. p .count ≡ 1) 0 2 (k .at + 2) (k .at) (k .to) (k .sp) (k .lg) (k .s) (k .cs) (k .s) (k .cs) s1 (actionWord 6 ∷ l ∷ []) standing e 0
       (ok (nothing (k .cs))) (λ p. record { terms = []; words = actionWord 6 ∷ second k ∷ []; count = 1; next = k .cs })
       (omega (arith, r .words)) (omega (arith, r .stack)) (omega (arith, r .log)) (omega arith) (omega arith) (omega arith)

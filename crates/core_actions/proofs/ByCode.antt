@@ -13,7 +13,7 @@ use Rattle.rules.specs.ToCoreActions.{Done, lowerChange, lowerSet, lowerAction}
 use Rattle.walks.specs.Steps.{Piece, ExprAt}
 use Rattle.head_exprs.specs.Scopes.{Scoped}
 use Rattle.head_exprs.proofs.Sites.{Site, Known, RoomAt, ScopeRoomAt, Every, WalkedAt}
-use Rattle.core_actions.specs.Acts.{donePiece, ActionAt, LetAt, ChangeAt, PairAt, changed, Gave}
+use Rattle.core_actions.specs.Acts.{donePiece, ActionAt, LetAt, ChangeAt, PairAt, changed, Gave, Quiet}
 use Rattle.core_actions.specs.declared.actions.Acted.{Acted}
 use Rattle.core_actions.proofs.Does.{KnownSigned, Does, DoesAction, second, Changes}
 use Rattle.core_actions.proofs.Lets as lets
@@ -64,7 +64,7 @@ module _ {gs : List ℕ} {k : Site} {w : ℕ} (g : Coded gs k w) where
   head = headOf (second k)
 
   module _ {s′ cs′ : List ℕ} {r : Acted} where
-    row-does : (sig : Sig) (bound : List ℕ) (x : Res Done) (more code : ℕ) (y : ChangeAt sig (k .ws) more (k .at)) → Scoped sig bound (k .s) (k .scope) → r .names ≡ 0
+    row-does : (sig : Sig) (bound : List ℕ) (x : Res Done) (more code : ℕ) (y : ChangeAt sig (k .ws) more (k .at)) → Scoped sig bound (k .s) (k .scope) → Quiet r
         → SameBound sig bound x → w ≡ code → donePiece x ≡ changed sig bound code more (k .at + 1) head (y .exprs .value) (k .cs)
         → WalkedAt k 0 (Gave r) (changed sig bound w more (k .at + 1) head (y .exprs .value) (k .cs)) (2 + y .exprs .size) (k .at) s′ cs′ (r .walk)
         → Does k sig x (2 + y .exprs .size) s′ cs′ r

@@ -13,7 +13,7 @@ use Rattle.walks.proofs.Steps.{went, stop}
 use Rattle.walks.proofs.Read.{exprs-many, recount}
 use Rattle.head_exprs.specs.Lowered.{loweredAll}
 use Rattle.head_exprs.proofs.Sites.{Site, Asks, Every, WalkedAt, Tree, tree, Begun, begun-as, asks}
-use Rattle.core_actions.specs.Acts.{ChangeAt, refusedAction, closing, changed, ChangeFits, Gave}
+use Rattle.core_actions.specs.Acts.{ChangeAt, refusedAction, closing, changed, ChangeFits, Gave, Quiet}
 use Rattle.core_actions.specs.declared.actions.Acted.{Acted}
 use Rattle.core_actions.proofs.Does.{second, Changes, TermedAt}
 use Rattle.core_actions.proofs.Closing.{Closes}
@@ -112,7 +112,7 @@ module _ {k : Site} {code more w : ℕ} (h : Changing k code more w) where
       WalkedAt k 0 (Gave r) (changed (t .sig) (t .bound) code more (k .at + 1) (headOf w) (t .it .exprs .value) (k .cs)) (2 + t .it .exprs .size)
       (k .at) s′ cs′ (r .walk)
 
-  answers : {s′ cs′ : List ℕ} {r : Acted} → r .names ≡ 0 → ((t : Tree k (Change k more w)) → Ends s′ cs′ r t) → Changes k code more s′ cs′ r
+  answers : {s′ cs′ : List ℕ} {r : Acted} → Quiet r → ((t : Tree k (Change k more w)) → Ends s′ cs′ r t) → Changes k code more s′ cs′ r
   answers {s′} {cs′} {r} none f = (
     none,
     λ sig x bound n sc. subst
@@ -122,7 +122,7 @@ module _ {k : Site} {code more w : ℕ} (h : Changing k code more w) where
 
   module _ {s1 cs1 : List ℕ} {a : Walk} (m : Argued k 2 maxDepth (countOf w + more) w s1 cs1 a) where
     pub change-refused : (a .refused ≡ 0 → ⊥) → Changes k code more s1 cs1 (refusedAction a)
-    change-refused bad = answers refl refused
+    change-refused bad = answers (refl, λ some. refl) refused
       where
         refused : (t : Tree k (Change k more w)) → Ends s1 cs1 (refusedAction a) t
         refused t =

@@ -15,13 +15,13 @@ use Rattle.walks.specs.Steps.{Piece, stoppedAt, OnStack, Walked}
 use Rattle.walks.specs.declared.Walk.{Walk}
 use Rattle.walks.proofs.Steps.{Own, full-last, last-done}
 use Rattle.walks.proofs.Words.{head-word}
-use Rattle.core_actions.specs.Acts.{refusedAction, changePiece, andChange, Termed, ChangeFits, Gave}
+use Rattle.core_actions.specs.Acts.{refusedAction, changePiece, andChange, Termed, ChangeFits, Gave, Quiet}
 use Rattle.core_actions.specs.declared.actions.Acted.{Acted}
 
 -- what the contract says of an answer, behind the walk a that left s1 and cs1
 abbrev pub Closes : (code w n place sp lg : ℕ) (s1 cs1 s′ cs′ : List ℕ) → Walk → Acted → Type 0
 Closes code w n place sp lg s1 cs1 s′ cs′ a r =
-    (r .names ≡ 0)
+    Quiet r
     × ((more at to size : ℕ) (x : Res Piece) (s cs : List ℕ) → n ≡ countOf w + more → Termed at to size n sp lg x s cs s1 cs1 a
     → Walked 0 (Gave r) (andChange code more place (headOf w) x) size at to sp lg s cs s′ cs′ (r .walk))
 
@@ -36,7 +36,7 @@ module _ {w n sp lg : ℕ} {s1 cs1 : List ℕ} {a : Walk} {s2 cs2 : List ℕ} {u
   -- its counter is used up
   pub closed-full : u ≡ 0 → Closes code w n place sp lg s1 cs1 s2 cs2 a (refusedAction (stoppedAt place (a .to) (a .log) usedUp))
   closed-full z = (
-    refl,
+    (refl, λ some. refl),
     λ more at to size x s cs counts t. full-last (t .behind) size (at + 2) at to sp lg (headOf w) place u s cs s1 cs1 s2 cs2 a (a .to) x
         (changePiece code more (headOf w)) (omega (arith, t .whole)) (t .walk) (t .fine) (o .taken place) z,
   )
@@ -45,7 +45,7 @@ module _ {w n sp lg : ℕ} {s1 cs1 : List ℕ} {a : Walk} {s2 cs2 : List ℕ} {u
   pub closed : {s3 : List ℕ} {e : ℕ} → (u ≡ 0 → ⊥) → (e ≡ a .to + 2 + n) × (s3 ≡ splice s2 (a .to) (code ∷ w ∷ part s2 sp n))
       → Closes code w n place sp lg s1 cs1 s3 cs2 a
       (record { walk = record { next = a .next; to = e; log = a .log + 1; term = 0; refused = 0 }; names = 0; count = a .log - lg + 1 })
-  closed {s3} {e} some put = (refl, all)
+  closed {s3} {e} some put = ((refl, λ bad. absurd (omega arith)), all)
     where
       ys : List ℕ
       ys = code ∷ w ∷ part s2 sp n

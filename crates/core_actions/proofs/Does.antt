@@ -1,6 +1,5 @@
 -- What the contracts of the walks over actions say, in names: what is known under a signature whose words are given, and what is done at a site.
 -- Assumes nothing.
-use mathlib.Core.Path.{_≡_}
 use mathlib.Core.List.{List}
 use Prim.Native.Nat.{ℕ, _+_}
 use lib.ListN.{getD}
@@ -12,7 +11,7 @@ use Rattle.walks.specs.Steps.{Piece, Under, Counted}
 use Rattle.walks.specs.declared.Walk.{Walk}
 use Rattle.head_exprs.specs.Scopes.{Scoped, Names}
 use Rattle.head_exprs.proofs.Sites.{Site, Every, WalkedAt}
-use Rattle.core_actions.specs.Acts.{ActionAt, ChangeAt, changed, Termed, Gave, Acts, Signed}
+use Rattle.core_actions.specs.Acts.{ActionAt, ChangeAt, changed, Termed, Gave, Quiet, Acts, Signed}
 use Rattle.core_actions.specs.declared.actions.Acted.{Acted}
 
 module _ (k : Site) where
@@ -43,6 +42,6 @@ module _ (k : Site) where
   -- what the contract of `lower_change` says of an answer: of the row's expressions `more` are not counted by its kind 3 word
   abbrev pub Changes : (code more : ℕ) → List ℕ → List ℕ → Acted → Type 0
   Changes code more s′ cs′ r =
-      (r .names ≡ 0)
+      Quiet r
       × Every k (λ sig. ChangeAt sig (k .ws) more (k .at))
       (λ sig x bound. WalkedAt k 0 (Gave r) (changed sig bound code more (k .at + 1) (headOf second) (x .exprs .value) (k .cs)) (2 + x .exprs .size) (k .at) s′ cs′ (r .walk))

@@ -4,9 +4,10 @@ use mathlib.Core.List.{List}
 use Prim.Native.Nat.{ℕ, _+_, _-_, _^_, _≤_, _<_}
 use native.Mathlib.Omega.{arith}
 use lib.ListN.{length}
+use Rattle.rules.specs.Refusals.{Res, ok, refuse}
 use Rattle.rules.specs.Signature.{Sig}
 use Rattle.rules.specs.ToCoreActions.{lowerAction, toCoreActions}
-use Rattle.walks.specs.Steps.{Walked, Room, Under, Counted}
+use Rattle.walks.specs.Steps.{Piece, Walked, Room, Under, Counted}
 use Rattle.walks.specs.declared.Walk.{Walk}
 use Rattle.walks.proofs.Asks.{counted-kept}
 use Rattle.walks.proofs.Steps.{went}
@@ -15,7 +16,7 @@ use Rattle.head_exprs.specs.Scopes.{Scoped, ScopeRoom, Names}
 use Rattle.head_exprs.specs.declared.scope.Scope.{Scope}
 use Rattle.head_exprs.proofs.Sites.{Site, site-of, RoomAt, ScopeRoomAt}
 use Rattle.head_exprs.proofs.Expressions.{standing}
-use Rattle.core_actions.specs.Acts.{donePiece, ActionAt, ActionsAt, Acts, Gave, Signed}
+use Rattle.core_actions.specs.Acts.{donePiece, ActionAt, ActionsAt, Acts, refusedAction, Gave, Idle, Signed}
 use Rattle.core_actions.specs.declared.actions.Acted.{Acted}
 use Rattle.core_actions.proofs.Does.{KnownSigned, DoesAction}
 use Rattle.core_actions.proofs.ReadActions.{action-inside}
@@ -47,12 +48,19 @@ module _ (h : Head) where
   -- what the contract says of an answer
   abbrev pub Answers : List ℕ → List ℕ → Acted → Type 0
   Answers s′ cs′ r =
-      (sig : Sig) (x : ActionsAt sig (h .ws) (h .n) (h .at)) (bound : List ℕ) → Counted sig (h .cs) → Scoped sig bound (h .s) (h .scope) → Signed sig (h .gs)
-      → Walked 0 (Gave r) (donePiece (toCoreActions sig bound (x .value) (h .cs))) (x .size) (h .at) (h .to) sp (h .lg) (h .s) (h .cs) s′ cs′ (r .walk)
+      Idle r
+      × ((sig : Sig) (x : ActionsAt sig (h .ws) (h .n) (h .at)) (bound : List ℕ) → Counted sig (h .cs) → Scoped sig bound (h .s) (h .scope) → Signed sig (h .gs)
+      → Walked 0 (Gave r) (donePiece (toCoreActions sig bound (x .value) (h .cs))) (x .size) (h .at) (h .to) sp (h .lg) (h .s) (h .cs) s′ cs′ (r .walk))
 
   -- what the next action is given, with these names let
   abbrev pub turn : ℕ → List ℕ → List ℕ → Walk → Site
   turn names s1 cs1 w = site-of (h .ws) s1 cs1 (w .next) (w .to) (h .scope .first + names) (w .log) (having (h .scope) names)
+
+-- a walk that is refused, whatever it would say of its terms
+halted : {T T′ : Piece → Type 0} {k at to sp lg : ℕ} {s cs s′ cs′ : List ℕ} {a : Walk} (x : Res Piece) → Walked 0 T x k at to sp lg s cs s′ cs′ a
+    → (a .refused ≡ 0 → ⊥) → Walked 0 T′ x k at to sp lg s cs s′ cs′ a
+halted (ok p) w bad = absurd (bad (w .ended .0 .fine))
+halted (refuse n q) w bad = record { kept = w .kept; ended = w .ended }
 
 -- between two turns: `left` actions are left, of which the walk makes the whole
 pub record Row (h : Head) (left names count : ℕ) (s1 cs1 : List ℕ) (w : Walk) : Type 0 where
@@ -86,8 +94,11 @@ row-start {h} q room sr fits =
 module _ {h : Head} {left names count : ℕ} {s1 cs1 : List ℕ} {w : Walk} (row : Row h left names count s1 cs1 w) where
   -- where none are left, the row is walked
   pub row-done : left ≡ 0 → Answers h s1 cs1 (record { walk = w; names = names; count = count })
-  row-done z sig x bound n sc sg =
-      left-none sig bound (h .ws) (h .n) (h .at) (h .to) (h .lg) (h .scope) (h .s) (h .cs) x left names count s1 cs1 w (row .rest sig x bound n sc sg) (row .going .fine) z
+  row-done z = (
+    λ bad. absurd (omega (arith, row .going .fine)),
+    λ sig x bound n sc sg. left-none sig bound (h .ws) (h .n) (h .at) (h .to) (h .lg) (h .scope) (h .s) (h .cs) x left names count s1 cs1 w
+        (row .rest sig x bound n sc sg) (row .going .fine) z,
+  )
 
   pub turn-room : RoomAt (turn h names s1 cs1 w) (w .next)
   turn-room = going-room (length (h .ws)) (length s1) (row .room) (row .scratch) (row .going)
@@ -123,11 +134,14 @@ module _ {h : Head} {left names count : ℕ} {s1 cs1 : List ℕ} {w : Walk} (row
     -- it is lowered: a, with s2 and cs2 left behind
     module _ {s2 cs2 : List ℕ} {a : Acted} (does : DoesAction (turn h names s1 cs1 w) (h .gs) s2 cs2 a) where
       -- one that is refused refuses the row
-      pub row-stop : (a .walk .refused ≡ 0 → ⊥) → Answers h s2 cs2 (record { walk = a .walk; names = names; count = count })
-      row-stop bad sig x bound n sc sg =
-          let l = row .rest sig x bound n sc sg in
-          left-stop sig bound (h .ws) (h .n) (h .at) (h .to) (h .lg) (h .scope) (h .s) (h .cs) x left names count s1 cs1 w l some turn-room s2 cs2 a
-          (λ y. does sig y (l .now) (counted-kept n (row .counters)) (l .scoped) sg) bad
+      pub row-stop : (a .walk .refused ≡ 0 → ⊥) → Answers h s2 cs2 (refusedAction (a .walk))
+      row-stop bad = (
+        λ refused. (refl, refl),
+        λ sig x bound n sc sg. let l = row .rest sig x bound n sc sg in
+            halted (donePiece (toCoreActions sig bound (x .value) (h .cs)))
+            (left-stop sig bound (h .ws) (h .n) (h .at) (h .to) (h .lg) (h .scope) (h .s) (h .cs) x left names count s1 cs1 w l some turn-room s2 cs2 a
+            (λ y. does sig y (l .now) (counted-kept n (row .counters)) (l .scoped) sg) bad) bad,
+      )
 
       -- and behind any other one less is left
       module _ (fine : a .walk .refused ≡ 0) where

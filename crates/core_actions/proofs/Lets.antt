@@ -21,7 +21,7 @@ use Rattle.head_exprs.specs.Scopes.{Scoped, ScopeFits}
 use Rattle.head_exprs.specs.Lowered.{lowered}
 use Rattle.head_exprs.proofs.Scopes.{scope-let, scope-fits}
 use Rattle.head_exprs.proofs.Sites.{Site, Asks, Every, WalkedAt, Tree, tree, Begun, begun-as, asks}
-use Rattle.core_actions.specs.Acts.{LetAt, refusedAction, Gave, ScopeAfter}
+use Rattle.core_actions.specs.Acts.{LetAt, donePiece, refusedAction, Gave, ScopeAfter}
 use Rattle.core_actions.specs.declared.actions.Acted.{Acted}
 use Rattle.core_actions.proofs.Pieces.{letPiece, done-let}
 use Rattle.core_actions.proofs.Does.{Does, second}
@@ -85,7 +85,7 @@ module _ {k : Site} {v : ℕ} (h : Letting k v) {b : Bool} (test : Test k v b) w
                   kept = kept-none (k .to) (k .to + 4 * m) (k .sp) (k .sp + m) (k .lg) (k .lg + m) (k .s) (k .cs) (omega arith);
                   ended = record { number = refl; place = refl; some = omega arith };
                 };
-            after = tt;
+            after = (refl, refl);
           }
 
 -- it is free
@@ -114,7 +114,7 @@ module _ {k : Site} {v : ℕ} (f : Free k v) {s1 cs1 : List ℕ} {e : Walk} (l :
       stopped t =
           acts-stop (let-of k v false t)
           (rw (done-let (t .sig) (t .bound) (k .at) v (t .it .expr .value) (k .cs))
-          (stop (2 + t .it .expr .size) (k .at) (low t) (λ q. ok (letPiece v q)) (walk t) bad (omega arith))) bad
+          (stop (2 + t .it .expr .size) (k .at) (low t) (λ q. ok (letPiece v q)) (walk t) bad (omega arith))) bad (refl, λ some. refl)
 
   -- ---- it is fine
 
@@ -162,11 +162,14 @@ module _ {k : Site} {v : ℕ} (f : Free k v) {s1 cs1 : List ℕ} {e : Walk} (l :
         let r = let-room t in
         stored v (_>>=_ (low t) (λ q. ok (letPiece v q))) (action t) refl push (omega arith) (r .words) (r .stack) (r .log) (λ p here room u. u)
 
+    abbrev letting : Tree k (LetThere k) → Res Low → Res Done
+    letting t y = _>>=_ y (λ q. ok (record { acts = q .acts ++ Let v (q .term) ∷ []; bound = v ∷ t .bound; next = q .next }))
+
     after : (t : Tree k (LetThere k)) (y : Res Low)
-        → ScopeAfter (_>>=_ y (λ q. ok (record { acts = q .acts ++ Let v (q .term) ∷ []; bound = v ∷ t .bound; next = q .next })))
-        (t .sig) (k .scope) s3 answer
-    after t (refuse n p) = tt
-    after t (ok q) =
+        → WalkedAt k 0 (Gave answer) (donePiece (letting t y)) (2 + t .it .expr .size) (k .at) s3 cs1 (answer .walk)
+        → ScopeAfter (letting t y) (t .sig) (k .scope) s3 answer
+    after t (refuse n p) w = absurd (omega (arith, w .ended .number, w .ended .some))
+    after t (ok q) w =
         let r = let-room t in
         let i = t .it .expr .inside in
         let sr = f .letting .begun .scopeRoom in
@@ -187,7 +190,7 @@ module _ {k : Site} {v : ℕ} (f : Free k v) {s1 cs1 : List ℕ} {e : Walk} (l :
       where
         done : (t : Tree k (LetThere k)) → Ends k v false s3 cs1 answer t
         done t =
-            record {
-              piece = rw (done-let (t .sig) (t .bound) (k .at) v (t .it .expr .value) (k .cs)) (named t);
-              after = after t (lowerExpr (t .sig) (t .bound) (t .it .expr .value) (k .cs));
-            }
+            let y = lowerExpr (t .sig) (t .bound) (t .it .expr .value) (k .cs) in
+            let piece : WalkedAt k 0 (Gave answer) (donePiece (letting t y)) (2 + t .it .expr .size) (k .at) s3 cs1 (answer .walk) =
+            rw (done-let (t .sig) (t .bound) (k .at) v (t .it .expr .value) (k .cs)) (named t) in
+            record { piece = piece; after = after t y piece }

@@ -21,7 +21,7 @@ use Rattle.head_exprs.specs.Lowered.{lowered, loweredAll}
 use Rattle.head_exprs.proofs.Scopes.{scope-fits}
 use Rattle.head_exprs.proofs.Pieces.{lowered-leaf}
 use Rattle.head_exprs.proofs.Sites.{Site, Every, WalkedAt, Tree, tree, tree-as, Begun}
-use Rattle.core_actions.specs.Acts.{NameCallAt, refusedAction, closing, andChange, ChangeFits, Gave}
+use Rattle.core_actions.specs.Acts.{NameCallAt, refusedAction, closing, andChange, ChangeFits, Gave, Quiet}
 use Rattle.core_actions.specs.declared.actions.Acted.{Acted}
 use Rattle.core_actions.proofs.Pieces.{done-set, same-set}
 use Rattle.core_actions.proofs.Does.{Does, TermedAt, second}
@@ -104,11 +104,12 @@ module _ {k : Site} {v w : ℕ} (h : Naming k v w) where
       WalkedAt k 0 (Gave r) (andChange (actionWord 2) 1 (k .at + 2) (headOf w) (andThen (args t) (name t))) (3 + t .it .call .exprs .size)
       (k .at) s′ cs′ (r .walk)
 
-  refused : {s′ cs′ : List ℕ} {r : Acted} (t : Tree k (NameCall k v w)) → Walks s′ cs′ r t → (r .walk .refused ≡ 0 → ⊥) → Ends s′ cs′ r t
-  refused t walk bad =
-      acts-stop (lowering t) (rw (done-set (t .sig) (t .bound) (k .at + 2) (headOf w) (t .it .call .exprs .value) (leaf (k .at + 1) v) (k .cs)) walk) bad
+  refused : {s′ cs′ : List ℕ} {r : Acted} (t : Tree k (NameCall k v w)) → Walks s′ cs′ r t → (r .walk .refused ≡ 0 → ⊥) → Quiet r
+      → Ends s′ cs′ r t
+  refused t walk bad quiet =
+      acts-stop (lowering t) (rw (done-set (t .sig) (t .bound) (k .at + 2) (headOf w) (t .it .call .exprs .value) (leaf (k .at + 1) v) (k .cs)) walk) bad quiet
 
-  done : {s′ cs′ : List ℕ} {r : Acted} (t : Tree k (NameCall k v w)) → Walks s′ cs′ r t → r .names ≡ 0 → Ends s′ cs′ r t
+  done : {s′ cs′ : List ℕ} {r : Acted} (t : Tree k (NameCall k v w)) → Walks s′ cs′ r t → Quiet r → Ends s′ cs′ r t
   done t walk none =
       let x = t .it .call .exprs in
       let i = x .inside in
@@ -125,7 +126,7 @@ module _ {k : Site} {v w : ℕ} (h : Naming k v w) where
     walk t = m .walk (tree-as t (λ sig x. x .call))
 
     pub args-refused : (a .refused ≡ 0 → ⊥) → Answers k s1 cs1 (refusedAction a)
-    args-refused bad = answers (λ t. refused t (stopped t) bad)
+    args-refused bad = answers (λ t. refused t (stopped t) bad (refl, λ some. refl))
       where
         stopped : (t : Tree k (NameCall k v w)) → Walks s1 cs1 (refusedAction a) t
         stopped t =
@@ -162,7 +163,7 @@ module _ {k : Site} {v w : ℕ} (h : Naming k v w) where
             test (t .sig) (t .bound) (scope-after (length (k .ws)) (x .size) (h .begun .scopeRoom) (omega arith) (walk t .kept) (t .scoped)) (t .it .old)
 
         pub name-refused : b ≡ false → Answers k s1 cs1 (refusedAction (stoppedAt (k .at + 1) (a .to) (a .log) unbound))
-        name-refused not = answers (λ t. refused t (stopped t) (λ z. omega arith))
+        name-refused not = answers (λ t. refused t (stopped t) (λ z. omega arith) (refl, λ some. refl))
           where
             ans : Walk
             ans = stoppedAt (k .at + 1) (a .to) (a .log) unbound

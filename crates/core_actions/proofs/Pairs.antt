@@ -63,7 +63,7 @@ module _ {k : Site} (t : Tree k (Pair k)) where
   refused n w h bad =
       acts-stop union
       (rw (done-union (t .sig) (t .bound) (t .it .left .value) (t .it .right .value) (k .cs))
-      (stop (1 + size) (k .at) (andThen X Y) (λ q. ok (unionPiece q)) w bad h)) bad
+      (stop (1 + size) (k .at) (andThen X Y) (λ q. ok (unionPiece q)) w bad h)) bad (refl, λ some. refl)
 
 -- ---- the left side is lowered: l, with s1 and cs1 left behind
 
@@ -161,7 +161,8 @@ module _ {k : Site} {s1 cs1 : List ℕ} {l : Walk} (d : LeftDone k s1 cs1 l) whe
               let i = t .it .right .inside in
               let q = d .begun .room in
               acts-same (t .sig) (t .bound) (k .scope) (length (k .ws)) (union t)
-              (same-union (t .sig) (t .bound) (t .it .left .value) (t .it .right .value) (k .cs)) refl (d .begun .scopeRoom) (omega arith) (t .scoped)
+              (same-union (t .sig) (t .bound) (t .it .left .value) (t .it .right .value) (k .cs)) (refl, λ bad. absurd (omega arith)) (d .begun .scopeRoom) (omega arith)
+              (t .scoped)
               (rw (done-union (t .sig) (t .bound) (t .it .left .value) (t .it .right .value) (k .cs))
               (written 0 (Gave answer) (size t) (1 + size t) (k .at + 1) (k .at) (k .to) (k .sp) (k .lg) (k .s) (k .cs) s2 cs2 s3
               (actionWord 5 ∷ l .term ∷ r .term ∷ []) r e 0 (andThen (X t) (Y t)) unionPiece

@@ -107,10 +107,18 @@ pub record ChangeFits (w n sp lg : ℕ) (a : Walk) (s cs : List ℕ) : Type 0 wh
 abbrev pub Gave : Acted → Piece → Type 0
 Gave r p = p .count ≡ r .count
 
--- after an action that is done the scope has as many names more as the answer says, and these are the names bound
+-- no name is let, and where it is refused no flat action is given
+abbrev pub Quiet : Acted → Type 0
+Quiet r = (r .names ≡ 0) × (0 < r .walk .refused → r .count ≡ 0)
+
+-- where a row of actions is refused, no name is let and no flat action given
+abbrev pub Idle : Acted → Type 0
+Idle r = 0 < r .walk .refused → (r .names ≡ 0) × (r .count ≡ 0)
+
+-- after an action that is done the scope has as many names more as the answer says, and these are the names bound; a refusal lets and gives none
 abbrev pub ScopeAfter : Res Done → Sig → Scope → List ℕ → Acted → Type 0
 ScopeAfter (ok d) sig c s′ r = (r .names ≤ 1) × Scoped sig (d .bound) s′ (grown c (r .names))
-ScopeAfter (refuse n p) sig c s′ r = Unit {0}
+ScopeAfter (refuse n p) sig c s′ r = (r .names ≡ 0) × (r .count ≡ 0)
 
 pub record Acts (x : Res Done) (sig : Sig) (c : Scope) (k at to sp lg : ℕ) (s cs s′ cs′ : List ℕ) (r : Acted) : Type 0 where
   pub piece : Walked 0 (Gave r) (donePiece x) k at to sp lg s cs s′ cs′ (r .walk)

@@ -19,7 +19,7 @@ ghost use Rattle.rules.specs.Written.{leaf, panic′, expr′};
 ghost use Rattle.rules.specs.ToCoreActions.{lowerLet, lowerUnion, lowerSet, lowerAction};
 ghost use Rattle.walks.specs.Steps.{Piece, Walked, Room, Under, Counted, ExprAt};
 ghost use Rattle.head_exprs.specs.Scopes.{Scoped, ScopeRoom, Names};
-ghost use Rattle.core_actions.specs.Acts.{LetAt, ChangeAt, PairAt, NameCallAt, refusedAction, ChangeFits, Termed, andChange, changed, Gave, Acts};
+ghost use Rattle.core_actions.specs.Acts.{LetAt, ChangeAt, PairAt, NameCallAt, refusedAction, ChangeFits, Termed, andChange, changed, Gave, Quiet, Acts};
 
 // The words of actions 1, 2, 5 and 6.
 const LET: u32 = 0x0200_0001;
@@ -134,7 +134,7 @@ fn put_change(
     log: usize,
 ) -> Acted
     requires { ⌜ ChangeFits w n sp log terms (words (now scratch)) (words (now counters)) ⌝ }
-    ensures { λ r. ⌜ (r .names ≡ 0)
+    ensures { λ r. ⌜ Quiet r
         × ((more at to size : ℕ) (x : Res Piece) (s cs : List ℕ) → n ≡ countOf w + more
         → Termed at to size n sp log x s cs (words (now (scratch .entry))) (words (now (counters .entry))) terms
         → Walked 0 (Gave r) (andChange code more place (headOf w) x) size
@@ -177,7 +177,7 @@ pub fn lower_change(
     requires { ⌜ Room (length (words (now rule))) at to sp log (length (words (now scratch))) ⌝ }
     requires { ⌜ ScopeRoom (length (words (now rule))) at to sp scope ⌝ }
     requires { ⌜ more ≤ 1 ⌝ }
-    ensures { λ r. ⌜ (r .names ≡ 0)
+    ensures { λ r. ⌜ Quiet r
         × ((sig : Sig) (x : ChangeAt sig (words (now (rule .entry))) more at) (bound : List ℕ)
         → Counted sig (words (now (counters .entry))) → Scoped sig bound (words (now (scratch .entry))) scope
         → Walked 0 (Gave r) (changed sig bound code more (at + 1) (headOf (getD (words (now (rule .entry))) (at + 1) 0)) (x .exprs .value)
@@ -269,6 +269,9 @@ pub fn lower_expression(
         sp,
         log,
     );
+    if e.refused != 0 {
+        return refused_action(e);
+    }
     Acted {
         walk: e,
         names: 0,

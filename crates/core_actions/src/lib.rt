@@ -25,7 +25,7 @@ ghost use Rattle.rules.specs.Signature.{Sig};
 ghost use Rattle.rules.specs.ToCoreActions.{lowerAction, toCoreActions};
 ghost use Rattle.walks.specs.Steps.{Walked, Room, Under, Counted};
 ghost use Rattle.head_exprs.specs.Scopes.{Scoped, ScopeRoom, Names};
-ghost use Rattle.core_actions.specs.Acts.{donePiece, ActionAt, ActionsAt, Acts, Gave, Signed};
+ghost use Rattle.core_actions.specs.Acts.{donePiece, ActionAt, ActionsAt, Acts, Gave, Idle, Signed};
 
 // A word that does not fit.
 const UNFIT: u32 = 5;
@@ -82,7 +82,8 @@ pub fn to_core_actions(
         × Signed sig (words (now signature))) ⌝ }
     requires { ⌜ Room (length (words (now rule))) at to (scope .first + scope .names) log (length (words (now scratch))) ⌝ }
     requires { ⌜ ScopeRoom (length (words (now rule))) at to (scope .first + scope .names) scope ⌝ }
-    ensures { λ r. ⌜ ((sig : Sig) (x : ActionsAt sig (words (now (rule .entry))) n at) (bound : List ℕ)
+    ensures { λ r. ⌜ Idle r
+        × ((sig : Sig) (x : ActionsAt sig (words (now (rule .entry))) n at) (bound : List ℕ)
         → Counted sig (words (now (counters .entry))) → Scoped sig bound (words (now (scratch .entry))) scope → Signed sig (words (now (signature .entry)))
         → Walked 0 (Gave r) (donePiece (toCoreActions sig bound (x .value) (words (now (counters .entry))))) (x .size)
         at to (scope .first + scope .names) log (words (now (scratch .entry))) (words (now (counters .entry))) (words (now (scratch .exit))) (words (now (counters .exit))) (r .walk)) ⌝ }
@@ -117,7 +118,7 @@ pub fn to_core_actions(
         );
         walk = one.walk;
         if walk.refused != 0 {
-            return Acted { walk, names, count };
+            return refused_action(walk);
         }
         names += one.names;
         count += one.count;

@@ -1,12 +1,12 @@
 -- Laws of the search for a name, and of scopes that a walk leaves as they are. Assumes nothing.
 use mathlib.Core.Path.{_≡_, refl, sym, ap, _∙_}
 use mathlib.Core.List.{List, [], _∷_, _++_}
-use mathlib.Core.Bool.{Bool, true, false, _||_}
+use mathlib.Core.Bool.{Bool, true, false, _||_, cond}
 use Prim.Native.Nat.{ℕ, _+_, _≤_, _<_}
 use native.Mathlib.Omega.{arith}
-use lib.Dec.{eqb}
+use lib.Dec.{eqb, ltb}
 use lib.ListN.{length, getD}
-use borrow.Author.Tests.{lt-leb, le-leb}
+use borrow.Author.Tests.{lt-leb, le-leb, lt-ltb, le-ltb, ltb-true, ltb-false}
 use Rattle.octets.specs.Regions.{part, isIn}
 use Rattle.octets.proofs.Splice.{part-more, part-same}
 use Rattle.rules.specs.Words.{limit12, nameBase, freshBase}
@@ -15,7 +15,7 @@ use Rattle.rules.specs.ToCoreActions.{readable}
 use Rattle.meaning.proofs.DistinctWords.{elem-append}
 use Rattle.meaning.proofs.Lists.{in-elem}
 use Rattle.walks.specs.Steps.{Kept, Room}
-use Rattle.head_exprs.specs.Scopes.{inScope, grown, ScopeFits, Scoped, ScopeRoom}
+use Rattle.head_exprs.specs.Scopes.{inScope, mayRead, isTaken, grown, ScopeFits, Scoped, ScopeRoom}
 use Rattle.head_exprs.specs.declared.scope.Scope.{Scope}
 
 -- what the two searches say
@@ -53,11 +53,39 @@ is-not-var sig g w e f k =
     rw (lt-leb freshBase w h, lt-leb (nameBase + sig .globals) w j)
 
 -- the two tests, as the definition has them: a word below the first variable is read, and is bound only by a let
+pub may-read-low : (s : List ℕ) (c : Scope) (w : ℕ) → w < nameBase + c .globals → true ≡ mayRead s c w
+may-read-low s c w h = rw (lt-ltb w (nameBase + c .globals) h)
+
+pub may-read-high : (s : List ℕ) (c : Scope) (w : ℕ) → nameBase + c .globals ≤ w → inScope s c w ≡ mayRead s c w
+may-read-high s c w h = rw (le-ltb w (nameBase + c .globals) h)
+
+pub taken-low : (s : List ℕ) (c : Scope) (w : ℕ) → w < nameBase + c .globals → elem w (part s (c .first) (c .names)) ≡ isTaken s c w
+taken-low s c w h = rw (lt-ltb w (nameBase + c .globals) h)
+
+pub taken-high : (s : List ℕ) (c : Scope) (w : ℕ) → nameBase + c .globals ≤ w → inScope s c w ≡ isTaken s c w
+taken-high s c w h = rw (le-ltb w (nameBase + c .globals) h)
+
 pub reads-low : (sig : Sig) (bound s : List ℕ) (c : Scope) (w : ℕ) → Scoped sig bound s c → w < nameBase + c .globals → true ≡ readable sig bound w
 reads-low sig bound s c w x h = rw (is-not-var sig (c .globals) w (x .globals) (x .few) h)
 
 pub reads-high : (sig : Sig) (bound s : List ℕ) (c : Scope) (w : ℕ) → Scoped sig bound s c → w < freshBase → nameBase + c .globals ≤ w → inScope s c w ≡ readable sig bound w
 reads-high sig bound s c w x old h = rw (is-var sig (c .globals) w (x .globals) old h) (sym (x .variables w h old))
+
+pub reads-as : {s : List ℕ} {c : Scope} {b : Bool} (w : ℕ) → b ≡ mayRead s c w → (sig : Sig) (bound : List ℕ) → Scoped sig bound s c → w < freshBase
+    → b ≡ readable sig bound w
+reads-as {s} {c} w e sig bound x old = e ∙ go (ltb w (nameBase + c .globals)) refl
+  where
+    go : (t : Bool) → ltb w (nameBase + c .globals) ≡ t → t || inScope s c w ≡ readable sig bound w
+    go true l = reads-low sig bound s c w x (ltb-true w (nameBase + c .globals) l)
+    go false l = reads-high sig bound s c w x old (ltb-false w (nameBase + c .globals) l)
+
+pub taken-as : {s : List ℕ} {c : Scope} {b : Bool} (w : ℕ) → b ≡ isTaken s c w → (sig : Sig) (bound : List ℕ) → Scoped sig bound s c → w < freshBase
+    → b ≡ elem w bound
+taken-as {s} {c} w e sig bound x old = e ∙ go (ltb w (nameBase + c .globals)) refl
+  where
+    go : (t : Bool) → ltb w (nameBase + c .globals) ≡ t → cond t (elem w (part s (c .first) (c .names))) (inScope s c w) ≡ elem w bound
+    go true l = sym (x .global w (ltb-true w (nameBase + c .globals) l))
+    go false l = sym (x .variables w (ltb-false w (nameBase + c .globals) l) old)
 
 turn-let : (t b n : Bool) → t || (b || n) ≡ b || (n || (t || false))
 turn-let true true n = refl

@@ -2,8 +2,9 @@
 -- Assumes nothing: these are definitions.
 use mathlib.Core.Path.{_≡_}
 use mathlib.Core.List.{List}
-use mathlib.Core.Bool.{Bool, _||_}
+use mathlib.Core.Bool.{Bool, _||_, cond}
 use Prim.Native.Nat.{ℕ, _+_, _*_, _<_, _≤_}
+use lib.Dec.{ltb}
 use lib.ListN.{length}
 use Rattle.octets.specs.Regions.{part}
 use Rattle.rules.specs.Words.{limit12, nameBase, freshBase}
@@ -12,6 +13,14 @@ use Rattle.head_exprs.specs.declared.scope.Scope.{Scope}
 
 unfoldable pub inScope : List ℕ → Scope → ℕ → Bool
 inScope s c w = elem w (part s 0 (c .body)) || elem w (part s (c .first) (c .names))
+
+-- a word below the first variable, which is a literal's or a global's, may always be read; any other where it is in scope
+abbrev pub mayRead : List ℕ → Scope → ℕ → Bool
+mayRead s c w = ltb w (nameBase + c .globals) || inScope s c w
+
+-- a word below the first variable is taken where it is let; any other where it is in scope
+abbrev pub isTaken : List ℕ → Scope → ℕ → Bool
+isTaken s c w = cond (ltb w (nameBase + c .globals)) (elem w (part s (c .first) (c .names))) (inScope s c w)
 
 -- t names more are let
 abbrev pub grown : Scope → ℕ → Scope

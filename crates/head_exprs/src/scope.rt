@@ -1,12 +1,7 @@
 // Which names are bound: those among the words of the body's atoms, and those let so far.
 ghost use mathlib.Core.Path.{_≡_};
-ghost use mathlib.Core.List.{List};
-ghost use Prim.Native.Nat.{ℕ, _<_};
 ghost use Rattle.octets.specs.Words.{words};
-ghost use Rattle.rules.specs.Words.{freshBase};
-ghost use Rattle.rules.specs.Signature.{Sig, elem};
-ghost use Rattle.rules.specs.ToCoreActions.{readable};
-ghost use Rattle.head_exprs.specs.Scopes.{inScope, Scoped, ScopeFits};
+ghost use Rattle.head_exprs.specs.Scopes.{inScope, mayRead, isTaken, ScopeFits};
 
 // Names below `globals` are globals. The body's words are the first `body` of the scratch; the `names` words from `first` on are let.
 pub struct Scope {
@@ -30,7 +25,7 @@ fn has(s: &[u8], scope: Scope, w: u32) -> bool
 // Whether the leaf w may be read: a literal or a global, also after a let of it, or a bound name.
 pub fn may_read(s: &[u8], scope: Scope, w: u32) -> bool
     requires { ⌜ ScopeFits (words (now s)) scope ⌝ }
-    ensures { λ r. ⌜ ((sig : Sig) (bound : List ℕ) → Scoped sig bound (words (now (s .entry))) scope → w < freshBase → r ≡ readable sig bound w) ⌝ }
+    ensures { λ r. ⌜ r ≡ mayRead (words (now (s .entry))) scope w ⌝ }
 {
     if w < walks::NAME + scope.globals {
         return true; // a literal or a global
@@ -41,7 +36,7 @@ pub fn may_read(s: &[u8], scope: Scope, w: u32) -> bool
 // Whether the name w is bound: a variable by the body or by a let, a global by a let.
 pub fn taken(s: &[u8], scope: Scope, w: u32) -> bool
     requires { ⌜ ScopeFits (words (now s)) scope ⌝ }
-    ensures { λ r. ⌜ ((sig : Sig) (bound : List ℕ) → Scoped sig bound (words (now (s .entry))) scope → w < freshBase → r ≡ elem w bound) ⌝ }
+    ensures { λ r. ⌜ r ≡ isTaken (words (now (s .entry))) scope w ⌝ }
 {
     if w < walks::NAME + scope.globals {
         return octets::regions::among(s, scope.first, scope.names, w);

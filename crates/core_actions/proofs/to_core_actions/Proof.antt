@@ -5,6 +5,7 @@ use lib.ListN.{length}
 use Rattle.octets.specs.Words.{words}
 use Rattle.octets.proofs.Words.{length-words, length-words-kept}
 use Rattle.core_actions.proofs.HeadRows.{head, Row, row-start, row-done, turn-asks, turn-room, turn-scope, names-below, row-stop, names-fit, count-fits, row-next}
+use borrow.Author.Needs.{needs}
 use Rattle.core_actions.proofs.to_core_actions.Statement.{statement}
 use Rattle.core_actions.proofs.to_core_actions.Tie as tie
 
@@ -54,16 +55,20 @@ scratch-kept c = c .lower-action .kept .1 .1 .1 .1 .1 .0 ∙ turn-of c .before .
 
 -- ---- it is refused
 
+refused-action-requires : tie.Need-refused-action-requires Inv-loop μ-loop
+refused-action-requires c κs = search needs
+
 same-length : tie.Need-same-length Inv-loop μ-loop
-same-length c = counters-kept (lowered (c .before))
+same-length c = counters-kept (lowered (c .before .before))
 
 same-length-2 : tie.Need-same-length-2 Inv-loop μ-loop
-same-length-2 c = scratch-kept (lowered (c .before))
+same-length-2 c = scratch-kept (lowered (c .before .before))
 
 returns : tie.Need-returns Inv-loop μ-loop
 returns c =
-    let l = lowered (c .before) in
-    row-stop (turn-of l .before .loop .inv .2) (turn-of l .loop-test .taken) (l .lower-action .ensures) (c .if1 .taken)
+    let t = c .before in
+    let l = lowered (t .before) in
+    rw (c .refused-action .ensures) (row-stop (turn-of l .before .loop .inv .2) (turn-of l .loop-test .taken) (l .lower-action .ensures) (t .if1 .taken))
 
 -- ---- it is fine
 
@@ -115,6 +120,7 @@ to-core-actions-spec =
     loop-holds
     add-lower-action
     lower-action-requires
+    refused-action-requires
     same-length
     same-length-2
     returns

@@ -9,7 +9,7 @@ use Rattle.octets.specs.Words.{words}
 use Rattle.octets.proofs.Words.{length-words, length-words-kept}
 use Rattle.rules.specs.Signature.{Sig}
 use Rattle.head_exprs.specs.Scopes.{Scoped}
-use Rattle.head_exprs.proofs.Scopes.{scope-fits}
+use Rattle.head_exprs.proofs.Scopes.{scope-fits, reads-as}
 use Rattle.head_exprs.proofs.Sites.{site-of, begun}
 use Rattle.head_exprs.proofs.Expressions.{scope-in}
 use Rattle.head_exprs.proofs.Arguments.{Row, row-start, row-done, on, top-inside, top-fits, next-asks, row-stop, row-next}
@@ -169,7 +169,7 @@ module _ (t : ℕ) where
   lower-same-length c = search needs
 
   lower-returns : In-lower lower-lts.Need-returns
-  lower-returns c = let l = c .before .before .before in leaf-read (lower-word (l .before)) (l .if1 .taken) (c .before .may-read .ensures) (c .if2 .taken)
+  lower-returns c = let l = c .before .before .before in leaf-read (lower-word (l .before)) (l .if1 .taken) (reads-as (l .before .get .result) (c .before .may-read .ensures)) (c .if2 .taken)
 
   lower-stopped-requires : In-lower lower-lts.Need-stopped-requires
   lower-stopped-requires c κs = search needs
@@ -181,7 +181,7 @@ module _ (t : ℕ) where
   lower-returns-2 c =
       let u = c .before in
       let l = u .before .before .before in
-      rw (c .stopped .ensures) (leaf-unbound (lower-word (l .before)) (l .if1 .taken) (u .before .may-read .ensures) (u .if2 .left))
+      rw (c .stopped .ensures) (leaf-unbound (lower-word (l .before)) (l .if1 .taken) (reads-as (l .before .get .result) (u .before .may-read .ensures)) (u .if2 .left))
 
   -- ---- a call without arguments
 

@@ -6,7 +6,7 @@ use Rattle.octets.proofs.Words.{length-words, length-words-kept}
 use Rattle.rules.specs.Words.{maxDepth}
 use Rattle.walks.specs.Steps.{ExprAt}
 use Rattle.head_exprs.proofs.Sites.{Site, site-of, Begun, begun, asks}
-use Rattle.core_actions.proofs.Acting.{LowAt, expression-logged, expression-done}
+use Rattle.core_actions.proofs.Acting.{LowAt, expression-logged, expression-refused, expression-done}
 use borrow.Author.Needs.{needs}
 use Rattle.core_actions.proofs.actions.lower_expression.Statement.{statement}
 use Rattle.core_actions.proofs.actions.lower_expression.Tie as tie
@@ -36,8 +36,13 @@ at-lower c =
     let e = c .lower in
     record { walk = e .ensures; size = length-words-kept _ _ (e .kept .1 .1 .1 .1 .1 .0); counters = length-words-kept _ _ (e .kept .1 .1 .1 .1 .0) }
 
-sub-t10 : tie.Need-sub-t10
-sub-t10 c = let l = c .before .before .before .before .before in expression-logged (at-start (start l)) (at-lower l)
+-- ---- it is refused
+
+abbrev then-low : tie.Then1 → tie.After-lower
+then-low c = c .before .before .before .before .before .before
+
+refused-action-requires : tie.Need-refused-action-requires
+refused-action-requires c κs = search needs
 
 same-length : tie.Need-same-length
 same-length c = search needs
@@ -46,8 +51,27 @@ same-length-2 : tie.Need-same-length-2
 same-length-2 c = search needs
 
 returns : tie.Need-returns
-returns c = let l = c .before .before .before .before .before in expression-done (at-start (start l)) (at-lower l)
+returns c =
+    let l = then-low (c .before) in
+    rw (c .refused-action .ensures) (expression-refused (at-start (start l)) (at-lower l) (c .before .if1 .taken))
+
+-- ---- it is fine
+
+abbrev else-low : tie.Else1 → tie.After-lower
+else-low c = c .before .before .before .before .before .before
+
+sub-t10 : tie.Need-sub-t10
+sub-t10 c = let l = else-low (c .before) in expression-logged (at-start (start l)) (at-lower l)
+
+same-length-3 : tie.Need-same-length-3
+same-length-3 c = search needs
+
+same-length-4 : tie.Need-same-length-4
+same-length-4 c = search needs
+
+returns-2 : tie.Need-returns-2
+returns-2 c = let l = else-low (c .before) in expression-done (at-start (start l)) (at-lower l) (c .before .if1 .left)
 
 pub lower-expression-spec : {M : Type 1} → statement M
 lower-expression-spec =
-    tie.close (tie.spec add-lower lower-requires sub-t10 same-length same-length-2 returns)
+    tie.close (tie.spec add-lower lower-requires refused-action-requires same-length same-length-2 returns sub-t10 same-length-3 same-length-4 returns-2)

@@ -6,6 +6,7 @@ use native.Mathlib.Omega.{arith}
 use lib.ListN.{length, getD}
 use Rattle.octets.specs.Words.{words}
 use Rattle.octets.proofs.Words.{length-words, length-words-kept}
+use Rattle.head_exprs.proofs.Scopes.{taken-as}
 use Rattle.head_exprs.proofs.Sites.{Site, site-of, begun}
 use Rattle.core_actions.proofs.Acting.{LowAt, Fine}
 use Rattle.core_actions.proofs.Lets.{Letting, name-asks, expr-asks, let-twice, Free, is-free, let-refused, let-fine, let-done}
@@ -58,7 +59,7 @@ returns : tie.Need-returns
 returns c =
     let b = c .before .before in
     let t = b .before in
-    rw (c .refused-action .ensures, c .before .stopped .ensures) (let-twice (at-get (t .before .before)) (t .taken .ensures) (b .if1 .taken))
+    rw (c .refused-action .ensures, c .before .stopped .ensures) (let-twice (at-get (t .before .before)) (taken-as (t .before .before .get .result) (t .taken .ensures)) (b .if1 .taken))
 
 -- ---- it is free: the expression
 
@@ -66,7 +67,7 @@ abbrev else-get : tie.Else1 → tie.After-get
 else-get c = c .before .before .before
 
 at-free : (c : tie.Else1) → Free (site (start (else-get c))) (else-get c .get .result)
-at-free c = is-free (at-get (else-get c)) (c .before .taken .ensures) (c .if1 .left)
+at-free c = is-free (at-get (else-get c)) (taken-as (else-get c .get .result) (c .before .taken .ensures)) (c .if1 .left)
 
 add-lower : tie.Need-add-lower
 add-lower c = omega (arith, at-get (else-get c) .begun)

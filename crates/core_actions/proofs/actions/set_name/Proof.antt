@@ -7,6 +7,7 @@ use lib.ListN.{length, getD}
 use Rattle.octets.specs.Words.{words}
 use Rattle.octets.proofs.Words.{length-words, length-words-kept}
 use Rattle.rules.specs.Words.{maxDepth, countOf}
+use Rattle.head_exprs.proofs.Scopes.{reads-as}
 use Rattle.head_exprs.proofs.Sites.{Site, site-of, begun, begun-as}
 use Rattle.core_actions.specs.Acts.{NameCallAt}
 use Rattle.core_actions.proofs.Changes.{exprs-ask, Argued, argued, Fine, is-fine}
@@ -141,7 +142,7 @@ put-change-requires c κs =
     let p = c .before .before .before .before in
     let d = put-then p in
     let a = else-args (then-else d) in
-    end-asks (at-get (args-call a)) (at-args a) (at-else (then-else d)) (d .before .may-read .ensures) (d .if2 .taken) (p .put .ensures) (at-put p)
+    end-asks (at-get (args-call a)) (at-args a) (at-else (then-else d)) (reads-as (args-call a .before .get .result) (d .before .may-read .ensures)) (d .if2 .taken) (p .put .ensures) (at-put p)
 
 abbrev change-put : tie.After-put-change → tie.After-put
 change-put c = c .before .before .before .before .before
@@ -165,7 +166,7 @@ returns-2 c =
     let p = change-put (end-change c) in
     let d = put-then p in
     let a = else-args (then-else d) in
-    set-ends (at-get (args-call a)) (at-args a) (at-else (then-else d)) (d .before .may-read .ensures) (d .if2 .taken) (p .put .ensures)
+    set-ends (at-get (args-call a)) (at-args a) (at-else (then-else d)) (reads-as (args-call a .before .get .result) (d .before .may-read .ensures)) (d .if2 .taken) (p .put .ensures)
     (end-change c .put-change .ensures)
 
 -- ---- the name may not be read
@@ -190,7 +191,7 @@ returns-3 c =
     let n = c .before .before in
     let e = n .before .before .before in
     rw (c .refused-action2 .ensures, c .before .stopped .ensures)
-    (name-refused (at-get (args-call (else-args e))) (at-args (else-args e)) (at-else e) (n .before .may-read .ensures) (n .if2 .left))
+    (name-refused (at-get (args-call (else-args e))) (at-args (else-args e)) (at-else e) (reads-as (args-call (else-args e) .before .get .result) (n .before .may-read .ensures)) (n .if2 .left))
 
 pub set-name-spec : {M : Type 1} → statement M
 set-name-spec =
