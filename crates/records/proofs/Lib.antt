@@ -5,3 +5,4 @@ pub mod WrittenEnds
 pub mod WrittenLaws
 pub mod WrittenRun
 pub mod WrittenWhole
+pub mod Items

@@ -11,9 +11,9 @@ use Rattle.rules.specs.Words.{maxDepth, equalityWord, isNameWord, isLiteralWord
 use Rattle.rules.specs.Words.{Code, aLet, aSet, aDelete, aSubsume, aUnion, aPanic, aCall, anExpression, noCode}
 use Rattle.rules.specs.Refusals.{refuse, tooDeep}
 use Rattle.rules.specs.Signature.{Sig, heads}
-use Rattle.rules.specs.Written.{Expr, Exprs, Read, Reader, Shape, isLeaf, isCall, isBad, shape, readWord, readRow, readMany, readShape, readExpr}
+use Rattle.rules.specs.Written.{Expr, Exprs, Read, Reader, Shape, isLeaf, isCall, isBad, shape, readWord, readMany, readShape, readExpr}
 use Rattle.rules.specs.Written.{readTarget, readEqual, readHolds, readFact, readCode, readAction}
-use Rattle.records.proofs.WrittenWalk.{Went, went-then, went-made, went-less, went-from, went-word, behind-made, behind-pair, Several, many, row}
+use Rattle.records.proofs.WrittenWalk.{Went, went-then, went-made, went-less, went-from, went-word, behind-made, behind-pair, Several, many}
 use Rattle.records.proofs.Expected.{went-coded}
 
 module _ (s : Sig) (ws : List ℕ) where
@@ -75,9 +75,3 @@ module _ (s : Sig) (ws : List ℕ) where
 
   pub exprs : (d : ℕ) → Several ws (readExpr s ws d) (readMany (readExpr s ws d))
   exprs d = many ws (readExpr s ws d) (went-expr d)
-
-  pub facts : Several ws (readFact s ws) (readRow (readFact s ws))
-  facts = row ws (readFact s ws) went-fact
-
-  pub actions : Several ws (readAction s ws) (readRow (readAction s ws))
-  actions = row ws (readAction s ws) went-action

@@ -13,7 +13,7 @@ use Rattle.rules.specs.Words.{isEqualityWord, headOf, countOf, Code, aLet, aSet
 use Rattle.rules.specs.Refusals.{Res, ok, refuse, _>>=_, unfit, tooDeep}
 use Rattle.rules.specs.Signature.{Sig, heads}
 use Rattle.rules.specs.Written.{Expr, Exprs, Read, Reader, Shape, isLeaf, isCall, isBad, shape, shapeAt, readMany, readShape, readExpr, readTarget, readEqual, readFact}
-use Rattle.rules.specs.Written.{readCode, readAction, readRow, equal, union′, Fact, Rule, Action as Act}
+use Rattle.rules.specs.Written.{readCode, readAction, equal, union′, Action as Act}
 use Rattle.words.specs.Word.{kind}
 use Rattle.words.specs.declared.Word.{Word}
 use Rattle.words.specs.declared.Word.the-variants.{Fresh, Name, Literal, Head, Equality, Header, Action, Signature, Unfit}
@@ -23,12 +23,11 @@ use Rattle.meaning.proofs.Lists.{and-left, and-right}
 use Rattle.records.specs.declared.written.Walk.{Walk}
 use Rattle.records.specs.declared.written.Start.{Start}
 use Rattle.records.specs.declared.written.Start.the-variants.{Takes, Other}
-use Rattle.records.specs.Written.{withHeads, walk, walkOf, WordSays, startSays, taken, takenAt, leafWord, leafAt, readRule}
+use Rattle.records.specs.Written.{withHeads, walk, walkOf, WordSays, startSays, taken, takenAt, leafWord, leafAt}
 use Rattle.records.proofs.WrittenWalk.{made, then-made, moved, just-one, last-one}
-use Rattle.records.proofs.WrittenEnds.{went-fact}
 use Rattle.records.proofs.Expected.{wordAt, word-is, test-here, There, NotKind, kind-fits, kind-unfit, heads-most, with-below, head-with, head-other}
 use Rattle.records.proofs.Expected.{head-high, head-fits, head-count}
-use Rattle.records.proofs.Expected.{no-code, as-code, change-code, NoneOf, last-code, header-other, first-stops, then-second}
+use Rattle.records.proofs.Expected.{no-code, as-code, change-code, NoneOf, last-code}
 
 -- ---- an expression, by how it begins
 
@@ -286,19 +285,3 @@ module _ (s : Sig) {ws : List ℕ} {p : ℕ} where
     -- 7 is not written, and the other numbers are no codes
     pub action-none : NoneOf n 8 → walk unfit p ≡ walkOf (readAction s ws p)
     action-none k = last-code (by s ws p) t 8 k (λ e. refl) (λ e. absurd (k .last e)) refl
-
--- ---- a rule
-
-abbrev pub rule : List Fact → List Act → Rule
-rule fs xs = record { facts = fs; actions = xs }
-
-module _ (s : Sig) {ws : List ℕ} {p : ℕ} where
-  pub facts-other : NotKind ws p 5 → walk unfit p ≡ walkOf (readRule s ws p)
-  facts-other n = header-other ws rule (readFact s ws) (readAction s ws) (went-fact s ws) n
-
-  module _ {a b : ℕ} (t : There ws p (Header a b)) {w : Walk} (e : w ≡ walkOf (readRow (readFact s ws) a (p + 1))) where
-    pub facts-stop : ¬ (w .refused ≡ 0) → w ≡ walkOf (readRule s ws p)
-    facts-stop h = first-stops ws rule (readFact s ws) (readAction s ws) (went-fact s ws) t e h
-
-    pub facts-go : {z : Walk} → w .refused ≡ 0 → z ≡ walkOf (readRow (readAction s ws) b (w .at)) → z ≡ walkOf (readRule s ws p)
-    facts-go h g = then-second ws rule (readFact s ws) (readAction s ws) (went-fact s ws) t e h g

@@ -1,5 +1,4 @@
--- A whole written rule: one that begins at index 0 and has nothing behind it. And what signature it is read under: only the count of its heads matters.
--- Assumes nothing.
+-- What signature a written rule is read under: only the count of its heads matters. Assumes nothing.
 use mathlib.Core.Path.{_≡_, refl, ap, ap₂, _∙_}
 use mathlib.Core.Bool.{Bool, false, _&&_, cond}
 use mathlib.Core.List.{List}
@@ -12,17 +11,11 @@ use Rattle.rules.specs.Words.{Code, aLet, aSet, aDelete, aSubsume, aUnion, aPan
 use Rattle.rules.specs.Refusals.{Res, _>>=_}
 use Rattle.rules.specs.Signature.{Sig, heads}
 use Rattle.rules.specs.Written.{Fact, Read, Reader, Expr, shapeAt, readShape, readWord, readMany, readExpr, readTarget, readHolds, readFact}
-use Rattle.rules.specs.Written.{readCode, codeAt, readAction, readWritten}
-use Rattle.records.specs.Written.{withHeads, readRule}
-use Rattle.records.proofs.WrittenWalk.{then-same, Whole}
-use Rattle.records.proofs.WrittenEnds.{went-fact, went-action}
-use Rattle.records.proofs.Expected.{heads-with, wholeHeaded, headed-whole}
-use Rattle.records.proofs.WrittenLaws.{rule}
-
--- ---- a whole rule
-
-pub written-whole : (s : Sig) (ws : List ℕ) → Whole ws (readRule s ws 0) (readWritten s ws)
-written-whole s ws = headed-whole ws rule (readFact s ws) (readAction s ws) (went-fact s ws) (went-action s ws)
+use Rattle.rules.specs.Written.{readCode, codeAt, readWritten}
+use Rattle.records.specs.Written.{withHeads}
+use Rattle.records.proofs.WrittenWalk.{then-same}
+use Rattle.records.proofs.Expected.{heads-with, wholeHeaded}
+use Rattle.records.proofs.Items.{rule}
 
 -- ---- the signature: two of as many heads read alike
 

@@ -6,11 +6,11 @@ use mathlib.Core.Bool.{Bool, _&&_, cond}
 use mathlib.Core.List.{List}
 use lib.ListN.{length, getD}
 use lib.Dec.{ltb, leb}
-use Rattle.rules.specs.Words.{equalityBase, headBase, literalBase, isHeaderWord, headOf, factsOf, actionsOf, Code}
-use Rattle.rules.specs.Refusals.{Res, ok, refuse, _>>=_, unfit}
+use Rattle.rules.specs.Words.{equalityBase, headBase, literalBase, headOf, Code}
+use Rattle.rules.specs.Refusals.{Res, ok, refuse, unfit}
 use Rattle.rules.specs.Signature.{Sig}
-use Rattle.rules.specs.Written.{Reader, readWord, readRow}
-use Rattle.rules.specs.Flat.{CoreAction, FlatRule, isTerm, readAtom, readCoreCode, readCoreAction}
+use Rattle.rules.specs.Written.{Reader}
+use Rattle.rules.specs.Flat.{CoreAction, isTerm, readCoreCode}
 use Rattle.words.specs.Atom.{headKind, headNumber, countIn}
 use Rattle.words.specs.declared.Atom.{Atom as Begun}
 use Rattle.records.specs.declared.flat.First.{First}
@@ -56,11 +56,3 @@ firstAt ws p = cond (beginsAt ws p) (ok (numbersFrom (getD ws p 0) p)) (refuse u
 -- what stands behind an action word with a flat code, 1 to 7. Where that word stands matters to other codes alone, which are refused there
 abbrev pub readBehind : Sig → List ℕ → Code → Reader CoreAction
 readBehind s ws code q = readCoreCode s ws 0 code q
-
--- a rule that begins at an index, whatever stands behind it
-abbrev pub readFlatRule : Sig → List ℕ → Reader FlatRule
-readFlatRule s ws p = do
-  w ← readWord ws isHeaderWord p
-  as′ ← readRow (readAtom s ws) (factsOf (w .value)) (w .at)
-  xs ← readRow (readCoreAction s ws) (actionsOf (w .value)) (as′ .at)
-  ok (record { value = record { atoms = as′ .value; actions = xs .value }; at = xs .at })

@@ -1,3 +1,4 @@
 pub mod Signature
 pub mod Written
 pub mod Flat
+pub mod Rows

@@ -7,10 +7,10 @@ use mathlib.Core.Bool.{Bool, false, _&&_, _||_, cond}
 use mathlib.Core.List.{List}
 use lib.ListN.{length, getD, replicate}
 use lib.Dec.{ltb}
-use Rattle.rules.specs.Words.{limit12, isNameWord, isLiteralWord, isHeaderWord, factsOf, actionsOf, countOf}
-use Rattle.rules.specs.Refusals.{Res, ok, refuse, _>>=_, unfit}
+use Rattle.rules.specs.Words.{limit12, isNameWord, isLiteralWord, countOf}
+use Rattle.rules.specs.Refusals.{Res, ok, refuse, unfit}
 use Rattle.rules.specs.Signature.{Sig}
-use Rattle.rules.specs.Written.{Read, Reader, Rule, Shape, isLeaf, isCall, isBad, shapeAt, readWord, readRow, readFact, readAction}
+use Rattle.rules.specs.Written.{Read, Shape, isLeaf, isCall, isBad, shapeAt}
 use Rattle.words.specs.Word.{Numbers, numbers, numbersOf}
 use Rattle.words.specs.declared.Word.{Word}
 use Rattle.words.specs.declared.Word.the-variants.{Unfit}
@@ -67,12 +67,3 @@ leafWord w = isNameWord w || isLiteralWord w
 
 abbrev pub leafAt : List ℕ → ℕ → Bool
 leafAt ws p = ltb p (length ws) && leafWord (getD ws p 0)
-
--- ---- a rule that begins at an index, whatever stands behind it
-
-abbrev pub readRule : Sig → List ℕ → Reader Rule
-readRule s ws p = do
-  w ← readWord ws isHeaderWord p
-  fs ← readRow (readFact s ws) (factsOf (w .value)) (w .at)
-  xs ← readRow (readAction s ws) (actionsOf (w .value)) (fs .at)
-  ok (record { value = record { facts = fs .value; actions = xs .value }; at = xs .at })

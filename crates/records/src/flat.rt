@@ -1,4 +1,7 @@
 // Reads flat rules: whether their words fit, which is refusal 5, and whether each atom has the terms it needs, which are refusals 11 and 12.
+use super::rows::Item;
+use super::rows::row;
+use super::rows::whole;
 use super::written::UNFIT;
 use super::written::Walk;
 use super::written::is_leaf;
@@ -17,7 +20,7 @@ ghost use Rattle.rules.specs.Words.{isNameWord, isLiteralWord, aLet, aSet, aCal
 ghost use Rattle.rules.specs.Written.{readWord, readRow};
 ghost use Rattle.rules.specs.Flat.{isTarget, isTerm, readTerm, readTerms, readAtom, readCoreAction, readFlat};
 ghost use Rattle.records.specs.Written.{withHeads, walkOf, wholeOf};
-ghost use Rattle.records.specs.Flat.{termAt, firstSays, firstAt, readBehind, readFlatRule};
+ghost use Rattle.records.specs.Flat.{termAt, firstSays, firstAt, readBehind};
 
 // The refusals' numbers.
 pub const NO_TERMS: u32 = 11;
@@ -197,20 +200,7 @@ pub fn atom(rule: &[u8], heads: u32, at: usize) -> Walk
 pub fn atoms(rule: &[u8], heads: u32, at: usize, count: u32) -> Walk
     ensures { λ r. ⌜ r ≡ walkOf (readRow (readAtom (withHeads heads) (words (now (rule .entry)))) count at) ⌝ }
 {
-    let mut next = at;
-    let mut left = count;
-    while 0 < left {
-        let read = atom(rule, heads, next);
-        if read.refused != 0 {
-            return read;
-        }
-        next = read.at;
-        left -= 1;
-    }
-    Walk {
-        refused: 0,
-        at: next,
-    }
+    row(rule, heads, at, count, Item::Atom)
 }
 
 // ---- actions
@@ -283,56 +273,11 @@ pub fn action(rule: &[u8], heads: u32, at: usize) -> Walk
     }
 }
 
-// `count` actions, one after the other.
-pub fn actions(rule: &[u8], heads: u32, at: usize, count: u32) -> Walk
-    ensures { λ r. ⌜ r ≡ walkOf (readRow (readCoreAction (withHeads heads) (words (now (rule .entry)))) count at) ⌝ }
-{
-    let mut next = at;
-    let mut left = count;
-    while 0 < left {
-        let read = action(rule, heads, next);
-        if read.refused != 0 {
-            return read;
-        }
-        next = read.at;
-        left -= 1;
-    }
-    Walk {
-        refused: 0,
-        at: next,
-    }
-}
-
 // ---- rules
-
-// A rule that begins at an index, of a list that may go on behind it.
-pub fn rule_at(rule: &[u8], heads: u32, at: usize) -> Walk
-    ensures { λ r. ⌜ r ≡ walkOf (readFlatRule (withHeads heads) (words (now (rule .entry))) at) ⌝ }
-{
-    let w = word_at(rule, at);
-    let Word::Header(some, more) = w else {
-        return Walk { refused: UNFIT, at };
-    };
-    let body = atoms(rule, heads, at + 1, some);
-    if body.refused != 0 {
-        return body;
-    }
-    actions(rule, heads, body.at, more)
-}
 
 // A whole flat rule, with nothing behind it.
 pub fn flat(rule: &[u8], heads: u32) -> Walk
     ensures { λ r. ⌜ r ≡ wholeOf (words (now (rule .entry))) (readFlat (withHeads heads) (words (now (rule .entry)))) ⌝ }
 {
-    let read = rule_at(rule, heads, 0);
-    if read.refused != 0 {
-        return read;
-    }
-    if read.at < octets::count(rule) {
-        return Walk {
-            refused: UNFIT,
-            at: read.at,
-        };
-    }
-    read
+    whole(rule, heads, Item::Atom, Item::CoreAction)
 }

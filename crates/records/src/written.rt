@@ -1,4 +1,6 @@
 // Reads written rules: whether their words fit, which is refusal 5, and how deep their expressions are, which is refusal 6.
+use super::rows::Item;
+use super::rows::whole;
 use words::HEAD_BASE;
 use words::LIMIT_12;
 use words::LIMIT_16;
@@ -13,8 +15,8 @@ ghost use lib.ListN.{length};
 ghost use lib.Dec.{leb, ltb};
 ghost use Rattle.octets.specs.Words.{words};
 ghost use Rattle.rules.specs.Words.{maxDepth, isHeadWord, aLet, aSet, aPanic};
-ghost use Rattle.rules.specs.Written.{readMany, readExpr, readTarget, readEqual, readFact, readCode, readAction, readRow, readWritten};
-ghost use Rattle.records.specs.Written.{withHeads, walk, walkOf, wholeOf, WordSays, startSays, takenAt, leafWord, leafAt, readRule};
+ghost use Rattle.rules.specs.Written.{readMany, readExpr, readTarget, readEqual, readFact, readCode, readAction, readWritten};
+ghost use Rattle.records.specs.Written.{withHeads, walk, walkOf, wholeOf, WordSays, startSays, takenAt, leafWord, leafAt};
 
 // The refusals' numbers.
 pub const UNFIT: u32 = 5;
@@ -236,26 +238,6 @@ pub fn fact(rule: &[u8], heads: u32, at: usize) -> Walk
     }
 }
 
-// `count` facts, one after the other.
-pub fn facts(rule: &[u8], heads: u32, at: usize, count: u32) -> Walk
-    ensures { λ r. ⌜ r ≡ walkOf (readRow (readFact (withHeads heads) (words (now (rule .entry)))) count at) ⌝ }
-{
-    let mut next = at;
-    let mut left = count;
-    while 0 < left {
-        let read = fact(rule, heads, next);
-        if read.refused != 0 {
-            return read;
-        }
-        next = read.at;
-        left -= 1;
-    }
-    Walk {
-        refused: 0,
-        at: next,
-    }
-}
-
 // The kind 3 word of a set, a delete or a subsume, and its arguments.
 pub fn target(rule: &[u8], heads: u32, at: usize) -> Walk
     ensures { λ r. ⌜ r ≡ walkOf (readTarget (withHeads heads) (words (now (rule .entry))) at) ⌝ }
@@ -348,54 +330,9 @@ pub fn action(rule: &[u8], heads: u32, at: usize) -> Walk
     }
 }
 
-// `count` actions, one after the other.
-pub fn actions(rule: &[u8], heads: u32, at: usize, count: u32) -> Walk
-    ensures { λ r. ⌜ r ≡ walkOf (readRow (readAction (withHeads heads) (words (now (rule .entry)))) count at) ⌝ }
-{
-    let mut next = at;
-    let mut left = count;
-    while 0 < left {
-        let read = action(rule, heads, next);
-        if read.refused != 0 {
-            return read;
-        }
-        next = read.at;
-        left -= 1;
-    }
-    Walk {
-        refused: 0,
-        at: next,
-    }
-}
-
-// A rule that begins at an index, of a list that may go on behind it.
-pub fn rule_at(rule: &[u8], heads: u32, at: usize) -> Walk
-    ensures { λ r. ⌜ r ≡ walkOf (readRule (withHeads heads) (words (now (rule .entry))) at) ⌝ }
-{
-    let w = word_at(rule, at);
-    let Word::Header(some, more) = w else {
-        return Walk { refused: UNFIT, at };
-    };
-    let body = facts(rule, heads, at + 1, some);
-    if body.refused != 0 {
-        return body;
-    }
-    actions(rule, heads, body.at, more)
-}
-
 // A whole written rule, with nothing behind it.
 pub fn written(rule: &[u8], heads: u32) -> Walk
     ensures { λ r. ⌜ r ≡ wholeOf (words (now (rule .entry))) (readWritten (withHeads heads) (words (now (rule .entry)))) ⌝ }
 {
-    let read = rule_at(rule, heads, 0);
-    if read.refused != 0 {
-        return read;
-    }
-    if read.at < octets::count(rule) {
-        return Walk {
-            refused: UNFIT,
-            at: read.at,
-        };
-    }
-    read
+    whole(rule, heads, Item::Fact, Item::Action)
 }

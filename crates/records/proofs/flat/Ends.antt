@@ -62,9 +62,3 @@ module _ (s : Sig) (ws : List ℕ) where
 
   pub terms : Several ws (readTerm s ws) (readRow (readTerm s ws))
   terms = row ws (readTerm s ws) went-term
-
-  pub atoms : Several ws (readAtom s ws) (readRow (readAtom s ws))
-  atoms = row ws (readAtom s ws) went-atom
-
-  pub actions : Several ws (readCoreAction s ws) (readRow (readCoreAction s ws))
-  actions = row ws (readCoreAction s ws) went-action

@@ -14,7 +14,7 @@ use Rattle.rules.specs.Words.{isHeadWord, isEqualityWord, headOf, countOf, acti
 use Rattle.rules.specs.Refusals.{Res, ok, refuse, _>>=_, demand, unfit, noTerms, notTwo}
 use Rattle.rules.specs.Signature.{Sig, heads}
 use Rattle.rules.specs.Written.{Read, Reader, readWord, readRow}
-use Rattle.rules.specs.Flat.{Atom, CoreAction, FlatRule, isNone, isTarget, isTerm, atomShape, readTerm, readAtomShape, readAtom, readTerms, readCoreCode, readCoreAction}
+use Rattle.rules.specs.Flat.{CoreAction, isNone, isTarget, isTerm, atomShape, readTerm, readAtomShape, readAtom, readTerms, readCoreCode, readCoreAction}
 use Rattle.words.proofs.Ranges.{within-true, true-within, false-below, false-above, heads-below}
 use Rattle.words.proofs.WordLaws.{wordOf, is-head, name-kind, fresh-below, no-fresh}
 use Rattle.words.specs.Atom.{headKind, AtomSays}
@@ -23,13 +23,13 @@ use Rattle.words.specs.declared.Atom.{Atom as Begun}
 use Rattle.words.proofs.AtomLaws.{atom-head, atom-equality}
 use Rattle.meaning.proofs.Lists.{and-left}
 use Rattle.meaning.proofs.Results.{ok-inj}
-use Rattle.records.specs.Flat.{AtomNumbers, atomNumbers, numbersFrom, termAt, firstSays, firstAt, readBehind, readFlatRule}
+use Rattle.records.specs.Flat.{AtomNumbers, atomNumbers, numbersFrom, termAt, firstSays, firstAt, readBehind}
 use Rattle.records.specs.declared.written.Walk.{Walk}
 use Rattle.records.specs.Written.{withHeads, walk, walkOf, leafWord}
 use Rattle.records.proofs.WrittenWalk.{Went, stops, made, both, row, then-then}
 use Rattle.records.proofs.Expected.{There, NotKind, word-fits, word-unfit, heads-with, heads-most, head-with, head-other, head-high, head-fits, head-count}
-use Rattle.records.proofs.Expected.{no-code, as-code, change-code, NoneOf, last-code, header-other, first-stops, then-second}
-use Rattle.records.proofs.flat.Ends.{went-term, went-target, went-terms, went-atom}
+use Rattle.records.proofs.Expected.{no-code, as-code, change-code, NoneOf, last-code}
+use Rattle.records.proofs.flat.Ends.{went-term, went-target, went-terms}
 use Rattle.words.specs.declared.Word.the-variants as Said
 use Rattle.records.specs.declared.flat.First.the-variants as First
 
@@ -380,19 +380,3 @@ module _ (s : Sig) {ws : List ℕ} {p : ℕ} where
   -- 8 is not flat, and the other numbers are no codes
   pub action-none : {n : ℕ} → There ws p (Said.Action n) → NoneOf n 7 → walk unfit p ≡ walkOf (readCoreAction s ws p)
   action-none t k = last-code (by s ws p) t 7 k (λ e. absurd (k .last e)) (λ e. refl) refl
-
--- ---- a rule
-
-abbrev pub flatRule : List Atom → List CoreAction → FlatRule
-flatRule as′ xs = record { atoms = as′; actions = xs }
-
-module _ (s : Sig) {ws : List ℕ} {p : ℕ} where
-  pub atoms-other : NotKind ws p 5 → walk unfit p ≡ walkOf (readFlatRule s ws p)
-  atoms-other n = header-other ws flatRule (readAtom s ws) (readCoreAction s ws) (went-atom s ws) n
-
-  module _ {a b : ℕ} (t : There ws p (Said.Header a b)) {w : Walk} (e : w ≡ walkOf (readRow (readAtom s ws) a (p + 1))) where
-    pub atoms-stop : ¬ (w .refused ≡ 0) → w ≡ walkOf (readFlatRule s ws p)
-    atoms-stop h = first-stops ws flatRule (readAtom s ws) (readCoreAction s ws) (went-atom s ws) t e h
-
-    pub atoms-go : {z : Walk} → w .refused ≡ 0 → z ≡ walkOf (readRow (readCoreAction s ws) b (w .at)) → z ≡ walkOf (readFlatRule s ws p)
-    atoms-go h g = then-second ws flatRule (readAtom s ws) (readCoreAction s ws) (went-atom s ws) t e h g

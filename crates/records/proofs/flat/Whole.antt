@@ -1,5 +1,4 @@
--- A whole flat rule: one that begins at index 0 and has nothing behind it. And what signature it is read under: only the count of its heads matters.
--- Assumes nothing.
+-- What signature a flat rule is read under: only the count of its heads matters. Assumes nothing.
 use mathlib.Core.Path.{_≡_, refl, ap, ap₂, _∙_}
 use mathlib.Core.List.{List}
 use Prim.Native.Nat.{ℕ, suc, _-_, _≤_}
@@ -11,18 +10,11 @@ use Rattle.rules.specs.Refusals.{Res, _>>=_}
 use Rattle.rules.specs.Signature.{Sig, heads}
 use Rattle.rules.specs.Written.{Read, Reader, readWord, readRow, codeAt}
 use Rattle.rules.specs.Flat.{AtomShape, isPair, isOdd, isTable, isEmpty, isNone, isTarget, atomShapeAt, readTerm, readTerms, readAtomShape}
-use Rattle.rules.specs.Flat.{readAtom, readCoreCode, readCoreAction, readFlat}
+use Rattle.rules.specs.Flat.{readAtom, readCoreCode, readFlat}
 use Rattle.records.specs.Written.{withHeads}
-use Rattle.records.specs.Flat.{readFlatRule}
-use Rattle.records.proofs.WrittenWalk.{then-same, Whole}
-use Rattle.records.proofs.Expected.{heads-with, wholeHeaded, headed-whole}
-use Rattle.records.proofs.flat.Ends.{went-atom, went-action}
-use Rattle.records.proofs.flat.Laws.{flatRule}
-
--- ---- a whole rule
-
-pub flat-whole : (s : Sig) (ws : List ℕ) → Whole ws (readFlatRule s ws 0) (readFlat s ws)
-flat-whole s ws = headed-whole ws flatRule (readAtom s ws) (readCoreAction s ws) (went-atom s ws) (went-action s ws)
+use Rattle.records.proofs.WrittenWalk.{then-same}
+use Rattle.records.proofs.Expected.{heads-with, wholeHeaded}
+use Rattle.records.proofs.Items.{flatRule}
 
 -- ---- the signature: two of as many heads read alike
 

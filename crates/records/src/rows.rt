@@ -1,0 +1,84 @@
+// Rows: what a rule holds stands one after the other, written or flat. One loop reads them all, and a rule is two of them behind its header.
+use super::flat;
+use super::written;
+use super::written::UNFIT;
+use super::written::Walk;
+use super::written::word_at;
+use words::Word;
+ghost use mathlib.Core.Path.{_≡_};
+ghost use Rattle.octets.specs.Words.{words};
+ghost use Rattle.rules.specs.Written.{readRow};
+ghost use Rattle.records.specs.Written.{withHeads, walkOf, wholeOf};
+ghost use Rattle.records.specs.Rows.{readItem, readHeaded, readWhole};
+
+// What a row is of: facts and actions in a written rule, atoms and core actions in a flat one.
+pub enum Item {
+    Fact,
+    Action,
+    Atom,
+    CoreAction,
+}
+
+// One of them.
+fn one(rule: &[u8], heads: u32, at: usize, of: Item) -> Walk
+    ensures { λ r. ⌜ r ≡ walkOf (readItem of (withHeads heads) (words (now (rule .entry))) at) ⌝ }
+{
+    match of {
+        Item::Fact => written::fact(rule, heads, at),
+        Item::Action => written::action(rule, heads, at),
+        Item::Atom => flat::atom(rule, heads, at),
+        Item::CoreAction => flat::action(rule, heads, at),
+    }
+}
+
+// `count` of them, one after the other.
+pub fn row(rule: &[u8], heads: u32, at: usize, count: u32, of: Item) -> Walk
+    ensures { λ r. ⌜ r ≡ walkOf (readRow (readItem of (withHeads heads) (words (now (rule .entry)))) count at) ⌝ }
+{
+    let mut next = at;
+    let mut left = count;
+    while 0 < left {
+        let read = one(rule, heads, next, of);
+        if read.refused != 0 {
+            return read;
+        }
+        next = read.at;
+        left -= 1;
+    }
+    Walk {
+        refused: 0,
+        at: next,
+    }
+}
+
+// A rule that begins at an index, of a list that may go on behind it: its header, a row of what its body holds, and a row of its actions.
+fn rule_at(rule: &[u8], heads: u32, at: usize, body: Item, head: Item) -> Walk
+    ensures { λ r. ⌜ r ≡ walkOf (readHeaded body head (withHeads heads) (words (now (rule .entry))) at) ⌝ }
+{
+    let w = word_at(rule, at);
+    let Word::Header(some, more) = w else {
+        return Walk { refused: UNFIT, at };
+    };
+    let read = row(rule, heads, at + 1, some, body);
+    if read.refused != 0 {
+        return read;
+    }
+    row(rule, heads, read.at, more, head)
+}
+
+// A whole rule, with nothing behind it.
+pub fn whole(rule: &[u8], heads: u32, body: Item, head: Item) -> Walk
+    ensures { λ r. ⌜ r ≡ wholeOf (words (now (rule .entry))) (readWhole body head (withHeads heads) (words (now (rule .entry)))) ⌝ }
+{
+    let read = rule_at(rule, heads, 0, body, head);
+    if read.refused != 0 {
+        return read;
+    }
+    if read.at < octets::count(rule) {
+        return Walk {
+            refused: UNFIT,
+            at: read.at,
+        };
+    }
+    read
+}
