@@ -42,6 +42,11 @@ word-is {ws} {p} {x} says = go (ltb p (length ws)) (says .numbersAre)
     go true e = answered (getD ws p 0) e
     go false e = answered 0 (e ∙ answers 0 (unfit-low 0 (lit< tt))) ∙ unfit-low 0 (lit< tt)
 
+-- w is the word at p
+pub record Here (ws : List ℕ) (p w : ℕ) : Type 0 where
+  pub inside : p < length ws
+  pub is : w ≡ getD ws p 0
+
 -- the word at p is there, and says x
 pub record There (ws : List ℕ) (p : ℕ) (x : Word) : Type 0 where
   pub inside : p < length ws
@@ -65,15 +70,6 @@ module _ {ws : List ℕ} {p : ℕ} {w : Word} (read : WordSays w ws p) where
   pub not-kind : (k : ℕ) → T (not (hasKey (others k) k)) → OneOf (others k) (tagOf the-type w) → NotKind ws p k
   unfolding wordAt
   not-kind k t h = record { other = λ l. rw (lt-ltb p (length ws) l) at (rw (word-is read) at (other-kind k w t h)) }
-
--- ---- it is tested, behind the record's end too
-
-module _ (test : ℕ → Bool) (ws : List ℕ) (p : ℕ) where
-  pub test-here : {w : ℕ} {b : Bool} → p < length ws → w ≡ getD ws p 0 → b ≡ test w → b ≡ (ltb p (length ws) && test (getD ws p 0))
-  test-here h e k = rw (lt-ltb p (length ws) h) (k ∙ ap test e)
-
-  pub test-none : length ws ≤ p → false ≡ (ltb p (length ws) && test (getD ws p 0))
-  test-none h = rw (le-ltb p (length ws) h) refl
 
 -- ---- it is taken, or refused
 
@@ -185,12 +181,10 @@ module _ {ws : List ℕ} {p : ℕ} where
 
     -- 3 and 4, of which the code asks the same
     pub change-code : 3 ≤ n → n < 5 → z ≡ walkOf (by aDelete) → z ≡ walkOf (by aSubsume) → z ≡ walkOf (by (codeAt ws p))
-    change-code lo hi d s =
-        ⊎-elim (λ (same : 3 ≡ n). as-code 3 (sym same) d) (λ (l : 3 < n). as-code 4 (let same : n ≡ 4 = omega arith in same) s) (eq-or-lt-of-le lo)
+    change-code lo hi d s = ⊎-elim (λ (same : 3 ≡ n). as-code 3 (sym same) d) (λ (l : 3 < n). as-code 4 (let same : n ≡ 4 = omega arith in same) s) (eq-or-lt-of-le lo)
 
     -- none of 1 to 6
-    pub last-code : (m : ℕ) → NoneOf n m → (n ≡ 7 → z ≡ walkOf (by aCall)) → (n ≡ 8 → z ≡ walkOf (by anExpression)) → z ≡ walkOf (by noCode)
-        → z ≡ walkOf (by (codeAt ws p))
+    pub last-code : (m : ℕ) → NoneOf n m → (n ≡ 7 → z ≡ walkOf (by aCall)) → (n ≡ 8 → z ≡ walkOf (by anExpression)) → z ≡ walkOf (by noCode) → z ≡ walkOf (by (codeAt ws p))
     last-code m k seven eight none = by-code (go (eqb (actionWord n) (actionWord 7)) refl (eqb (actionWord n) (actionWord 8)) refl)
       where
         not-code : (j : ℕ) → ¬ (n ≡ j) → eqb (actionWord n) (actionWord j) ≡ false

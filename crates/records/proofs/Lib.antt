@@ -3,6 +3,5 @@ pub mod WrittenWalk
 pub mod Expected
 pub mod WrittenEnds
 pub mod WrittenLaws
-pub mod WrittenRun
 pub mod WrittenWhole
 pub mod Items

@@ -9,11 +9,11 @@ use lib.Dec.{ltb, eqb, lit≤}
 use borrow.Author.Tests.{ltb-true}
 use Rattle.rules.specs.Words.{maxDepth, equalityWord, isNameWord, isLiteralWord, isHeadWord, countOf}
 use Rattle.rules.specs.Words.{Code, aLet, aSet, aDelete, aSubsume, aUnion, aPanic, aCall, anExpression, noCode}
-use Rattle.rules.specs.Refusals.{refuse, tooDeep}
+use Rattle.rules.specs.Refusals.{Res, ok, refuse, _>>=_, tooDeep}
 use Rattle.rules.specs.Signature.{Sig, heads}
 use Rattle.rules.specs.Written.{Expr, Exprs, Read, Reader, Shape, isLeaf, isCall, isBad, shape, readWord, readMany, readShape, readExpr}
 use Rattle.rules.specs.Written.{readTarget, readEqual, readHolds, readFact, readCode, readAction}
-use Rattle.records.proofs.WrittenWalk.{Went, went-then, went-made, went-less, went-from, went-word, behind-made, behind-pair, Several, many}
+use Rattle.records.proofs.WrittenWalk.{Went, went-then, went-made, went-less, went-from, went-word, behind, Several, many}
 use Rattle.records.proofs.Expected.{went-coded}
 
 module _ (s : Sig) (ws : List ℕ) where
@@ -46,8 +46,15 @@ module _ (s : Sig) (ws : List ℕ) where
       went-then ws p 1 0 (readWord ws (isHeadWord (heads s)) p) _ (went-word ws (isHeadWord (heads s)) p)
       (λ w. went-made ws (w .at) 0 (readMany (readExpr s ws maxDepth) (countOf (w .value)) (w .at)) _ (went-args maxDepth (countOf (w .value)) (w .at)))
 
+  -- what was read, an expression behind it, and a value made of both
+  went-pair : {A B : Type 0} (p : ℕ) (x : Res (Read A)) (f : Read A → Read Expr → B) → Went ws p 1 x
+      → Went ws p 1 (_>>=_ x (λ a. _>>=_ (readExpr s ws maxDepth (a .at)) (λ e. ok (record { value = f a e; at = e .at }))))
+  went-pair p x f h =
+      went-then ws p 1 0 x _ h
+      (λ a. went-made ws (a .at) 0 (readExpr s ws maxDepth (a .at)) (f a) (went-less ws (a .at) 1 0 (readExpr s ws maxDepth (a .at)) (lit≤ tt) (went-expr maxDepth (a .at))))
+
   went-equal : (p : ℕ) → p < length ws → Went ws p 1 (readEqual s ws p)
-  went-equal p l = behind-pair ws p (readExpr s ws maxDepth (suc p)) (readExpr s ws maxDepth) _ (went-expr maxDepth) l (went-expr maxDepth (suc p))
+  went-equal p l = went-pair p (readExpr s ws maxDepth (suc p)) _ (behind ws p (readExpr s ws maxDepth (suc p)) l (went-expr maxDepth (suc p)))
 
   pub went-fact : (p : ℕ) → Went ws p 1 (readFact s ws p)
   went-fact p = go (ltb p (length ws)) refl (eqb (getD ws p 0) equalityWord)
@@ -58,13 +65,13 @@ module _ (s : Sig) (ws : List ℕ) where
       go false e b = went-made ws p 1 (readExpr s ws maxDepth p) _ (went-expr maxDepth p)
 
   went-code : (k : Code) (p : ℕ) → p < length ws → Went ws p 1 (readCode s ws p k (suc p))
-  went-code aLet p l = behind-pair ws p (readWord ws isNameWord (suc p)) (readExpr s ws maxDepth) _ (went-expr maxDepth) l (went-word ws isNameWord (suc p))
-  went-code aSet p l = behind-pair ws p (readTarget s ws (suc p)) (readExpr s ws maxDepth) _ (went-expr maxDepth) l (went-target (suc p))
-  went-code aDelete p l = behind-made ws p (readTarget s ws (suc p)) _ l (went-target (suc p))
-  went-code aSubsume p l = behind-made ws p (readTarget s ws (suc p)) _ l (went-target (suc p))
-  went-code aUnion p l = behind-pair ws p (readExpr s ws maxDepth (suc p)) (readExpr s ws maxDepth) _ (went-expr maxDepth) l (went-expr maxDepth (suc p))
-  went-code aPanic p l = behind-made ws p (readWord ws isLiteralWord (suc p)) _ l (went-word ws isLiteralWord (suc p))
-  went-code anExpression p l = behind-made ws p (readExpr s ws maxDepth (suc p)) _ l (went-expr maxDepth (suc p))
+  went-code aLet p l = went-pair p (readWord ws isNameWord (suc p)) _ (behind ws p (readWord ws isNameWord (suc p)) l (went-word ws isNameWord (suc p)))
+  went-code aSet p l = went-pair p (readTarget s ws (suc p)) _ (behind ws p (readTarget s ws (suc p)) l (went-target (suc p)))
+  went-code aDelete p l = went-made ws p 1 (readTarget s ws (suc p)) _ (behind ws p (readTarget s ws (suc p)) l (went-target (suc p)))
+  went-code aSubsume p l = went-made ws p 1 (readTarget s ws (suc p)) _ (behind ws p (readTarget s ws (suc p)) l (went-target (suc p)))
+  went-code aUnion p l = went-pair p (readExpr s ws maxDepth (suc p)) _ (behind ws p (readExpr s ws maxDepth (suc p)) l (went-expr maxDepth (suc p)))
+  went-code aPanic p l = went-made ws p 1 (readWord ws isLiteralWord (suc p)) _ (behind ws p (readWord ws isLiteralWord (suc p)) l (went-word ws isLiteralWord (suc p)))
+  went-code anExpression p l = went-made ws p 1 (readExpr s ws maxDepth (suc p)) _ (behind ws p (readExpr s ws maxDepth (suc p)) l (went-expr maxDepth (suc p)))
   went-code aCall p l = (omega arith, omega arith)
   went-code noCode p l = (omega arith, omega arith)
 

@@ -2,42 +2,33 @@
 use mathlib.Core.Path.{_≡_, refl, sym, ap, _∙_}
 use mathlib.Core.Bool.{Bool, true, false, _&&_, _||_, cond, false≢true}
 use mathlib.Core.List.{List}
-use Prim.Native.Nat.{ℕ, zero, suc, _+_, _-_, _*_, _%_, _≤_, _<_}
+use Prim.Native.Nat.{ℕ, zero, suc, _+_, _-_, _*_, _≤_, _<_}
 use native.Mathlib.Numerals.{add-one}
 use native.Mathlib.Omega.{arith}
 use lib.ListN.{length, getD}
-use lib.Dec.{ltb, eqb, lit<}
-use borrow.Author.Tests.{ltb-true, lt-ltb, ne-eqb, eq-eqb}
-use Rattle.rules.specs.Words.{limit12, limit16, maxDepth, nameBase, literalBase, headBase, equalityWord, actionWord, isNameWord, isLiteralWord, isHeadWord}
-use Rattle.rules.specs.Words.{isEqualityWord, headOf, countOf, Code, aLet, aSet, aPanic, codeOf}
+use lib.Dec.{ltb, leb, eqb, lit<}
+use lib.Count.{leadingZeros}
+use borrow.Author.Tests.{ltb-true, lt-ltb, le-ltb, leb-true, leb-false, ne-eqb, eq-eqb}
+use Rattle.rules.specs.Words.{limit12, limit16, maxDepth, freshBase, nameBase, literalBase, headBase, equalityWord, actionWord, isNameWord, isLiteralWord, isHeadWord}
+use Rattle.rules.specs.Words.{isEqualityWord, countOf, Code, aLet, aSet, aPanic, codeOf}
 use Rattle.rules.specs.Refusals.{Res, ok, refuse, _>>=_, unfit, tooDeep}
 use Rattle.rules.specs.Signature.{Sig, heads}
-use Rattle.rules.specs.Written.{Expr, Exprs, Read, Reader, Shape, isLeaf, isCall, isBad, shape, shapeAt, readMany, readShape, readExpr, readTarget, readEqual, readFact}
+use Rattle.rules.specs.Written.{Expr, Read, Shape, isLeaf, isCall, isBad, shape, shapeAt, readMany, readShape, readExpr, readTarget, readEqual, readFact}
 use Rattle.rules.specs.Written.{readCode, readAction, equal, union′, Action as Act}
 use Rattle.words.specs.Word.{kind}
 use Rattle.words.specs.declared.Word.{Word}
 use Rattle.words.specs.declared.Word.the-variants.{Fresh, Name, Literal, Head, Equality, Header, Action, Signature, Unfit}
-use Rattle.words.proofs.Ranges.{within-true, false-below, heads-below}
+use Rattle.words.proofs.Ranges.{not-kind as range-below, false-below, false-above}
 use Rattle.words.proofs.WordLaws.{wordOf, name-kind, literal-kind, equality-kind, said, head-numbers, no-head}
-use Rattle.meaning.proofs.Lists.{and-left, and-right}
 use Rattle.records.specs.declared.written.Walk.{Walk}
 use Rattle.records.specs.declared.written.Start.{Start}
 use Rattle.records.specs.declared.written.Start.the-variants.{Takes, Other}
-use Rattle.records.specs.Written.{withHeads, walk, walkOf, WordSays, startSays, taken, takenAt, leafWord, leafAt}
+use Rattle.records.specs.Written.{withHeads, walk, walkOf, startSays, taken, takenAt, Starts}
 use Rattle.records.proofs.WrittenWalk.{made, then-made, moved, just-one, last-one}
-use Rattle.records.proofs.Expected.{wordAt, word-is, test-here, There, NotKind, kind-fits, kind-unfit, heads-most, with-below, head-with, head-other}
-use Rattle.records.proofs.Expected.{head-high, head-fits, head-count}
+use Rattle.records.proofs.Expected.{Here, There, NotKind, kind-fits, kind-unfit, heads-most, head-with, head-other, head-high, head-fits, head-count}
 use Rattle.records.proofs.Expected.{no-code, as-code, change-code, NoneOf, last-code}
 
 -- ---- an expression, by how it begins
-
-pub both-true : (a b : Bool) → a && b ≡ true → (a ≡ true) × (b ≡ true)
-both-true a b h = (and-left a b h, and-right a b h)
-
--- an expression begins at p, with a word that takes n arguments
-pub record Starts (s : Sig) (ws : List ℕ) (p n : ℕ) : Type 0 where
-  pub takes : takenAt s ws p ≡ ok n
-  pub inside : p < length ws
 
 pub starts : {s : Sig} {ws : List ℕ} {p n : ℕ} {x : Start} → startSays x p ≡ takenAt s ws p → x ≡ Takes n → Starts s ws p n
 starts {s} {ws} {p} {n} read is =
@@ -50,20 +41,18 @@ starts {s} {ws} {p} {n} read is =
 
 -- none begins there: 5 comes before 6
 pub no-expression : (s : Sig) (ws : List ℕ) (d p : ℕ) {x : Start} → startSays x p ≡ takenAt s ws p → x ≡ Other → walk unfit p ≡ walkOf (readExpr s ws d p)
-no-expression s ws d p read is = at-depth d
+no-expression s ws zero p read is = go (shapeAt s ws p) (sym read ∙ ap (λ (y : Start). startSays y p) is)
   where
-    told : taken (shapeAt s ws p) (getD ws p 0) p ≡ refuse unfit p
-    told = sym read ∙ ap (λ (y : Start). startSays y p) is
-
-    go : (sh : Shape) (inside : Bool) (args : ℕ → Reader Exprs) → taken sh (getD ws p 0) p ≡ refuse unfit p
-        → walk unfit p ≡ walkOf (readShape sh inside args (getD ws p 0) p)
-    go isLeaf inside args h = cc
-    go isCall inside args h = cc
-    go isBad inside args h = refl
-
-    at-depth : (d : ℕ) → walk unfit p ≡ walkOf (readExpr s ws d p)
-    at-depth zero = go (shapeAt s ws p) true (λ n q. refuse tooDeep q) told
-    at-depth (suc d) = go (shapeAt s ws p) false (λ n q. readMany (λ r. readExpr s ws d r) n q) told
+    go : (sh : Shape) → taken sh (getD ws p 0) p ≡ refuse unfit p → walk unfit p ≡ walkOf (readShape sh true (λ n q. refuse tooDeep q) (getD ws p 0) p)
+    go isLeaf h = cc
+    go isCall h = cc
+    go isBad h = refl
+no-expression s ws (suc d) p read is = go (shapeAt s ws p) (sym read ∙ ap (λ (y : Start). startSays y p) is)
+  where
+    go : (sh : Shape) → taken sh (getD ws p 0) p ≡ refuse unfit p → walk unfit p ≡ walkOf (readShape sh false (λ n q. readMany (λ r. readExpr s ws d r) n q) (getD ws p 0) p)
+    go isLeaf h = cc
+    go isCall h = cc
+    go isBad h = refl
 
 module _ {s : Sig} {ws : List ℕ} {p n : ℕ} (b : Starts s ws p n) where
   pub too-deep : (d : ℕ) → d ≡ 0 → walk tooDeep p ≡ walkOf (readExpr s ws d p)
@@ -87,33 +76,6 @@ module _ {s : Sig} {ws : List ℕ} {p n : ℕ} (b : Starts s ws p n) where
       go isLeaf h = let none : n ≡ 0 = cc in rw none refl
       go isCall h = let same : n ≡ countOf (getD ws p 0) = cc in rw same (sym (made (readMany (readExpr s ws d) (countOf (getD ws p 0)) (suc p)) _))
       go isBad h = cc
-
--- a name or a literal takes nothing
-pub leaf-starts : (s : Sig) (ws : List ℕ) (p : ℕ) → leafAt ws p ≡ true → Starts s ws p 0
-leaf-starts s ws p h = starts (sym (go (ltb p (length ws)) (leafWord (getD ws p 0)) h)) refl
-  where
-    go : (a b : Bool) → a && b ≡ true → taken (cond a (cond b isLeaf (cond (isHeadWord (heads s) (getD ws p 0)) isCall isBad)) isBad) (getD ws p 0) p ≡ ok 0
-    go true true h = refl
-    go true false h = let z : _≡_ {A = ℕ} 0 1 = cc in absurd (omega arith)
-    go false b h = let z : _≡_ {A = ℕ} 0 1 = cc in absurd (omega arith)
-
--- ---- how it begins, by the range of its first word
-
-pub leaf-there : (ws : List ℕ) (p : ℕ) {w : ℕ} → p < length ws → w ≡ getD ws p 0 → leafWord w ≡ true → leafAt ws p ≡ true
-leaf-there ws p here is h = sym (test-here leafWord ws p here is (sym h))
-
--- below the literals, only a kind 3 word begins an expression
-pub call-starts : (H : ℕ) (ws : List ℕ) (p : ℕ) {w : ℕ} → p < length ws → w ≡ getD ws p 0 → w < literalBase → isHeadWord H w ≡ true
-    → Starts (withHeads H) ws p (w % limit16)
-call-starts H ws p {w} here is low h = starts (sym begins) refl
-  where
-    begins : takenAt (withHeads H) ws p ≡ ok (w % limit16)
-    begins =
-        let b = within-true headBase (H * limit16) w h in
-        let head : isHeadWord (heads (withHeads H)) w ≡ true =
-        heads-below headBase (heads (withHeads H)) w (b .0) ∙ with-below H (headOf w) (omega arith) ∙ sym (heads-below headBase H w (b .0)) ∙ h in
-        let count : countOf w ≡ w % limit16 = omega arith in
-        rw (← is) (simp (lt-ltb p (length ws) here, false-below nameBase limit12 w (omega arith), false-below literalBase limit16 w low, head, count))
 
 -- ---- how it begins, by what that word says
 
@@ -148,17 +110,40 @@ module _ (H w p : ℕ) where
   start-word (Signature n) says = rw (shape-told says, no-head w (rw says refl) (heads (withHeads H)) (heads-most H))
   start-word Unfit says = rw (shape-told says, no-head w (rw says refl) (heads (withHeads H)) (heads-most H))
 
--- where a word says x, or none does
-pub start-at : (ws : List ℕ) (H p : ℕ) {x : Word} → WordSays x ws p → startSays (startWith H x) p ≡ takenAt (withHeads H) ws p
-unfolding wordAt
-start-at ws H p read = ap (λ (y : Word). startSays (startWith H y) p) (word-is read) ∙ go (ltb p (length ws))
-  where
-    go : (b : Bool) → startSays (startWith H (cond b (wordOf (getD ws p 0)) Unfit)) p ≡ taken (cond b (shape (withHeads H) (getD ws p 0)) isBad) (getD ws p 0) p
-    go true = start-word H (getD ws p 0) p (wordOf (getD ws p 0)) refl
-    go false = refl
-
 start-there : (H : ℕ) {ws : List ℕ} {p : ℕ} {x : Word} → There ws p x → startSays (startWith H x) p ≡ takenAt (withHeads H) ws p
 start-there H {ws} {p} {x} t = rw (lt-ltb p (length ws) (t .inside)) (start-word H (getD ws p 0) p x (t .says))
+
+-- no word is there
+pub start-missing : (s : Sig) (ws : List ℕ) (p : ℕ) → length ws ≤ p → startSays Other p ≡ takenAt s ws p
+start-missing s ws p l = rw (le-ltb p (length ws) l)
+
+-- w is the word there
+module _ (H : ℕ) {ws : List ℕ} {p w : ℕ} (k : Here ws p w) where
+  pub start-says : (x : Word) → wordOf w ≡ x → startSays (startWith H x) p ≡ takenAt (withHeads H) ws p
+  start-says x says =
+      let t : There ws p x = record { inside = k .inside; says = ap wordOf (sym (k .is)) ∙ says } in
+      start-there H t
+
+  pub start-head : {h n : ℕ} → wordOf w ≡ Head h n → h < H → startSays (Takes n) p ≡ takenAt (withHeads H) ws p
+  start-head {h} {n} says low = rw (lt-ltb h H low) at (start-says (Head h n) says)
+
+  pub start-no-head : {h n : ℕ} → wordOf w ≡ Head h n → H ≤ h → startSays Other p ≡ takenAt (withHeads H) ws p
+  start-no-head {h} {n} says high = rw (le-ltb h H high) at (start-says (Head h n) says)
+
+  -- of the kinds 1 to 3 it is none: it is a fresh variable, or below the heads
+  pub start-other : ¬ (leadingZeros 32 w ≡ 1) → ¬ (leadingZeros 32 w ≡ 2) → ¬ (leadingZeros 32 w ≡ 3) → startSays Other p ≡ takenAt (withHeads H) ws p
+  start-other one two three = go (leb freshBase w) refl
+    where
+      go : (b : Bool) → leb freshBase w ≡ b → startSays Other p ≡ takenAt (withHeads H) ws p
+      go true e =
+          let high = leb-true freshBase w e in
+          let most = heads-most H in
+          let none : isHeadWord (heads (withHeads H)) w ≡ false = false-above headBase (heads (withHeads H) * limit16) w (omega arith) in
+          rw (← k .is) (simp (lt-ltb p (length ws) (k .inside), false-above nameBase limit12 w (omega arith), false-above literalBase limit16 w (omega arith), none))
+      go false e =
+          let low = range-below 3 28 w refl three (range-below 2 29 w refl two (range-below 1 30 w refl one (leb-false freshBase w e))) in
+          let none : isHeadWord (heads (withHeads H)) w ≡ false = false-below headBase (heads (withHeads H) * limit16) w low in
+          rw (← k .is) (simp (lt-ltb p (length ws) (k .inside), false-below nameBase limit12 w (omega arith), false-below literalBase limit16 w (omega arith), none))
 
 -- ---- facts
 

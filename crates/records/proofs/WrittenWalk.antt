@@ -53,27 +53,8 @@ module _ (ws : List ℕ) where
       go false e b = (omega arith, omega arith)
 
   -- behind a word that is there
-  behind : {A : Type 0} (p : ℕ) (x : Res (Read A)) → p < length ws → Went ws (suc p) 1 x → Went ws p 1 x
+  pub behind : {A : Type 0} (p : ℕ) (x : Res (Read A)) → p < length ws → Went ws (suc p) 1 x → Went ws p 1 x
   behind p x l h = went-less p 2 1 x (lit≤ tt) (went-from p 1 x l h)
-
-  -- what was read, something behind it, and a value made of both
-  pub went-pair : {A B C : Type 0} (p j : ℕ) (x : Res (Read A)) (one : Reader B) (f : Read A → Read B → C) → ((q : ℕ) → Went ws q 1 (one q)) → Went ws p j x
-      → Went ws p j (_>>=_ x (λ a. _>>=_ (one (a .at)) (λ b. ok (record { value = f a b; at = b .at }))))
-  went-pair {B = B} {C = C} p j (ok a) one f g h = go (one (a .at)) (g (a .at))
-    where
-      go : (y : Res (Read B)) → Went ws (a .at) 1 y → Went {A = C} ws p j (_>>=_ y (λ b. ok (record { value = f a b; at = b .at })))
-      go (ok b) l = (omega arith, omega arith)
-      go (refuse n q) l = (l .0, omega arith)
-  went-pair p j (refuse n q) one f g h = h
-
-  -- both behind a word that is there
-  pub behind-made : {A B : Type 0} (p : ℕ) (x : Res (Read A)) (f : Read A → B) → p < length ws → Went ws (suc p) 1 x
-      → Went ws p 1 (_>>=_ x (λ r. ok (record { value = f r; at = r .at })))
-  behind-made p x f l h = went-made p 1 x f (behind p x l h)
-
-  pub behind-pair : {A B C : Type 0} (p : ℕ) (x : Res (Read A)) (one : Reader B) (f : Read A → Read B → C) → ((q : ℕ) → Went ws q 1 (one q)) → p < length ws
-      → Went ws (suc p) 1 x → Went ws p 1 (_>>=_ x (λ a. _>>=_ (one (a .at)) (λ b. ok (record { value = f a b; at = b .at }))))
-  behind-pair p x one f g l h = went-pair p 1 x one f g (behind p x l h)
 
   pub went-row : {A : Type 0} (one : Reader A) → ((p : ℕ) → Went ws p 1 (one p)) → (n p : ℕ) → Went ws p 0 (readRow one n p)
   went-row one h zero p = (omega arith, omega arith)

@@ -7,18 +7,33 @@ use mathlib.Core.List.{List}
 use lib.ListN.{length, getD}
 use lib.Dec.{ltb, leb}
 use Rattle.rules.specs.Words.{equalityBase, headBase, literalBase, headOf, Code}
-use Rattle.rules.specs.Refusals.{Res, ok, refuse, unfit}
+use Rattle.rules.specs.Refusals.{Res, ok, refuse, demand, unfit}
 use Rattle.rules.specs.Signature.{Sig}
 use Rattle.rules.specs.Written.{Reader}
 use Rattle.rules.specs.Flat.{CoreAction, isTerm, readCoreCode}
-use Rattle.words.specs.Atom.{headKind, headNumber, countIn}
+use Rattle.words.specs.Atom.{termNumber, termNumberOf, termWord, headKind, headNumber, countIn}
 use Rattle.words.specs.declared.Atom.{Atom as Begun}
+use Rattle.records.specs.declared.flat.Taken.{Taken}
+use Rattle.records.specs.declared.flat.Taken.the-variants.{Term, Nothing}
 use Rattle.records.specs.declared.flat.First.{First}
 use Rattle.records.specs.declared.flat.First.the-variants.{Atom, Other}
 
+-- a term by its numbers: 0 a variable, 1 a global, 2 a literal, and its word
+pub record TermNumbers : Type 0 where
+  pub numberIs : ℕ
+  pub wordIs : ℕ
+
+-- what is taken where a term is expected, for each case at p: the term's numbers, or refusal 5 there
+abbrev pub takenSays : Taken → (p : ℕ) → Res TermNumbers
+takenSays (Term t) p = ok (record { numberIs = termNumber t; wordIs = termWord t })
+takenSays Nothing p = refuse unfit p
+
 -- a term stands at an index
-abbrev pub termAt : Sig → List ℕ → ℕ → Bool
-termAt s ws p = ltb p (length ws) && isTerm s (getD ws p 0)
+abbrev pub isTermAt : Sig → List ℕ → ℕ → Bool
+isTermAt s ws p = ltb p (length ws) && isTerm s (getD ws p 0)
+
+abbrev pub termAt : Sig → List ℕ → ℕ → Res TermNumbers
+termAt s ws p = demand (isTermAt s ws p) unfit p (record { numberIs = termNumberOf (s .globals) (getD ws p 0); wordIs = getD ws p 0 })
 
 -- an atom by its numbers: the kind of its first word, 3 or 4, its head's number, how many terms it has, where they begin, and the place behind them
 pub record AtomNumbers : Type 0 where

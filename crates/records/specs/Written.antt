@@ -1,13 +1,13 @@
 -- 01, "Words and records" and "Turned back": what the code answers for a written rule, refusals 5 and 6 included.
 -- The readings themselves are those of `rules`.
 -- Assumes nothing: these are definitions.
-use Prim.Native.Nat.{ℕ, min}
+use Prim.Native.Nat.{ℕ, _<_, min}
 use mathlib.Core.Path.{_≡_}
-use mathlib.Core.Bool.{Bool, false, _&&_, _||_, cond}
+use mathlib.Core.Bool.{false, cond}
 use mathlib.Core.List.{List}
 use lib.ListN.{length, getD, replicate}
 use lib.Dec.{ltb}
-use Rattle.rules.specs.Words.{limit12, isNameWord, isLiteralWord, countOf}
+use Rattle.rules.specs.Words.{limit12, countOf}
 use Rattle.rules.specs.Refusals.{Res, ok, refuse, unfit}
 use Rattle.rules.specs.Signature.{Sig}
 use Rattle.rules.specs.Written.{Read, Shape, isLeaf, isCall, isBad, shapeAt}
@@ -61,9 +61,7 @@ taken isBad w p = refuse unfit p
 abbrev pub takenAt : Sig → List ℕ → ℕ → Res ℕ
 takenAt s ws p = taken (shapeAt s ws p) (getD ws p 0) p
 
--- a name's or a literal's word: an expression of this one word
-abbrev pub leafWord : ℕ → Bool
-leafWord w = isNameWord w || isLiteralWord w
-
-abbrev pub leafAt : List ℕ → ℕ → Bool
-leafAt ws p = ltb p (length ws) && leafWord (getD ws p 0)
+-- an expression begins at p, with a word that takes n arguments
+pub record Starts (s : Sig) (ws : List ℕ) (p n : ℕ) : Type 0 where
+  pub takes : takenAt s ws p ≡ ok n
+  pub inside : p < length ws

@@ -4,7 +4,6 @@ use super::rows::row;
 use super::rows::whole;
 use super::written::UNFIT;
 use super::written::Walk;
-use super::written::is_leaf;
 use super::written::word_at;
 use words::Atom;
 use words::EQUALITY_BASE;
@@ -13,14 +12,16 @@ use words::HeadOrEq;
 use words::LIMIT_12;
 use words::LIMIT_16;
 use words::LITERAL_BASE;
+use words::NAME_BASE;
+use words::Term;
 use words::Word;
 ghost use mathlib.Core.Path.{_≡_};
 ghost use Rattle.octets.specs.Words.{words};
 ghost use Rattle.rules.specs.Words.{isNameWord, isLiteralWord, aLet, aSet, aCall};
 ghost use Rattle.rules.specs.Written.{readWord, readRow};
-ghost use Rattle.rules.specs.Flat.{isTarget, isTerm, readTerm, readTerms, readAtom, readCoreAction, readFlat};
+ghost use Rattle.rules.specs.Flat.{isTarget, readTerm, readTerms, readAtom, readCoreAction, readFlat};
 ghost use Rattle.records.specs.Written.{withHeads, walkOf, wholeOf};
-ghost use Rattle.records.specs.Flat.{termAt, firstSays, firstAt, readBehind};
+ghost use Rattle.records.specs.Flat.{takenSays, termAt, firstSays, firstAt, readBehind};
 
 // The refusals' numbers.
 pub const NO_TERMS: u32 = 11;
@@ -30,7 +31,7 @@ pub const NOT_TWO: u32 = 12;
 // ---- terms
 
 // A literal.
-pub fn literal(rule: &[u8], at: usize) -> Walk
+fn literal(rule: &[u8], at: usize) -> Walk
     ensures { λ r. ⌜ r ≡ walkOf (readWord (words (now (rule .entry))) isLiteralWord at) ⌝ }
 {
     let w = word_at(rule, at);
@@ -58,7 +59,7 @@ fn name(rule: &[u8], at: usize) -> Walk
 }
 
 // What an action may bind: a fresh variable of a head below H, which is at most 4,096, or a name.
-pub fn target(rule: &[u8], heads: u32, at: usize) -> Walk
+fn target(rule: &[u8], heads: u32, at: usize) -> Walk
     ensures { λ r. ⌜ r ≡ walkOf (readWord (words (now (rule .entry))) (isTarget (withHeads heads)) at) ⌝ }
 {
     let w = word_at(rule, at);
@@ -77,56 +78,77 @@ pub fn target(rule: &[u8], heads: u32, at: usize) -> Walk
     }
 }
 
-// A term's word: a name's or a literal's, or a fresh variable's of a head below H. By ranges, since it is asked of nearly every word of a flat rule
-// and only this answer is wanted.
-fn is_term(w: u32, heads: u32) -> bool
-    ensures { λ r. ⌜ r ≡ isTerm (withHeads heads) w ⌝ }
-{
-    if w < FRESH_BASE {
-        return is_leaf(w);
-    }
-    let head = (w - FRESH_BASE) / LIMIT_16;
-    (head < heads) & (head < LIMIT_12)
+// What is taken where a term is expected: the term, or nothing where the word is none.
+enum Taken {
+    Term(Term),
+    Nothing,
 }
 
-// A term stands at an index.
-fn is_term_at(rule: &[u8], heads: u32, at: usize) -> bool
-    ensures { λ r. ⌜ r ≡ termAt (withHeads heads) (words (now (rule .entry))) at ⌝ }
+// The term at an index: a fresh variable of a head below H, which is at most 4,096, a name or a literal. The count of leading zeros tells which. Whether a
+// name is a global's is not asked in reading, so that it is taken as a variable.
+fn term_at(rule: &[u8], heads: u32, at: usize) -> Taken
+    ensures { λ r. ⌜ takenSays r at ≡ termAt (withHeads heads) (words (now (rule .entry))) at ⌝ }
 {
-    if at < octets::count(rule) {
-        is_term(octets::get(rule, at), heads)
-    } else {
-        false
+    if octets::count(rule) <= at {
+        return Taken::Nothing;
+    }
+    let w = octets::get(rule, at);
+    let kind = u32::leading_zeros(w);
+    match kind {
+        0 => {
+            let head = (w - FRESH_BASE) / LIMIT_16;
+            if (head < heads) & (head < LIMIT_12) {
+                Taken::Term(Term::Var(w))
+            } else {
+                Taken::Nothing
+            }
+        }
+        1 => {
+            if w - NAME_BASE < LIMIT_12 {
+                Taken::Term(Term::Var(w))
+            } else {
+                Taken::Nothing
+            }
+        }
+        2 => {
+            if w - LITERAL_BASE < LIMIT_16 {
+                Taken::Term(Term::Literal(w))
+            } else {
+                Taken::Nothing
+            }
+        }
+        _ => Taken::Nothing,
     }
 }
 
 // A term: what may be bound, or a literal.
-pub fn term(rule: &[u8], heads: u32, at: usize) -> Walk
+fn term(rule: &[u8], heads: u32, at: usize) -> Walk
     ensures { λ r. ⌜ r ≡ walkOf (readTerm (withHeads heads) (words (now (rule .entry))) at) ⌝ }
 {
-    if is_term_at(rule, heads, at) {
-        Walk {
-            refused: 0,
-            at: at + 1,
-        }
-    } else {
-        Walk { refused: UNFIT, at }
+    let taken = term_at(rule, heads, at);
+    let Taken::Term(_) = taken else {
+        return Walk { refused: UNFIT, at };
+    };
+    Walk {
+        refused: 0,
+        at: at + 1,
     }
 }
 
-// `count` terms, one after the other. Each is one word, so the first that is none is refused where it stands.
-pub fn terms(rule: &[u8], heads: u32, at: usize, count: u32) -> Walk
+// `count` terms, one after the other, each of one word.
+fn terms(rule: &[u8], heads: u32, at: usize, count: u32) -> Walk
     ensures { λ r. ⌜ r ≡ walkOf (readRow (readTerm (withHeads heads) (words (now (rule .entry)))) count at) ⌝ }
 {
     let mut next = at;
     let mut left = count;
     while 0 < left {
-        if !is_term_at(rule, heads, next) {
+        let taken = term_at(rule, heads, next);
+        let Taken::Term(_) = taken else {
             return Walk {
                 refused: UNFIT,
                 at: next,
             };
-        }
+        };
         next += 1;
         left -= 1;
     }
@@ -139,12 +161,12 @@ pub fn terms(rule: &[u8], heads: u32, at: usize, count: u32) -> Walk
 // ---- atoms
 
 // How an atom begins: with its head and the count of its terms. No atom begins with another word.
-pub enum First {
+enum First {
     Atom(Atom),
     Other,
 }
 
-pub fn first_at(rule: &[u8], at: usize) -> First
+fn first_at(rule: &[u8], at: usize) -> First
     ensures { λ r. ⌜ firstSays r at ≡ firstAt (words (now (rule .entry))) at ⌝ }
 {
     if octets::count(rule) <= at {
@@ -206,7 +228,7 @@ pub fn atoms(rule: &[u8], heads: u32, at: usize, count: u32) -> Walk
 // ---- actions
 
 // A kind 3 word and its terms.
-pub fn head_terms(rule: &[u8], heads: u32, at: usize) -> Walk
+fn head_terms(rule: &[u8], heads: u32, at: usize) -> Walk
     ensures { λ r. ⌜ r ≡ walkOf (readTerms (withHeads heads) (words (now (rule .entry))) at) ⌝ }
 {
     let w = word_at(rule, at);

@@ -10,37 +10,21 @@ use words::NAME_BASE;
 use words::Word;
 ghost use mathlib.Core.Path.{_≡_};
 ghost use Prim.Native.Nat.{_+_, _<_};
-ghost use mathlib.Core.Bool.{true, _&&_};
 ghost use lib.ListN.{length};
-ghost use lib.Dec.{leb, ltb};
 ghost use Rattle.octets.specs.Words.{words};
-ghost use Rattle.rules.specs.Words.{maxDepth, isHeadWord, aLet, aSet, aPanic};
+ghost use Rattle.rules.specs.Words.{maxDepth, aLet, aSet, aPanic};
 ghost use Rattle.rules.specs.Written.{readMany, readExpr, readTarget, readEqual, readFact, readCode, readAction, readWritten};
-ghost use Rattle.records.specs.Written.{withHeads, walk, walkOf, wholeOf, WordSays, startSays, takenAt, leafWord, leafAt};
+ghost use Rattle.records.specs.Written.{withHeads, walkOf, wholeOf, WordSays, startSays, takenAt, Starts};
 
 // The refusals' numbers.
 pub const UNFIT: u32 = 5;
 
 pub const TOO_DEEP: u32 = 6;
 
-// With so few calls in all, the innermost of them is no deeper than it may be, and neither is what stands in it.
-const MOST_CALLS: u32 = MAX_DEPTH - 1;
-
-// The first words that are no name and no literal any more.
-const NAME_END: u32 = NAME_BASE + LIMIT_12;
-
-const LITERAL_END: u32 = LITERAL_BASE + LIMIT_16;
-
 // What a walk answers: with 0, the index after what it read; else a refusal's number and place.
 pub struct Walk {
     pub refused: u32,
     pub at: usize,
-}
-
-// What a pass over words without recursion answers: the index after what it read, if it read the whole.
-struct Scanned {
-    whole: bool,
-    at: usize,
 }
 
 // How an expression begins: with a word that takes so many arguments. Any other word begins none.
@@ -60,17 +44,35 @@ pub fn word_at(rule: &[u8], at: usize) -> Word
     }
 }
 
-// How the expression at an index begins, if one does.
+// How the expression at an index begins, if one does. The count of leading zeros tells a name, a literal and a head; it is asked of nearly every word, so
+// no more is told than is wanted here.
 fn start_at(rule: &[u8], heads: u32, at: usize) -> Start
     ensures { λ r. ⌜ startSays r at ≡ takenAt (withHeads heads) (words (now (rule .entry))) at ⌝ }
 {
-    let w = word_at(rule, at);
-    match w {
-        Word::Name(_) => Start::Takes(0),
-        Word::Literal(_) => Start::Takes(0),
-        Word::Head(head, count) => {
-            if head < heads {
-                Start::Takes(count)
+    if octets::count(rule) <= at {
+        return Start::Other;
+    }
+    let w = octets::get(rule, at);
+    let kind = u32::leading_zeros(w);
+    match kind {
+        1 => {
+            if w - NAME_BASE < LIMIT_12 {
+                Start::Takes(0)
+            } else {
+                Start::Other
+            }
+        }
+        2 => {
+            if w - LITERAL_BASE < LIMIT_16 {
+                Start::Takes(0)
+            } else {
+                Start::Other
+            }
+        }
+        3 => {
+            let p = w - HEAD_BASE;
+            if p / LIMIT_16 < heads {
+                Start::Takes(p % LIMIT_16)
             } else {
                 Start::Other
             }
@@ -79,45 +81,11 @@ fn start_at(rule: &[u8], heads: u32, at: usize) -> Start
     }
 }
 
-// A word from `low` on and below `end`.
-fn between(w: u32, low: u32, end: u32) -> bool
-    ensures { λ r. ⌜ r ≡ leb low w && ltb w end ⌝ }
-{
-    low <= w && w < end
-}
-
-// A name's or a literal's word. By ranges, since it is asked of nearly every word of a rule and only this answer is wanted.
-pub fn is_leaf(w: u32) -> bool
-    ensures { λ r. ⌜ r ≡ leafWord w ⌝ }
-{
-    between(w, NAME_BASE, NAME_END) | between(w, LITERAL_BASE, LITERAL_END)
-}
-
-// A kind 3 word of a head below `heads`, which begins a call. By the range and the head, as `is_leaf`.
-fn is_call(w: u32, heads: u32) -> bool
-    ensures { λ r. ⌜ r ≡ isHeadWord heads w ⌝ }
-{
-    HEAD_BASE <= w && (w - HEAD_BASE) / LIMIT_16 < heads
-}
-
-// A name or a literal stands at an index.
-fn leaf_at(rule: &[u8], at: usize) -> bool
-    ensures { λ r. ⌜ r ≡ leafAt (words (now (rule .entry))) at ⌝ }
-{
-    if at < octets::count(rule) {
-        is_leaf(octets::get(rule, at))
-    } else {
-        false
-    }
-}
-
-// One expression that may hold expressions `depth` deep.
-pub fn expression(rule: &[u8], heads: u32, at: usize, depth: u32) -> Walk
+// The expression whose word, at an index, takes `count` arguments, if it may hold expressions `depth` deep.
+fn expression(rule: &[u8], heads: u32, at: usize, count: u32, depth: u32) -> Walk
+    requires { ⌜ Starts (withHeads heads) (words (now rule)) at count ⌝ }
     ensures { λ r. ⌜ r ≡ walkOf (readExpr (withHeads heads) (words (now (rule .entry))) depth at) ⌝ }
 {
-    let Start::Takes(count) = start_at(rule, heads, at) else {
-        return Walk { refused: UNFIT, at };
-    };
     if depth == 0 {
         return Walk {
             refused: TOO_DEEP,
@@ -134,23 +102,25 @@ pub fn expression(rule: &[u8], heads: u32, at: usize, depth: u32) -> Walk
     arguments(rule, heads, next, count, depth - 1)
 }
 
-// `count` expressions, one after the other, each of which may hold expressions `depth` deep. Most are names and literals: those take no call.
-pub fn arguments(rule: &[u8], heads: u32, at: usize, count: u32, depth: u32) -> Walk
+// `count` expressions, one after the other, each of which may hold expressions `depth` deep. Each is taken by its first word, or refused there.
+fn arguments(rule: &[u8], heads: u32, at: usize, count: u32, depth: u32) -> Walk
     ensures { λ r. ⌜ r ≡ walkOf (readMany (readExpr (withHeads heads) (words (now (rule .entry))) depth) count at) ⌝ }
 {
     let mut next = at;
     let mut left = count;
     while 0 < left {
+        let Start::Takes(some) = start_at(rule, heads, next) else {
+            return Walk {
+                refused: UNFIT,
+                at: next,
+            };
+        };
         left -= 1;
-        if leaf_at(rule, next) & (0 < depth) {
-            next += 1;
-        } else {
-            let read = expression(rule, heads, next, depth);
-            if read.refused != 0 {
-                return read;
-            }
-            next = read.at;
+        let read = expression(rule, heads, next, some, depth);
+        if read.refused != 0 {
+            return read;
         }
+        next = read.at;
     }
     Walk {
         refused: 0,
@@ -158,53 +128,10 @@ pub fn arguments(rule: &[u8], heads: u32, at: usize, count: u32, depth: u32) -> 
     }
 }
 
-// Where `count` expressions end that stand in no other, found in one pass over their words: a word settles one expression, and a call asks for its
-// arguments besides. Expressions with fewer calls than 32 in all are nowhere too deep, so nothing is kept of where a call ends. With more calls, or a
-// word that does not fit, nothing is said. The loop has one branch on a word, which tells a call from a leaf; whether the word fits only goes into a
-// flag. Where fewer words are left than expressions asked for, they do not all fit: to stop there also bounds how many are asked for.
-fn scan(rule: &[u8], heads: u32, at: usize, count: u32) -> Scanned
-    ensures { λ r. ⌜ (r .whole ≡ true → walk 0 (r .at) ≡ walkOf (readMany (readExpr (withHeads heads) (words (now (rule .entry))) maxDepth) count at)) ⌝ }
-{
-    let end = octets::count(rule);
-    if end < at {
-        return Scanned { whole: false, at };
-    }
-    let mut next = at;
-    let mut left = count as usize;
-    let mut calls = 0;
-    let mut good = true;
-    while 0 < left {
-        if end - next < left {
-            return Scanned { whole: false, at };
-        }
-        let w = octets::get(rule, next);
-        left -= 1;
-        next += 1;
-        if w < LITERAL_BASE {
-            good = good & is_call(w, heads);
-            left += (w % LIMIT_16) as usize;
-            calls += 1;
-        } else {
-            good = good & is_leaf(w);
-        }
-    }
-    Scanned {
-        whole: good & (calls <= MOST_CALLS as usize),
-        at: next,
-    }
-}
-
-// `count` expressions that stand in no other. Those that the scan does not settle are read one inside the other, which tells a refusal and its place.
+// `count` expressions that stand in no other.
 fn all_outermost(rule: &[u8], heads: u32, at: usize, count: u32) -> Walk
     ensures { λ r. ⌜ r ≡ walkOf (readMany (readExpr (withHeads heads) (words (now (rule .entry))) maxDepth) count at) ⌝ }
 {
-    let read = scan(rule, heads, at, count);
-    if read.whole {
-        return Walk {
-            refused: 0,
-            at: read.at,
-        };
-    }
     arguments(rule, heads, at, count, MAX_DEPTH)
 }
 
@@ -215,7 +142,7 @@ fn outermost(rule: &[u8], heads: u32, at: usize) -> Walk
     all_outermost(rule, heads, at, 1)
 }
 
-// The two expressions behind the word at an index, which is an equality's or a union's, in one scan.
+// The two expressions behind the word at an index, which is an equality's or a union's.
 fn pair(rule: &[u8], heads: u32, at: usize) -> Walk
     requires { ⌜ at < length (words (now rule)) ⌝ }
     ensures { λ r. ⌜ r ≡ walkOf (readEqual (withHeads heads) (words (now (rule .entry))) at) ⌝ }
@@ -239,7 +166,7 @@ pub fn fact(rule: &[u8], heads: u32, at: usize) -> Walk
 }
 
 // The kind 3 word of a set, a delete or a subsume, and its arguments.
-pub fn target(rule: &[u8], heads: u32, at: usize) -> Walk
+fn target(rule: &[u8], heads: u32, at: usize) -> Walk
     ensures { λ r. ⌜ r ≡ walkOf (readTarget (withHeads heads) (words (now (rule .entry))) at) ⌝ }
 {
     let w = word_at(rule, at);

@@ -17,21 +17,23 @@ use Rattle.rules.specs.Written.{Read, Reader, readWord, readRow}
 use Rattle.rules.specs.Flat.{CoreAction, isNone, isTarget, isTerm, atomShape, readTerm, readAtomShape, readAtom, readTerms, readCoreCode, readCoreAction}
 use Rattle.words.proofs.Ranges.{within-true, true-within, false-below, false-above, heads-below}
 use Rattle.words.proofs.WordLaws.{wordOf, is-head, name-kind, fresh-below, no-fresh}
-use Rattle.words.specs.Atom.{headKind, AtomSays}
+use Rattle.words.specs.Atom.{termNumberOf, TermSays, headKind, AtomSays}
+use Rattle.words.specs.declared.Term.{Term}
 use Rattle.words.specs.declared.HeadOrEq.the-variants.{Head, Eq}
 use Rattle.words.specs.declared.Atom.{Atom as Begun}
 use Rattle.words.proofs.AtomLaws.{atom-head, atom-equality}
 use Rattle.meaning.proofs.Lists.{and-left}
 use Rattle.meaning.proofs.Results.{ok-inj}
-use Rattle.records.specs.Flat.{AtomNumbers, atomNumbers, numbersFrom, termAt, firstSays, firstAt, readBehind}
+use Rattle.records.specs.Flat.{AtomNumbers, atomNumbers, numbersFrom, takenSays, isTermAt, termAt, firstSays, firstAt, readBehind}
 use Rattle.records.specs.declared.written.Walk.{Walk}
-use Rattle.records.specs.Written.{withHeads, walk, walkOf, leafWord}
+use Rattle.records.specs.Written.{withHeads, walk, walkOf}
 use Rattle.records.proofs.WrittenWalk.{Went, stops, made, both, row, then-then}
-use Rattle.records.proofs.Expected.{There, NotKind, word-fits, word-unfit, heads-with, heads-most, head-with, head-other, head-high, head-fits, head-count}
+use Rattle.records.proofs.Expected.{Here, There, NotKind, word-fits, word-unfit, heads-with, heads-most, head-with, head-other, head-high, head-fits, head-count}
 use Rattle.records.proofs.Expected.{no-code, as-code, change-code, NoneOf, last-code}
 use Rattle.records.proofs.flat.Ends.{went-term, went-target, went-terms}
 use Rattle.words.specs.declared.Word.the-variants as Said
 use Rattle.records.specs.declared.flat.First.the-variants as First
+use Rattle.records.specs.declared.flat.Taken.the-variants as Taken
 
 -- ---- what an action may bind
 
@@ -62,9 +64,20 @@ module _ (H : ℕ) {ws : List ℕ} {p : ℕ} where
 -- ---- a term, by the range of its word
 
 module _ (H w : ℕ) where
-  pub leaf-term : w < freshBase → leafWord w ≡ isTerm (withHeads H) w
+  -- below the fresh variables only a name or a literal is one
+  leaf-term : w < freshBase → isNameWord w || isLiteralWord w ≡ isTerm (withHeads H) w
   leaf-term low = simp (false-below freshBase (heads (withHeads H) * limit16) w low)
 
+  pub name-fits : nameBase ≤ w → w < nameBase + limit12 → isTerm (withHeads H) w ≡ true
+  name-fits lo hi = sym (leaf-term (omega arith)) ∙ simp (true-within nameBase limit12 w lo hi)
+
+  pub literal-fits : literalBase ≤ w → w < literalBase + limit16 → isTerm (withHeads H) w ≡ true
+  literal-fits lo hi = sym (leaf-term (omega arith)) ∙ simp (false-below nameBase limit12 w (omega arith), true-within literalBase limit16 w lo hi)
+
+  pub none-fits : w < freshBase → isNameWord w ≡ false → isLiteralWord w ≡ false → isTerm (withHeads H) w ≡ false
+  none-fits low n l = sym (leaf-term low) ∙ simp (n, l)
+
+  -- a fresh variable is one by its head
   pub fresh-term : freshBase ≤ w → ltb ((w - freshBase) / limit16) H && ltb ((w - freshBase) / limit16) limit12 ≡ isTerm (withHeads H) w
   fresh-term high =
       rw (heads-below freshBase (heads (withHeads H)) w high, heads-with H, false-above nameBase limit12 w (omega arith), false-above literalBase limit16 w (omega arith))
@@ -82,15 +95,39 @@ module _ (H w : ℕ) where
           go true ea false eb = let l = ltb-false h limit12 eb in sym (le-ltb h (min H limit12) (omega (arith, min-le-right H limit12)))
           go false ea b eb = let l = ltb-false h H ea in sym (le-ltb h (min H limit12) (omega (arith, min-le-left H limit12)))
 
-module _ (s : Sig) (ws : List ℕ) (p : ℕ) where
-  pub term-inside : termAt s ws p ≡ true → p < length ws
-  term-inside h = ltb-true p (length ws) (and-left (ltb p (length ws)) (isTerm s (getD ws p 0)) h)
+-- what is taken for it
+pub no-word : (s : Sig) (ws : List ℕ) (p : ℕ) → length ws ≤ p → takenSays Taken.Nothing p ≡ termAt s ws p
+no-word s ws p l = rw (le-ltb p (length ws) l)
 
-  pub term-taken : termAt s ws p ≡ true → walk 0 (p + 1) ≡ walkOf (readTerm s ws p)
-  term-taken h = rw (add-one p, h) refl
+module _ (H : ℕ) {ws : List ℕ} {p w : ℕ} (k : Here ws p w) where
+  pub term-fits : {t : Term} → isTerm (withHeads H) w ≡ true → TermSays t 0 w → takenSays (Taken.Term t) p ≡ termAt (withHeads H) ws p
+  term-fits fits says = rw (← k .is, lt-ltb p (length ws) (k .inside), fits) (λ i. ok (record { numberIs = says .numberIs i; wordIs = says .wordIs i }))
 
-  pub term-refused : termAt s ws p ≡ false → walk unfit p ≡ walkOf (readTerm s ws p)
-  term-refused h = rw h refl
+  pub term-none : isTerm (withHeads H) w ≡ false → takenSays Taken.Nothing p ≡ termAt (withHeads H) ws p
+  term-none none = rw (← k .is, lt-ltb p (length ws) (k .inside), none)
+
+-- and what that tells
+module _ (s : Sig) (ws : List ℕ) (p : ℕ) {x : Taken.the-data} (read : takenSays x p ≡ termAt s ws p) where
+  is-there : {t : Term} → x ≡ Taken.Term t → isTermAt s ws p ≡ true
+  is-there {t} is = go (isTermAt s ws p) (ap (λ (y : Taken.the-data). takenSays y p) (sym is) ∙ read)
+    where
+      go : (b : Bool) → takenSays (Taken.Term t) p ≡ demand b unfit p (record { numberIs = termNumberOf (s .globals) (getD ws p 0); wordIs = getD ws p 0 }) → b ≡ true
+      go true e = refl
+      go false e = let z : _≡_ {A = ℕ} 0 1 = cc in absurd (omega arith)
+
+  pub term-inside : {t : Term} → x ≡ Taken.Term t → p < length ws
+  term-inside is = ltb-true p (length ws) (and-left (ltb p (length ws)) (isTerm s (getD ws p 0)) (is-there is))
+
+  pub term-taken : {t : Term} → x ≡ Taken.Term t → walk 0 (p + 1) ≡ walkOf (readTerm s ws p)
+  term-taken is = rw (add-one p, is-there is) refl
+
+  pub term-refused : x ≡ Taken.Nothing → walk unfit p ≡ walkOf (readTerm s ws p)
+  term-refused is = go (isTermAt s ws p) (ap (λ (y : Taken.the-data). takenSays y p) (sym is) ∙ read)
+    where
+      go : (b : Bool) → takenSays Taken.Nothing p ≡ demand b unfit p (record { numberIs = termNumberOf (s .globals) (getD ws p 0); wordIs = getD ws p 0 })
+          → walk unfit p ≡ walkOf (demand {A = Read ℕ} b unfit p (record { value = getD ws p 0; at = suc p }))
+      go true e = let z : _≡_ {A = ℕ} 0 1 = cc in absurd (omega arith)
+      go false e = refl
 
 -- ---- rows
 

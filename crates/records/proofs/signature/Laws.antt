@@ -8,8 +8,8 @@ use lib.ListN.{length, getD}
 use lib.Dec.{ltb, leb, eqb, lit<}
 use borrow.Author.Tests.{lt-ltb, le-ltb, ltb-true, leb-true, ne-eqb, eq-eqb, eqb-true, eqb-false}
 use Rattle.rules.specs.Words.{signatureBase, within, limit12}
-use Rattle.rules.specs.Refusals.{Res, ok, refuse, _>>=_, demand, badSignature}
-use Rattle.rules.specs.Signature.{Sig, payloadAt, kindsAt, readSignature}
+use Rattle.rules.specs.Refusals.{Res, ok, refuse, _>>=_, demand}
+use Rattle.rules.specs.Signature.{payloadAt, kindsAt, readSignature}
 use Rattle.words.specs.Word.{numbers, kind, numbersOf}
 use Rattle.words.specs.declared.Word.{Word}
 use Rattle.words.specs.declared.Word.the-variants.{Signature}
@@ -112,6 +112,10 @@ module _ (ws : List ℕ) where
           → before b (getD ws p 0 - signatureBase) p (kindsAt ws n (suc p)) ≡ ok ((getD ws p 0 - signatureBase) ∷ kindsFrom n (suc p))
       go true rest g = rw (rest (omega arith))
       go false rest g = absurd (omega arith)
+
+  -- the code's test of the word at an index
+  pub kind-here : (p : ℕ) {w : ℕ} {b : Bool} → p < length ws → w ≡ getD ws p 0 → b ≡ within signatureBase 3 w → b ≡ isKindAt ws p
+  kind-here p h e k = rw (lt-ltb p (length ws) h) (k ∙ ap (within signatureBase 3) e)
 
   -- where there is no bad index, each is a kind
   pub all-good : (n p i q : ℕ) → firstBad ws n p ≡ p + n → i < n → q ≡ p + i → isKindAt ws q ≡ true
@@ -232,8 +236,7 @@ module _ (ws : List ℕ) where
   pub globals-bad : {h : ℕ} → payloadAt ws 1 limit12 0 ≡ ok h → payloadAt ws 0 (suc limit12) 1 ≡ refuse 1 1 → signOf (refuse 1 1) ≡ signature
   globals-bad rh e = rw (rh, e) refl
 
-  pub equals-bad : {h g : ℕ} → payloadAt ws 1 limit12 0 ≡ ok h → payloadAt ws 0 (suc limit12) 1 ≡ ok g → payloadAt ws 0 h 2 ≡ refuse 1 2
-      → signOf (refuse 1 2) ≡ signature
+  pub equals-bad : {h g : ℕ} → payloadAt ws 1 limit12 0 ≡ ok h → payloadAt ws 0 (suc limit12) 1 ≡ ok g → payloadAt ws 0 h 2 ≡ refuse 1 2 → signOf (refuse 1 2) ≡ signature
   equals-bad rh rg e = rw (rh, rg, e) refl
 
   pub flag-bad : {h g v : ℕ} → payloadAt ws 1 limit12 0 ≡ ok h → payloadAt ws 0 (suc limit12) 1 ≡ ok g → payloadAt ws 0 h 2 ≡ ok v → payloadAt ws 0 2 3 ≡ refuse 1 3
@@ -241,13 +244,6 @@ module _ (ws : List ℕ) where
   flag-bad rh rg rv e = rw (rh, rg, rv, e) refl
 
 -- ---- and then the kinds
-
--- what is read behind the first four words
-abbrev rest : List ℕ → (h g v f : ℕ) → Res Sig
-rest ws h g v f = do
-  ks ← kindsAt ws h 4
-  n ← demand (eqb (length ws) (4 + h)) badSignature (4 + h) h
-  demand (eqb (getD ks v 0) 2) badSignature 2 (record { globals = g; valueEq = v; flag = eqb f 1; kinds = ks })
 
 module _ {ws : List ℕ} {h g v f : ℕ} (b : Begins ws h g v f) where
   pub begins-inside : (4 ≤ length ws) × (h ≤ limit12) × (v < h)
@@ -257,13 +253,8 @@ module _ {ws : List ℕ} {h g v f : ℕ} (b : Begins ws h g v f) where
       let rf = payload-range ws 0 2 3 (b .flag-read) in
       omega arith
 
-  begins-read : (r : Res Sig) → rest ws h g v f ≡ r → signOf r ≡ signature ws
-  begins-read r e =
-      let whole : readSignature ws ≡ rest ws h g v f = rw (b .heads-read, b .globals-read, b .equals-read, b .flag-read) refl in
-      ap signOf (sym (whole ∙ e))
-
   pub kind-bad : {bad : ℕ} → bad ≡ firstBad ws h 4 → bad < 4 + h → signOf (refuse 1 bad) ≡ signature ws
-  kind-bad {bad} is low = begins-read (refuse 1 bad) (rw (is, kinds-bad ws h 4 (omega arith)) refl)
+  kind-bad is low = rw (is, b .heads-read, b .globals-read, b .equals-read, b .flag-read, kinds-bad ws h 4 (omega arith)) refl
 
 -- all the kinds are there
 pub record Kinds (ws : List ℕ) (h g v f : ℕ) : Type 0 where
@@ -281,8 +272,11 @@ none-bad {ws} {h} b is l =
     record { begins = b; good = e; inside = omega arith; equals = i .2 }
 
 module _ {ws : List ℕ} {h g v f : ℕ} (k : Kinds ws h g v f) where
+  abbrev b : Begins ws h g v f
+  b = k .begins
+
   pub surplus-bad : 4 + h < length ws → signOf (refuse 1 (4 + h)) ≡ signature ws
-  surplus-bad l = begins-read (k .begins) (refuse 1 (4 + h)) (rw (kinds-good ws h 4 (k .good), ne-eqb (length ws) (4 + h) (λ e. omega arith)) refl)
+  surplus-bad l = rw (b .heads-read, b .globals-read, b .equals-read, b .flag-read, kinds-good ws h 4 (k .good), ne-eqb (length ws) (4 + h) (λ e. omega arith)) refl
 
   -- w is the word of the value-eq head's kind
   module _ {w : ℕ} (whole : length ws ≡ 4 + h) (is : w ≡ getD ws (4 + v) 0) where
@@ -292,11 +286,9 @@ module _ {ws : List ℕ} {h g v f : ℕ} (k : Kinds ws h g v f) where
     pub equals-no-primitive : ¬ (w ≡ signatureBase + 2) → signOf (refuse 1 2) ≡ signature ws
     equals-no-primitive n =
         let no = test false (ne-eqb w (signatureBase + 2) n) in
-        begins-read (k .begins) (refuse 1 2) (rw (kinds-good ws h 4 (k .good), eq-eqb (length ws) (4 + h) whole, no) refl)
+        rw (b .heads-read, b .globals-read, b .equals-read, b .flag-read, kinds-good ws h 4 (k .good), eq-eqb (length ws) (4 + h) whole, no) refl
 
     pub signature-read : w ≡ signatureBase + 2 → record { refused = 0; place = 0; heads = h; globals = g; equals = v; flag = eqb f 1 } ≡ signature ws
     signature-read y =
         let yes = test true (eq-eqb w (signatureBase + 2) y) in
-        let s : Sig = record { globals = g; valueEq = v; flag = eqb f 1; kinds = kindsFrom ws h 4 } in
-        let read : rest ws h g v f ≡ ok s = rw (kinds-good ws h 4 (k .good), eq-eqb (length ws) (4 + h) whole, yes) refl in
-        rw (length-kindsFrom ws h 4) at (begins-read (k .begins) (ok s) read)
+        rw (b .heads-read, b .globals-read, b .equals-read, b .flag-read, kinds-good ws h 4 (k .good), eq-eqb (length ws) (4 + h) whole, yes, length-kindsFrom ws h 4) refl

@@ -1,5 +1,4 @@
 -- A term is one word: it is taken if it is one, and else refused where it stands. Assumes nothing.
-use mathlib.Core.Path.{sym, _∙_}
 use native.Mathlib.Omega.{arith}
 use Rattle.octets.specs.Words.{words}
 use Rattle.octets.proofs.Words.{length-words}
@@ -9,24 +8,33 @@ use borrow.Author.Needs.{needs}
 use Rattle.records.proofs.flat.term.Statement.{statement}
 use Rattle.records.proofs.flat.term.Tie as tie
 
-is-term-at-requires : tie.Need-is-term-at-requires
-is-term-at-requires c κs = search needs
+term-at-requires : tie.Need-term-at-requires
+term-at-requires c κs = search needs
 
-add-t6 : tie.Need-add-t6
-add-t6 c =
-    let a = c .before .before .before .args in
-    let here = term-inside (withHeads (a .heads)) (words (a .rule .now)) (a .at) (sym (c .before .is-term-at .ensures) ∙ c .if1 .taken) in
-    omega (arith, length-words (a .rule .now))
+enum-told : tie.Need-enum-told
+enum-told c = search needs
+
+enum-told-2 : tie.Need-enum-told-2
+enum-told-2 c = search needs
 
 returns : tie.Need-returns
 returns c =
-    let a = c .before .before .before .args in
-    term-taken (withHeads (a .heads)) (words (a .rule .now)) (a .at) (sym (c .before .is-term-at .ensures) ∙ c .if1 .taken)
+    let t = c .before .before in
+    let a = t .before .before .args in
+    term-refused (withHeads (a .heads)) (words (a .rule .now)) (a .at) (t .term-at .ensures) (c .enum-told2 .given .1)
+
+add-t5 : tie.Need-add-t5
+add-t5 c =
+    let t = c .before .before in
+    let a = t .before .before .args in
+    let here = term-inside (withHeads (a .heads)) (words (a .rule .now)) (a .at) (t .term-at .ensures) (c .enum-told .given .1) in
+    omega (arith, length-words (a .rule .now))
 
 returns-2 : tie.Need-returns-2
 returns-2 c =
-    let a = c .before .before .before .args in
-    term-refused (withHeads (a .heads)) (words (a .rule .now)) (a .at) (sym (c .before .is-term-at .ensures) ∙ c .if1 .left)
+    let t = c .before .before in
+    let a = t .before .before .args in
+    term-taken (withHeads (a .heads)) (words (a .rule .now)) (a .at) (t .term-at .ensures) (c .enum-told .given .1)
 
 pub term-spec : {M : Type 1} → statement M
-term-spec = tie.close (tie.spec is-term-at-requires add-t6 returns returns-2)
+term-spec = tie.close (tie.spec term-at-requires enum-told enum-told-2 returns add-t5 returns-2)

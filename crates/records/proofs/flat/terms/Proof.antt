@@ -1,9 +1,8 @@
 -- What is left of the row answers as the whole does, and each term is one word: the first that is none is refused where it stands. Assumes nothing.
 use Prim.Native.Nat.{ℕ}
 use mathlib.Core.List.{List}
-use mathlib.Core.Path.{refl, sym, _∙_}
+use mathlib.Core.Path.{refl}
 use native.Mathlib.Omega.{arith}
-use borrow.Author.Tests.{not-true, not-false}
 use Rattle.octets.specs.Words.{words}
 use Rattle.octets.proofs.Words.{length-words}
 use Rattle.rules.specs.Signature.{Sig}
@@ -24,15 +23,21 @@ abbrev μ-loop : tie.MeasureT-loop
 loop-holds : tie.Need-loop-holds Inv-loop μ-loop
 loop-holds c = left-start
 
-is-term-at-requires : tie.Need-is-term-at-requires Inv-loop μ-loop
-is-term-at-requires c κs = search needs
+term-at-requires : tie.Need-term-at-requires Inv-loop μ-loop
+term-at-requires c κs = search needs
+
+enum-told : tie.Need-enum-told Inv-loop μ-loop
+enum-told c = search needs
+
+enum-told-2 : tie.Need-enum-told-2 Inv-loop μ-loop
+enum-told-2 c = search needs
 
 -- ---- the next word
 
-abbrev turn : tie.After-is-term-at Inv-loop μ-loop → tie.At-loop Inv-loop μ-loop
+abbrev turn : tie.After-term-at Inv-loop μ-loop → tie.At-loop Inv-loop μ-loop
 turn c = c .before .before
 
-module _ (c : tie.After-is-term-at Inv-loop μ-loop) where
+module _ (c : tie.After-term-at Inv-loop μ-loop) where
   abbrev s : Sig
   s = withHeads (turn c .before .before .args .heads)
 
@@ -45,14 +50,14 @@ module _ (c : tie.After-is-term-at Inv-loop μ-loop) where
 -- it is no term
 returns : tie.Need-returns Inv-loop μ-loop
 returns c =
-    let t = c .before in
-    left-stops (turn t .loop .inv) (omega arith) (term-refused (s t) (ws t) (next t) (sym (t .is-term-at .ensures) ∙ not-true _ (c .if1 .taken))) (λ z. omega arith)
+    let t = c .before .before in
+    left-stops (turn t .loop .inv) (omega arith) (term-refused (s t) (ws t) (next t) (t .term-at .ensures) (c .enum-told2 .given .1)) (λ z. omega arith)
 
 -- it is one
 add-next : tie.Need-add-next Inv-loop μ-loop
 add-next c =
-    let t = c .before in
-    let here = term-inside (s t) (ws t) (next t) (sym (t .is-term-at .ensures) ∙ not-false _ (c .if1 .left)) in
+    let t = c .before .before in
+    let here = term-inside (s t) (ws t) (next t) (t .term-at .ensures) (c .enum-told .given .1) in
     omega (arith, length-words (turn t .before .before .args .rule .now))
 
 sub-left : tie.Need-sub-left Inv-loop μ-loop
@@ -63,8 +68,8 @@ loop-less c = omega arith
 
 loop-again : tie.Need-loop-again Inv-loop μ-loop
 loop-again c =
-    let t = c .before in
-    left-next (turn t .loop .inv) (omega arith) (term-taken (s t) (ws t) (next t) (sym (t .is-term-at .ensures) ∙ not-false _ (c .if1 .left))) refl
+    let t = c .before .before in
+    left-next (turn t .loop .inv) (omega arith) (term-taken (s t) (ws t) (next t) (t .term-at .ensures) (c .enum-told .given .1)) refl
 
 -- ---- none is left
 
@@ -78,7 +83,9 @@ terms-spec =
     Inv-loop
     μ-loop
     loop-holds
-    is-term-at-requires
+    term-at-requires
+    enum-told
+    enum-told-2
     returns
     add-next
     sub-left

@@ -4,10 +4,8 @@ use Prim.Native.Nat.{_-_, _≤_, suc}
 use native.Mathlib.Omega.{arith}
 use native.Mathlib.Numerals.{add-one}
 use Rattle.octets.specs.Words.{words}
-use Rattle.rules.specs.Words.{signatureBase, within}
 use Rattle.records.specs.Signature.{allKinds, isKindAt}
-use Rattle.records.proofs.Expected.{test-here}
-use Rattle.records.proofs.signature.Laws.{all-kinds-next}
+use Rattle.records.proofs.signature.Laws.{all-kinds-next, kind-here}
 use borrow.Author.Needs.{needs}
 use Rattle.records.proofs.signature.all_kinds.Statement.{statement}
 use Rattle.records.proofs.signature.all_kinds.Tie as tie
@@ -41,7 +39,7 @@ loop-again c =
     let ws = words (t .before .before .args .signature .now) in
     let i = l .i in
     let more : suc i - 4 ≡ suc (i - 4) = omega arith in
-    let here : c .is-kind .result ≡ isKindAt ws i = test-here (within signatureBase 3) ws i (omega arith) (c .before .get .ensures .is) (c .is-kind .ensures) in
+    let here : c .is-kind .result ≡ isKindAt ws i = kind-here ws i (omega arith) (c .before .get .ensures .is) (c .is-kind .ensures) in
     (omega arith, omega arith, rw (add-one, more, all-kinds-next ws (i - 4) 4 i (omega arith), ← here, ← l .inv .2) refl)
 
 returns : tie.Need-returns Inv-loop μ-loop

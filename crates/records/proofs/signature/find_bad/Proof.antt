@@ -6,10 +6,8 @@ use native.Mathlib.Omega.{arith}
 use native.Mathlib.Numerals.{add-one}
 use borrow.Author.Tests.{not-true, not-false}
 use Rattle.octets.specs.Words.{words}
-use Rattle.rules.specs.Words.{signatureBase, within}
 use Rattle.records.specs.Signature.{firstBad, isKindAt}
-use Rattle.records.proofs.Expected.{test-here}
-use Rattle.records.proofs.signature.Laws.{first-bad-next, first-bad-here, first-bad-none}
+use Rattle.records.proofs.signature.Laws.{first-bad-next, first-bad-here, first-bad-none, kind-here}
 use borrow.Author.Needs.{needs}
 use Rattle.records.proofs.signature.find_bad.Statement.{statement}
 use Rattle.records.proofs.signature.find_bad.Tie as tie
@@ -48,7 +46,7 @@ module _ (c : Seen) where
   i = turn c .loop .i
 
   is-here : c .is-kind .result ≡ isKindAt ws i
-  is-here = test-here (within signatureBase 3) ws i (omega arith) (c .before .get .ensures .is) (c .is-kind .ensures)
+  is-here = kind-here ws i (omega arith) (c .before .get .ensures .is) (c .is-kind .ensures)
 
 returns : tie.Need-returns Inv-loop μ-loop
 returns c =

@@ -1,97 +1,119 @@
--- The answer is told by the word there: `startWith` says it for each kind of word, and `start-at` that this is the definition. In the arm `_` the match says
--- only that the word's tag is none of the other arms'. Assumes nothing.
-use mathlib.Core.Path.{_≡_, refl, sym, ap, _∙_}
-use mathlib.Core.Bool.{cond}
-use mathlib.Core.List.{List, _∷_, []}
-use Prim.Native.Nat.{ℕ}
-use lib.Dec.{ltb}
+-- The count of leading zeros is a range of numbers: a name, a literal or a head is there, whose payload fits or not, or a word of another kind. Assumes
+-- nothing.
+use mathlib.Core.Path.{refl}
+use Prim.Native.Nat.{_≤_, _<_}
+use native.Mathlib.Omega.{arith}
 use borrow.Author.Needs.{needs}
-use borrow.Author.Tests.{lt-ltb, le-ltb}
-use types.Run.{OneOf, miss}
-use denote.Enum.Declared.{tagOf}
 use Rattle.octets.specs.Words.{words}
-use Rattle.words.proofs.Word.{the-type}
-use Rattle.words.specs.declared.Word.{Word}
-use Rattle.words.specs.declared.Word.the-variants.{Fresh, Name, Literal, Head, Equality, Header, Action, Signature, Unfit}
-use Rattle.records.specs.Written.{withHeads, startSays, takenAt}
-use Rattle.records.specs.declared.written.Start.{Start}
-use Rattle.records.specs.declared.written.Start.the-variants.{Takes, Other}
-use Rattle.records.proofs.WrittenLaws.{startWith, start-at}
+use Rattle.rules.specs.Words.{limit12, limit16, freshBase, nameBase, literalBase, headBase}
+use Rattle.words.specs.declared.Word.the-variants.{Name, Literal, Unfit}
+use Rattle.words.proofs.Ranges.{kind-range, true-within}
+use Rattle.words.proofs.WordLaws.{is-name, is-literal, is-head, unfit-name, unfit-literal}
+use Rattle.records.specs.Written.{withHeads}
+use Rattle.records.proofs.Expected.{Here}
+use Rattle.records.proofs.WrittenLaws.{start-missing, start-says, start-head, start-no-head, start-other}
 use Rattle.records.proofs.written.start_at.Statement.{statement}
 use Rattle.records.proofs.written.start_at.Tie as tie
 
-abbrev tags : List ℕ
-tags = 0 ∷ 4 ∷ 5 ∷ 6 ∷ 7 ∷ 8 ∷ []
+count-requires : tie.Need-count-requires
+count-requires c κs = search needs
 
-others : (H : ℕ) (w : Word) → OneOf tags (tagOf the-type w) → Other ≡ startWith H w
-others H (Fresh h n) k = refl
-others H (Name n) k = absurd (miss tags 1 tt k)
-others H (Literal n) k = absurd (miss tags 2 tt k)
-others H (Head h n) k = absurd (miss tags 3 tt k)
-others H (Equality n) k = refl
-others H (Header a b) k = refl
-others H (Action n) k = refl
-others H (Signature n) k = refl
-others H Unfit k = refl
-
-abbrev start : tie.After-word-at → tie.Start
-start c = c .before .before
-
--- an answer that is that of the word there
-by-word : (c : tie.After-word-at) {x : Start}
-    → let a = start c .args in
-    x ≡ startWith (a .heads) (c .word-at .result) → startSays x (a .at) ≡ takenAt (withHeads (a .heads)) (words (a .rule .now)) (a .at)
-by-word c is = let a = start c .args in ap (λ (y : Start). startSays y (a .at)) is ∙ start-at (words (a .rule .now)) (a .heads) (a .at) (c .word-at .ensures)
-
-word-at-requires : tie.Need-word-at-requires
-word-at-requires c κs = search needs
-
-enum-told : tie.Need-enum-told
-enum-told c = search needs
-
-enum-told-2 : tie.Need-enum-told-2
-enum-told-2 c = search needs
-
-enum-known-w : tie.Need-enum-known-w
-enum-known-w c = search needs
-
--- a name, a literal
 returns : tie.Need-returns
-returns c = let w = c .before .before in by-word w (ap (startWith (start w .args .heads)) (sym (c .enum-told .given .1)))
+returns c = let a = c .before .before .before .args in start-missing (withHeads (a .heads)) (words (a .rule .now)) (a .at) (omega arith)
+
+get-requires : tie.Need-get-requires
+get-requires c κs = search needs
+
+-- ---- the word is read
+
+abbrev start : tie.After-get → tie.Start
+start c = c .before .before .before .before
+
+at-get : (c : tie.After-get) → Here (words (start c .args .rule .now)) (start c .args .at) (c .get .result)
+at-get c = record { inside = omega arith; is = c .get .ensures .is }
+
+-- a name
+name-range : (c : tie.At-match-keys1) → let w = c .before .get .result in (nameBase ≤ w) × (w < freshBase)
+name-range c = kind-range 1 30 (c .before .get .result) refl (c .before .get .ensures .fits) (c .match .keys1)
+
+sub-if2 : tie.Need-sub-if2
+sub-if2 c = name-range c .0
 
 returns-2 : tie.Need-returns-2
-returns-2 c = let w = c .before .before in by-word w (ap (startWith (start w .args .heads)) (sym (c .enum-told2 .given .1)))
-
--- a head, below H or not
-abbrev told : tie.After-known-told → tie.After-word-at
-told c = c .before .before .before
-
-by-head : (c : tie.After-known-told)
-    → let h = start (told c) .args .heads in
-    let g = c .before .w .given .0 in
-    cond (ltb (g .0) h) (Takes (g .1 .0)) Other ≡ startWith h (told c .word-at .result)
-by-head c = ap (startWith (start (told c) .args .heads)) (sym (c .before .w .given .1))
+returns-2 c =
+    let g = c .before .before in
+    let w = g .get .result in
+    let r = name-range (c .before) in
+    start-says (start g .args .heads) (at-get g) (Name _) (is-name w (true-within nameBase limit12 w (r .0) (omega arith)))
 
 returns-3 : tie.Need-returns-3
-returns-3 c = let t = c .before in by-word (told t) (rw (lt-ltb _ _ (c .if1 .taken)) at (by-head t))
+returns-3 c =
+    let g = c .before .before in
+    let r = name-range (c .before) in
+    start-says (start g .args .heads) (at-get g) Unfit (unfit-name (g .get .result) (omega arith) (r .1))
+
+-- a literal
+literal-range : (c : tie.At-match-keys2) → let w = c .before .get .result in (literalBase ≤ w) × (w < nameBase)
+literal-range c = kind-range 2 29 (c .before .get .result) refl (c .before .get .ensures .fits) (c .match .keys2)
+
+sub-if3 : tie.Need-sub-if3
+sub-if3 c = literal-range c .0
 
 returns-4 : tie.Need-returns-4
-returns-4 c = let t = c .before in by-word (told t) (rw (le-ltb _ _ (c .if1 .left)) at (by-head t))
+returns-4 c =
+    let g = c .before .before in
+    let w = g .get .result in
+    let r = literal-range (c .before) in
+    start-says (start g .args .heads) (at-get g) (Literal _) (is-literal w (true-within literalBase limit16 w (r .0) (omega arith)))
 
--- any other word
 returns-5 : tie.Need-returns-5
-returns-5 c = let w = c .before in by-word w (others (start w .args .heads) (w .word-at .result) (c .match .keys4))
+returns-5 c =
+    let g = c .before .before in
+    let r = literal-range (c .before) in
+    start-says (start g .args .heads) (at-get g) Unfit (unfit-literal (g .get .result) (omega arith) (r .1))
+
+-- a head
+head-range : (c : tie.At-match-keys3) → let w = c .before .get .result in (headBase ≤ w) × (w < literalBase)
+head-range c = kind-range 3 28 (c .before .get .result) refl (c .before .get .ensures .fits) (c .match .keys3)
+
+sub-p : tie.Need-sub-p
+sub-p c = head-range c .0
+
+returns-6 : tie.Need-returns-6
+returns-6 c =
+    let g = c .before .before in
+    let w = g .get .result in
+    let r = head-range (c .before) in
+    start-head (start g .args .heads) (at-get g) (is-head w (true-within headBase headBase w (r .0) (omega arith))) (c .if4 .taken)
+
+returns-7 : tie.Need-returns-7
+returns-7 c =
+    let g = c .before .before in
+    let w = g .get .result in
+    let r = head-range (c .before) in
+    start-no-head (start g .args .heads) (at-get g) (is-head w (true-within headBase headBase w (r .0) (omega arith))) (c .if4 .left)
+
+-- another kind
+returns-8 : tie.Need-returns-8
+returns-8 c =
+    let g = c .before in
+    let r = c .match .rest in
+    start-other (start g .args .heads) (at-get g) (r .0 .0 .1) (r .0 .1) (r .1)
 
 pub start-at-spec : {M : Type 1} → statement M
 start-at-spec =
     tie.close
     (tie.spec
-    word-at-requires
-    enum-told
-    enum-told-2
-    enum-known-w
+    count-requires
     returns
+    get-requires
+    sub-if2
+    sub-if3
+    sub-p
     returns-2
     returns-3
     returns-4
-    returns-5)
+    returns-5
+    returns-6
+    returns-7
+    returns-8)

@@ -1,0 +1,126 @@
+-- The count of leading zeros is a range of numbers: a fresh variable, a name or a literal is there, whose payload fits or not, or no term. Assumes nothing.
+use mathlib.Core.Path.{refl, sym, _∙_}
+use Prim.Native.Nat.{_≤_, _<_, zero-le}
+use native.Mathlib.Omega.{arith}
+use borrow.Author.Needs.{needs}
+use Rattle.octets.specs.Words.{words}
+use Rattle.rules.specs.Words.{limit12, limit16, freshBase, nameBase, literalBase}
+use Rattle.words.proofs.Ranges.{kind-range, kind-from, past, false-below, false-above}
+use Rattle.words.proofs.AtomLaws.{term-fresh, term-name, term-literal}
+use Rattle.records.specs.Written.{withHeads}
+use Rattle.records.proofs.Expected.{Here}
+use Rattle.records.proofs.flat.Laws.{no-word, term-fits, term-none, fresh-term, name-fits, literal-fits, none-fits}
+use Rattle.records.proofs.flat.term_at.Statement.{statement}
+use Rattle.records.proofs.flat.term_at.Tie as tie
+
+count-requires : tie.Need-count-requires
+count-requires c κs = search needs
+
+returns : tie.Need-returns
+returns c = let a = c .before .before .before .args in no-word (withHeads (a .heads)) (words (a .rule .now)) (a .at) (omega arith)
+
+get-requires : tie.Need-get-requires
+get-requires c κs = search needs
+
+-- ---- the word is read
+
+abbrev start : tie.After-get → tie.Start
+start c = c .before .before .before .before
+
+at-get : (c : tie.After-get) → Here (words (start c .args .rule .now)) (start c .args .at) (c .get .result)
+at-get c = record { inside = omega arith; is = c .get .ensures .is }
+
+-- a fresh variable
+fresh-range : (c : tie.At-match-keys1) → freshBase ≤ c .before .get .result
+fresh-range c = kind-range 0 31 (c .before .get .result) refl (c .before .get .ensures .fits) (c .match .keys1) .0
+
+sub-head : tie.Need-sub-head
+sub-head c = fresh-range c
+
+returns-2 : tie.Need-returns-2
+returns-2 c =
+    let g = c .before .before in
+    let w = g .get .result in
+    let r = fresh-range (c .before) in
+    let h = start g .args .heads in
+    term-fits h (at-get g) (sym (fresh-term h w r) ∙ c .if2 .taken) (term-fresh 0 w r)
+
+returns-3 : tie.Need-returns-3
+returns-3 c =
+    let g = c .before .before in
+    let h = start g .args .heads in
+    term-none h (at-get g) (sym (fresh-term h (g .get .result) (fresh-range (c .before))) ∙ c .if2 .left)
+
+-- a name
+name-range : (c : tie.At-match-keys2) → let w = c .before .get .result in (nameBase ≤ w) × (w < freshBase)
+name-range c = kind-range 1 30 (c .before .get .result) refl (c .before .get .ensures .fits) (c .match .keys2)
+
+sub-if3 : tie.Need-sub-if3
+sub-if3 c = name-range c .0
+
+returns-4 : tie.Need-returns-4
+returns-4 c =
+    let g = c .before .before in
+    let w = g .get .result in
+    let r = name-range (c .before) in
+    let h = start g .args .heads in
+    term-fits h (at-get g) (name-fits h w (r .0) (omega arith)) (term-name 0 w (r .1) (omega arith))
+
+returns-5 : tie.Need-returns-5
+returns-5 c =
+    let g = c .before .before in
+    let w = g .get .result in
+    let r = name-range (c .before) in
+    let h = start g .args .heads in
+    term-none h (at-get g) (none-fits h w (r .1) (false-above nameBase limit12 w (omega arith)) (false-above literalBase limit16 w (omega arith)))
+
+-- a literal
+literal-range : (c : tie.At-match-keys3) → let w = c .before .get .result in (literalBase ≤ w) × (w < nameBase)
+literal-range c = kind-range 2 29 (c .before .get .result) refl (c .before .get .ensures .fits) (c .match .keys3)
+
+sub-if4 : tie.Need-sub-if4
+sub-if4 c = literal-range c .0
+
+returns-6 : tie.Need-returns-6
+returns-6 c =
+    let g = c .before .before in
+    let w = g .get .result in
+    let r = literal-range (c .before) in
+    let h = start g .args .heads in
+    term-fits h (at-get g) (literal-fits h w (r .0) (omega arith)) (term-literal 0 w (r .1))
+
+returns-7 : tie.Need-returns-7
+returns-7 c =
+    let g = c .before .before in
+    let w = g .get .result in
+    let r = literal-range (c .before) in
+    let h = start g .args .heads in
+    term-none h (at-get g) (none-fits h w (omega arith) (false-below nameBase limit12 w (r .1)) (false-above literalBase limit16 w (omega arith)))
+
+-- another kind
+returns-8 : tie.Need-returns-8
+returns-8 c =
+    let g = c .before in
+    let w = g .get .result in
+    let r = c .match .rest in
+    let h = start g .args .heads in
+    let low : w < literalBase = kind-from 3 29 w refl (g .get .ensures .fits) (past (past (past zero-le (r .0 .0 .1)) (r .0 .1)) (r .1)) in
+    term-none h (at-get g) (none-fits h w (omega arith) (false-below nameBase limit12 w (omega arith)) (false-below literalBase limit16 w low))
+
+pub term-at-spec : {M : Type 1} → statement M
+term-at-spec =
+    tie.close
+    (tie.spec
+    count-requires
+    returns
+    get-requires
+    sub-head
+    sub-if3
+    sub-if4
+    returns-2
+    returns-3
+    returns-4
+    returns-5
+    returns-6
+    returns-7
+    returns-8)
