@@ -1,6 +1,7 @@
 // The actions of the head, one by one. The names let so far lie at the bottom of the stack, so that the stack of an action starts where they
 // end. Each call below an action has used one counter and given one flat action, so that the log also counts the actions.
 use head_exprs::lower;
+use head_exprs::lower_all;
 use head_exprs::lower_arguments;
 use head_exprs::scope::Scope;
 use head_exprs::scope::may_read;
@@ -365,7 +366,7 @@ pub fn set_name(
     let name = octets::get(rule, at + 1);
     let w = octets::get(rule, at + 2);
     let n = ((w - walks::HEAD) % walks::LIMIT_16) as usize;
-    let args = lower_arguments(
+    let args = lower_all(
         rule,
         at + 3,
         n,

@@ -124,7 +124,7 @@ pub fn lower(
 }
 
 // Lowers the n expressions from `at` on; their terms go onto the stack.
-fn lower_all(
+pub fn lower_all(
     rule: &[u8],
     at: usize,
     n: usize,

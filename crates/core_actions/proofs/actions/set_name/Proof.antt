@@ -59,31 +59,31 @@ sub-n c = at-get c .begun .tree .it .high
 cast-n : tie.Need-cast-n
 cast-n c = search needs
 
-add-lower-arguments : tie.Need-add-lower-arguments
-add-lower-arguments c = omega (arith, at-get c .begun)
+add-lower-all : tie.Need-add-lower-all
+add-lower-all c = omega (arith, at-get c .begun)
 
-sub-lower-arguments : tie.Need-sub-lower-arguments
-sub-lower-arguments c = search needs
+sub-lower-all : tie.Need-sub-lower-all
+sub-lower-all c = search needs
 
-lower-arguments-requires : tie.Need-lower-arguments-requires
-lower-arguments-requires c κs = exprs-ask (at-get (c .before .before) .begun)
+lower-all-requires : tie.Need-lower-all-requires
+lower-all-requires c κs = exprs-ask (at-get (c .before .before) .begun)
 
 -- ---- the arguments
 
-abbrev args-call : tie.After-lower-arguments → tie.After-get2
+abbrev args-call : tie.After-lower-all → tie.After-get2
 args-call c = c .before .before .before
 
-at-args : (c : tie.After-lower-arguments)
-    → let a = c .lower-arguments in
+at-args : (c : tie.After-lower-all)
+    → let a = c .lower-all in
     let w = args-call c .get2 .result in
     Argued (site (start (args-call c .before))) 3 (maxDepth - 1) (countOf w) w (words (a .last .1 .1 .1 .1 .1 .1 .0)) (words (a .last .1 .1 .1 .1 .1 .0)) (a .result)
 at-args c =
-    let a = c .lower-arguments in
+    let a = c .lower-all in
     argued (at-get (args-call c) .begun) (length-words-kept _ _ (a .kept .1 .1 .1 .1 .1 .1 .0)) (length-words-kept _ _ (a .kept .1 .1 .1 .1 .1 .0)) (a .ensures)
 
 -- ---- one of them is refused
 
-abbrev then-args : tie.Then1 → tie.After-lower-arguments
+abbrev then-args : tie.Then1 → tie.After-lower-all
 then-args c = c .before .before .before .before .before .before
 
 same-length : tie.Need-same-length
@@ -102,7 +102,7 @@ returns c =
 
 -- ---- the arguments are fine
 
-abbrev else-args : tie.Else1 → tie.After-lower-arguments
+abbrev else-args : tie.Else1 → tie.After-lower-all
 else-args c = c .before .before .before .before .before .before
 
 at-else : (c : tie.Else1) → Fine (at-args (else-args c))
@@ -128,7 +128,7 @@ put-requires c κs = omega (arith, at-else (then-else (c .before)))
 abbrev put-then : tie.After-put → tie.Then2
 put-then c = c .before .before
 
-at-put : (c : tie.After-put) → length (words (c .put .last .0)) ≡ length (words (else-args (then-else (put-then c)) .lower-arguments .last .1 .1 .1 .1 .1 .1 .0))
+at-put : (c : tie.After-put) → length (words (c .put .last .0)) ≡ length (words (else-args (then-else (put-then c)) .lower-all .last .1 .1 .1 .1 .1 .1 .0))
 at-put c = length-words-kept _ _ (c .put .kept .0)
 
 add-put-change : tie.Need-add-put-change
@@ -151,15 +151,15 @@ change-put c = c .before .before .before .before .before
 abbrev end-change : tie.After-slice-known7 → tie.After-put-change
 end-change c = c .before .before .before .before
 
-abbrev end-args : tie.After-slice-known7 → tie.After-lower-arguments
+abbrev end-args : tie.After-slice-known7 → tie.After-lower-all
 end-args c = else-args (then-else (put-then (change-put (end-change c))))
 
 same-length-3 : tie.Need-same-length-3
-same-length-3 c = end-change c .put-change .kept .1 .1 .1 .1 .1 .0 ∙ end-args c .lower-arguments .kept .1 .1 .1 .1 .1 .0
+same-length-3 c = end-change c .put-change .kept .1 .1 .1 .1 .1 .0 ∙ end-args c .lower-all .kept .1 .1 .1 .1 .1 .0
 
 same-length-4 : tie.Need-same-length-4
 same-length-4 c =
-    end-change c .put-change .kept .1 .1 .1 .1 .1 .1 .0 ∙ change-put (end-change c) .put .kept .0 ∙ end-args c .lower-arguments .kept .1 .1 .1 .1 .1 .1 .0
+    end-change c .put-change .kept .1 .1 .1 .1 .1 .1 .0 ∙ change-put (end-change c) .put .kept .0 ∙ end-args c .lower-all .kept .1 .1 .1 .1 .1 .1 .0
 
 returns-2 : tie.Need-returns-2
 returns-2 c =
@@ -203,9 +203,9 @@ set-name-spec =
     get-requires-2
     sub-n
     cast-n
-    add-lower-arguments
-    sub-lower-arguments
-    lower-arguments-requires
+    add-lower-all
+    sub-lower-all
+    lower-all-requires
     refused-action-requires
     same-length
     same-length-2
