@@ -2,7 +2,6 @@
 use settling::Settled;
 ghost use mathlib.Core.Path.{_≡_};
 ghost use mathlib.Core.List.{List, _++_};
-ghost use Prim.Native.Nat.{_+_, _*_, _≤_};
 ghost use lib.ListN.{length};
 ghost use Rattle.octets.specs.Words.{words};
 ghost use Rattle.octets.specs.Regions.{splice};
