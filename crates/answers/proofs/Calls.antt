@@ -14,7 +14,7 @@ use Rattle.rules.specs.Signature.{Sig}
 use Rattle.rules.specs.Calls.{Result, outputFits, wholeWords, Outcome, outcomeOf}
 use Rattle.records.specs.Signature.{signOf}
 use Rattle.records.specs.declared.signature.Signature.{Signature}
-use Rattle.free_vars.specs.Head.{Wrote}
+use Rattle.free_vars.specs.Head.{WroteIfRoom}
 use Rattle.answers.specs.declared.Answer.{Answer}
 use Rattle.answers.specs.Answers.{refusedWith, answerOf, GivesBoth}
 use Rattle.answers.proofs.Tests.{Front, tested, front, Passed, Fate, fate}
@@ -123,7 +123,7 @@ Bytes l = (i : ℕ) → getD l i 0 < 256
 pub record Done {R : Type 0} {k : Call R} {g : Signature} (y : Ready k g) (needed replacements passes : ℕ) (m : List ℕ) : Type 0 where
   pub result : Result
   pub is : made y ≡ ok result
-  pub wrote : Wrote (result .words) needed (k .output) m
+  pub wrote : WroteIfRoom (result .words) needed (k .output) m
   pub replaced : replacements ≡ result .replacements
   pub passed : passes ≡ result .passes
   pub size : length m ≡ length (k .output)

@@ -11,10 +11,10 @@ use Rattle.octets.proofs.Words.{length-words, written-front}
 use Rattle.octets.proofs.Splice.{splice-front}
 use Rattle.rules.specs.Refusals.{ok, refuse, demand, shortOutput}
 use Rattle.rules.specs.Calls.{Result, outputFits}
-use Rattle.free_vars.specs.Head.{Wrote}
+use Rattle.free_vars.specs.Head.{WroteIfRoom}
 
 -- the output had the bytes l and has the bytes m; n words were needed for the result
-module _ (o : Result) (n : ℕ) (l m : List ℕ) (wrote : Wrote (o .words) n l m) where
+module _ (o : Result) (n : ℕ) (l m : List ℕ) (wrote : WroteIfRoom (o .words) n l m) where
   -- too short: a refusal with the words needed, and nothing is written
   pub ends-short : length (words l) < n → (outputFits (length l / 4) o ≡ refuse shortOutput n) × (m ≡ l)
   ends-short h =

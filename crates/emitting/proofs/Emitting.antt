@@ -19,7 +19,7 @@ use Rattle.settling.specs.declared.Settled.{Settled}
 use Rattle.settling.specs.Settle.{SettledAt}
 use Rattle.meaning.proofs.Lists.{words-append}
 use Rattle.meaning.proofs.WordLaws.{length-bindings, bindings-words}
-use Rattle.free_vars.specs.Head.{Wrote}
+use Rattle.free_vars.specs.Head.{WroteIfRoom}
 use Rattle.emitting.specs.Emit.{Fits, emitted, Parts, Stand}
 
 -- ---- runs one behind the other, at the front of the output: l has become m
@@ -86,7 +86,7 @@ module _ {b : rules.Settled} {xs : List CoreAction} {scratch : List ℕ} {body :
 
   -- an output that has no room is left as it is
   pub no-room : (l : List ℕ) → length (words l) < 1 + body .words + 3 * body .replacements + size
-      → Wrote (encode (b .tabs) (bindings (b .repls) ++ xs)) (1 + body .words + 3 * body .replacements + size) l l
+      → WroteIfRoom (encode (b .tabs) (bindings (b .repls) ++ xs)) (1 + body .words + 3 * body .replacements + size) l l
   no-room l h = record {
     needed = needed;
     fits = λ k. absurd (nothing k);
@@ -100,7 +100,7 @@ module _ {b : rules.Settled} {xs : List CoreAction} {scratch : List ℕ} {body :
   pub in-room : (l m : List ℕ) {h : ℕ} → h ≡ headerWord (body .atoms) (body .replacements + many)
       → 1 + body .words + 3 * body .replacements + size ≤ length (words l)
       → words m ≡ splice (words l) 0 (emitted h scratch body source from size)
-      → Wrote (encode (b .tabs) (bindings (b .repls) ++ xs)) (1 + body .words + 3 * body .replacements + size) l m
+      → WroteIfRoom (encode (b .tabs) (bindings (b .repls) ++ xs)) (1 + body .words + 3 * body .replacements + size) l m
   in-room l m e r w = record {
     needed = needed;
     fits = λ _. w ∙ ap (splice (words l) 0) (encoded e);
@@ -143,7 +143,7 @@ termsOf g = record { globals = g .globals; equals = g .equals }
 abbrev pub Finishes : List ℕ → Settled → (many : ℕ) (source : List ℕ) (from size n : ℕ) (o m : List ℕ) → Type 0
 Finishes scratch body many source from size n o m =
     (b : rules.Settled) (head : List CoreAction) → Parts b head scratch body many source from size
-    → Wrote (encode (b .tabs) (bindings (b .repls) ++ head)) n o m
+    → WroteIfRoom (encode (b .tabs) (bindings (b .repls) ++ head)) n o m
 
 pub settled-parts : {s : Sig} {atoms : List Atom} {l m : List ℕ} {at n : ℕ} {body : Settled} → SettledAt s atoms l m at n body
     → (head : List CoreAction) (many : ℕ) (source : List ℕ) (from size : ℕ) → At (wordsOf actionWords head) source from

@@ -8,7 +8,7 @@ ghost use Rattle.octets.specs.Regions.{splice};
 ghost use Rattle.rules.specs.Flat.{CoreAction, encode};
 ghost use Rattle.rules.specs.Canonicalize.{bindings};
 ghost use Rattle.rules.specs.RemoveDupVars as rules;
-ghost use Rattle.free_vars.specs.Head.{Wrote};
+ghost use Rattle.free_vars.specs.Head.{WroteIfRoom};
 ghost use Rattle.emitting.specs.Emit.{Fits, emitted, Parts, Stand};
 
 // The first word of a header, and its facts' unit.
@@ -54,7 +54,7 @@ pub fn finish(
     requires { ⌜ Stand (words (now scratch)) body actions (words (now source)) from rest ⌝ }
     ensures { λ r. ⌜ ((b : rules.Settled) (head : List CoreAction)
         → Parts b head (words (now (scratch .entry))) body actions (words (now (source .entry))) from rest
-        → Wrote (encode (b .tabs) (bindings (b .repls) ++ head)) r (now (output .entry)) (now (output .exit))) ⌝ }
+        → WroteIfRoom (encode (b .tabs) (bindings (b .repls) ++ head)) r (now (output .entry)) (now (output .exit))) ⌝ }
 {
     let needed = 1 + body.words + 3 * body.replacements + rest;
     if octets::count(output) < needed {

@@ -41,7 +41,7 @@ pub record Actions (s : Sig) (ws : List ℕ) (from : ℕ) (xs : List CoreAction)
 
 -- n is how many words xs has. They are written to the front of the output, if it has room for all; if not, no byte changes.
 -- The output's bytes l have become m
-pub record Wrote (xs : List ℕ) (n : ℕ) (l m : List ℕ) : Type 0 where
+pub record WroteIfRoom (xs : List ℕ) (n : ℕ) (l m : List ℕ) : Type 0 where
   pub needed : n ≡ length xs
   pub fits : length xs ≤ length (words l) → words m ≡ splice (words l) 0 xs
   pub short : length (words l) < length xs → m ≡ l

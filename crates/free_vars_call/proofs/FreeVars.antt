@@ -12,7 +12,7 @@ use Rattle.rules.specs.Flat.{FlatRule}
 use Rattle.rules.specs.FreeVars.{getFreeVars}
 use Rattle.rules.specs.Calls.{Result, wholeWords, freeVars}
 use Rattle.records.specs.declared.signature.Signature.{Signature}
-use Rattle.free_vars.specs.Head.{Good, GoodUnder, Wrote}
+use Rattle.free_vars.specs.Head.{Good, GoodUnder, WroteIfRoom}
 use Rattle.meaning.proofs.SignatureLaws.{signature-sound}
 use Rattle.answers.specs.declared.Answer.{Answer}
 use Rattle.answers.specs.Answers.{Gives}
@@ -54,7 +54,7 @@ module _ (k : Given) where
     free-asks = record { some = record { sig = y .sig; rule = y .passed .rule; good = good }; globals = globals }
 
     pub free-done : {n : ℕ} {m : List ℕ}
-        → ((s : Sig) (f : FlatRule) → g .globals ≡ s .globals → Good s (words (k .rule)) f → Wrote (getFreeVars s (f .actions)) n (k .output) m)
+        → ((s : Sig) (f : FlatRule) → g .globals ≡ s .globals → Good s (words (k .rule)) f → WroteIfRoom (getFreeVars s (f .actions)) n (k .output) m)
         → length m ≡ length (k .output) → Bytes (k .output) → Bytes m → Done y n 0 0 m
     free-done wrote size before after =
         record {

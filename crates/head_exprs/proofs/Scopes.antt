@@ -7,25 +7,24 @@ use native.Mathlib.Omega.{arith}
 use lib.Dec.{eqb, ltb}
 use lib.ListN.{length, getD}
 use borrow.Author.Tests.{lt-leb, le-leb, lt-ltb, le-ltb, ltb-true, ltb-false}
-use Rattle.octets.specs.Regions.{part, isIn}
+use Rattle.octets.specs.Regions.{part, elem}
 use Rattle.octets.proofs.Splice.{part-more, part-same}
 use Rattle.rules.specs.Words.{limit12, nameBase, freshBase}
 use Rattle.rules.specs.Signature.{Sig, elem, isVar}
 use Rattle.rules.specs.ToCoreActions.{readable}
 use Rattle.meaning.proofs.DistinctWords.{elem-append}
-use Rattle.meaning.proofs.Lists.{in-elem}
 use Rattle.walks.specs.Steps.{Kept, Room}
 use Rattle.head_exprs.specs.Scopes.{inScope, mayRead, isTaken, grown, ScopeFits, Scoped, ScopeRoom}
 use Rattle.head_exprs.specs.declared.scope.Scope.{Scope}
 
 -- what the two searches say
-pub in-body : (s : List ℕ) (c : Scope) (w : ℕ) → isIn w (part s 0 (c .body)) ≡ true → inScope s c w ≡ true
+pub in-body : (s : List ℕ) (c : Scope) (w : ℕ) → elem w (part s 0 (c .body)) ≡ true → inScope s c w ≡ true
 unfolding inScope
-in-body s c w e = rw (sym (in-elem w (part s 0 (c .body))) ∙ e)
+in-body s c w e = rw e
 
-pub in-names : (s : List ℕ) (c : Scope) (w : ℕ) → isIn w (part s 0 (c .body)) ≡ false → inScope s c w ≡ isIn w (part s (c .first) (c .names))
+pub in-names : (s : List ℕ) (c : Scope) (w : ℕ) → elem w (part s 0 (c .body)) ≡ false → inScope s c w ≡ elem w (part s (c .first) (c .names))
 unfolding inScope
-in-names s c w e = rw (sym (in-elem w (part s 0 (c .body))) ∙ e) (sym (in-elem w (part s (c .first) (c .names))))
+in-names s c w e = rw e
 
 -- a step that writes elsewhere leaves the scope as it is
 pub scoped-kept : {sig : Sig} {bound : List ℕ} {c : Scope} {to te sp se lg le log : ℕ} {s cs s′ cs′ : List ℕ} → Kept to te sp se lg le s cs s′ cs′ log

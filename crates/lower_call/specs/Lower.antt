@@ -13,7 +13,7 @@ use Rattle.rules.specs.ToCoreActions.{CoreRule}
 use Rattle.rules.specs.Canonicalize.{bindings}
 use Rattle.rules.specs.RemoveDupVars.{settle}
 use Rattle.records.specs.declared.signature.Signature.{Signature}
-use Rattle.free_vars.specs.Head.{Wrote}
+use Rattle.free_vars.specs.Head.{WroteIfRoom}
 use Rattle.lower_call.specs.declared.Lowered.{Lowered}
 
 -- the words are read as the signature s, which `sign` tells of, and as the rule r under it
@@ -43,7 +43,7 @@ pub record TurnedBack (number place : ℕ) (cs cs′ l l′ : List ℕ) (r : Low
 -- a result: it is written where there is room for it, and only then are the counters used
 pub record LoweredTo (s : Sig) (c : CoreRule) (cs cs′ l l′ : List ℕ) (r : Lowered) : Type 0 where
   pub fine : r .refused ≡ 0
-  pub wrote : Wrote (encode (settle s (c .body) .tabs) (bindings (settle s (c .body) .repls) ++ c .head)) (r .needed) l l′
+  pub wrote : WroteIfRoom (encode (settle s (c .body) .tabs) (bindings (settle s (c .body) .repls) ++ c .head)) (r .needed) l l′
   pub replacements : r .replacements ≡ length (settle s (c .body) .repls)
   pub passes : r .passes ≡ settle s (c .body) .passes
   pub counted : r .needed ≤ length (words l) → cs′ ≡ c .next

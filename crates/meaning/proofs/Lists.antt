@@ -7,7 +7,6 @@ use mathlib.Core.List.{List, [], _∷_, _++_, map, append-assoc}
 use lib.ListN.{length, length-append}
 use lib.Dec.{eqb}
 use borrow.Author.Tests.{eqb-true, eq-eqb}
-use Rattle.octets.specs.Regions.{isIn}
 use Rattle.rules.specs.Signature.{sameTerms, elem}
 use Rattle.rules.specs.Flat.{wordsOf}
 use Rattle.meaning.specs.Meaning.{All}
@@ -82,12 +81,6 @@ same-terms (x ∷ xs) (y ∷ ys) e =
 pub terms-same : (xs : List ℕ) → sameTerms xs xs ≡ true
 terms-same [] = refl
 terms-same (x ∷ xs) = ap₂ _&&_ (eq-eqb x x refl) (terms-same xs)
-
--- the search for a word and the definitions' test say the same
-pub in-elem : (w : ℕ) (xs : List ℕ) → isIn w xs ≡ elem w xs
-unfolding isIn
-in-elem w [] = refl
-in-elem w (x ∷ xs) = ap (λ (b : Bool). eqb w x || b) (in-elem w xs)
 
 -- ---- appending
 

@@ -35,10 +35,10 @@ pub data Clear (to from n : ℕ) : Type 0 where
 unfoldable pub swap : ℕ → ℕ → ℕ → ℕ
 swap x y w = cond (eqb w x) y w
 
--- whether a word is one of these
-unfoldable pub isIn : ℕ → List ℕ → Bool
-isIn w [] = false
-isIn w (x ∷ xs) = eqb w x || isIn w xs
+-- a word is one of these
+abbrev pub elem : ℕ → List ℕ → Bool
+elem w [] = false
+elem w (x ∷ xs) = eqb w x || elem w xs
 
 -- whether two lists are the same words
 unfoldable pub eqWords : List ℕ → List ℕ → Bool

@@ -6,7 +6,7 @@ ghost use Prim.Native.Nat.{_+_, _≤_};
 ghost use lib.Dec.{eqb};
 ghost use lib.ListN.{length};
 ghost use Rattle.octets.specs.Words.{words};
-ghost use Rattle.octets.specs.Regions.{splice, part, Clear, swap, isIn, eqWords};
+ghost use Rattle.octets.specs.Regions.{splice, part, Clear, swap, elem, eqWords};
 use crate::get;
 use crate::put;
 
@@ -68,7 +68,7 @@ fn met(x: u32, w: u32, was: u32) -> u32
 // Whether w is among the n words from `from` on. Every word is looked at, found or not, so that the loop has no branch and runs on vectors.
 pub fn among(buf: &[u8], from: usize, n: usize, w: u32) -> bool
     requires { ⌜ from + n ≤ length (words (now buf)) ⌝ }
-    ensures { λ r. ⌜ r ≡ isIn w (part (words (now (buf .entry))) from n) ⌝ }
+    ensures { λ r. ⌜ r ≡ elem w (part (words (now (buf .entry))) from n) ⌝ }
 {
     let mut found: u32 = 0;
     let mut i = 0;

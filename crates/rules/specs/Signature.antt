@@ -5,6 +5,7 @@ use mathlib.Core.Bool.{Bool, true, false, _||_, _&&_}
 use mathlib.Core.List.{List, [], _∷_}
 use lib.ListN.{length, getD}
 use lib.Dec.{leb, ltb, eqb}
+pub use Rattle.octets.specs.Regions.{elem}
 use Rattle.rules.specs.Words.{limit12, freshBase, nameBase, signatureBase, within}
 use Rattle.rules.specs.Refusals.{Res, ok, _>>=_, demand, badSignature}
 
@@ -44,11 +45,6 @@ sameTerms [] [] = true
 sameTerms [] (b ∷ bs) = false
 sameTerms (a ∷ as′) [] = false
 sameTerms (a ∷ as′) (b ∷ bs) = sameTerm a b && sameTerms as′ bs
-
--- a word is one of these
-abbrev pub elem : ℕ → List ℕ → Bool
-elem w [] = false
-elem w (x ∷ xs) = eqb w x || elem w xs
 
 -- ---- reading it: refusal 1 at the lowest index that is bad
 

@@ -11,7 +11,7 @@ use lib.ListN.{getD, length, length-map, take}
 use borrow.Author.Tests.{eq-eqb, eqb-false, ne-eqb}
 use Rattle.octets.proofs.Places.{at-after, at-before, at-join, at-splice, only-splice, only-then, only-wide}
 use Rattle.octets.proofs.Splice.{length-part, splice-itself}
-use Rattle.octets.specs.Regions.{At, Only, isIn, part, splice, swap}
+use Rattle.octets.specs.Regions.{At, Only, elem, part, splice, swap}
 use Rattle.rules.specs.Canonicalize.{Replacement, replaceTerm, resolve, resolveEq}
 use Rattle.rules.specs.Flat.{eqn, tabWords, wordsOf}
 use Rattle.rules.specs.Signature.{Sig, sameTerm}
@@ -29,14 +29,14 @@ use Rattle.settling.specs.Joining.{JoinOneAsks, JoinStep, JoinedOne, joi
 -- ---- a word that is not there
 
 -- where x is not among them, replacing it changes nothing
-swap-none : (x y : ℕ) (ws : List ℕ) → isIn x ws ≡ false → map (swap x y) ws ≡ ws
-unfolding isIn swap
+swap-none : (x y : ℕ) (ws : List ℕ) → elem x ws ≡ false → map (swap x y) ws ≡ ws
+unfolding swap
 swap-none x y [] h = refl
 swap-none x y (w ∷ ws) h =
-    let k = or-false (eqb x w) (isIn x ws) h in
+    let k = or-false (eqb x w) (elem x ws) h in
     ap₂ (λ (c : Bool) (vs : List ℕ). cond c y w ∷ vs) (ne-eqb w x (λ e. eqb-false x w (k .0) (sym e))) (swap-none x y ws (k .1))
 
-pub not-met : (l : List ℕ) (p n x y : ℕ) → p + n ≤ length l → isIn x (part l p n) ≡ false → l ≡ splice l p (map (swap x y) (part l p n))
+pub not-met : (l : List ℕ) (p n x y : ℕ) → p + n ≤ length l → elem x (part l p n) ≡ false → l ≡ splice l p (map (swap x y) (part l p n))
 not-met l p n x y h e = sym (ap (splice l p) (swap-none x y (part l p n) e) ∙ splice-itself l p n h)
 
 -- ---- what it asks for, and what its left term becomes

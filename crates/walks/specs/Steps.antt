@@ -50,7 +50,7 @@ pub record Kept (to te sp se lg le : ℕ) (s cs s′ cs′ : List ℕ) (log : �
   pub above : (i : ℕ) → se ≤ i → i < lg → getD s′ i 0 ≡ getD s i 0
 
 -- a piece was made of k words, which end at nx: its words stand from t on, and with its m terms they are at most four for each word read
-pub record Wrote (m : ℕ) (p : Piece) (k nx t : ℕ) (s′ cs′ : List ℕ) (r : Walk) : Type 0 where
+pub record PieceStands (m : ℕ) (p : Piece) (k nx t : ℕ) (s′ cs′ : List ℕ) (r : Walk) : Type 0 where
   pub fine : r .refused ≡ 0
   pub next : r .next ≡ nx
   pub to : r .to ≡ t + length (p .words)
@@ -69,7 +69,7 @@ pub record Stopped (n p : ℕ) (r : Walk) : Type 0 where
 
 -- where the terms of a piece are: T says it
 abbrev pub Ended : ℕ → (Piece → Type 0) → Res Piece → ℕ → ℕ → ℕ → List ℕ → List ℕ → Walk → Type 0
-Ended m T (ok p) k nx t s′ cs′ r = Wrote m p k nx t s′ cs′ r × T p
+Ended m T (ok p) k nx t s′ cs′ r = PieceStands m p k nx t s′ cs′ r × T p
 Ended m T (refuse n q) k nx t s′ cs′ r = Stopped n q r
 
 -- the k words from `at` on were walked with this result

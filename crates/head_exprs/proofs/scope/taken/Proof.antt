@@ -2,7 +2,6 @@
 use mathlib.Core.Path.{_∙_}
 use Rattle.octets.specs.Regions.{part}
 use Rattle.octets.specs.Words.{words}
-use Rattle.meaning.proofs.Lists.{in-elem}
 use Rattle.head_exprs.proofs.Scopes.{taken-low, taken-high}
 use borrow.Author.Needs.{needs}
 use Rattle.head_exprs.proofs.scope.taken.Statement.{statement}
@@ -18,7 +17,7 @@ returns : tie.Need-returns
 returns c =
     let a = c .before .before .before .before .args in
     let s = words (a .s .now) in
-    c .among .ensures ∙ in-elem (a .w) (part s (a .scope .first) (a .scope .names)) ∙ taken-low s (a .scope) (a .w) (c .before .if1 .taken)
+    c .among .ensures ∙ taken-low s (a .scope) (a .w) (c .before .if1 .taken)
 
 has-requires : tie.Need-has-requires
 has-requires c κs = search needs

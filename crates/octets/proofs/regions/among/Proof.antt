@@ -3,7 +3,7 @@ use mathlib.Core.Path.{_≡_, ap, _∙_}
 use Prim.Native.Nat.{ℕ, _-_, _≤_}
 use native.Mathlib.Omega.{arith}
 use lib.Dec.{eqb}
-use Rattle.octets.specs.Regions.{part, isIn}
+use Rattle.octets.specs.Regions.{part, elem}
 use Rattle.octets.specs.Words.{words}
 use Rattle.octets.proofs.Words.{length-words}
 use Rattle.octets.proofs.Search.{search-start, search-more}
@@ -12,7 +12,7 @@ use Rattle.octets.proofs.regions.among.Statement.{statement}
 use Rattle.octets.proofs.regions.among.Tie as tie
 
 abbrev Inv-loop : tie.InvT-loop
-Inv-loop buf from n w found₀ i₀ found i = (i ≤ n) × (eqb found 1 ≡ isIn w (part (words buf) from i))
+Inv-loop buf from n w found₀ i₀ found i = (i ≤ n) × (eqb found 1 ≡ elem w (part (words buf) from i))
 
 abbrev μ-loop : tie.MeasureT-loop
 μ-loop buf from n w found₀ i₀ found i = n - i
@@ -47,7 +47,7 @@ returns : tie.Need-returns Inv-loop μ-loop
 returns c =
     let a = c .before .before .before .args in
     let done : c .before .loop .i ≡ a .n = omega arith in
-    c .before .loop .inv .1 ∙ ap (λ (k : ℕ). isIn (a .w) (part (words (a .buf .now)) (a .from) k)) done
+    c .before .loop .inv .1 ∙ ap (λ (k : ℕ). elem (a .w) (part (words (a .buf .now)) (a .from) k)) done
 
 pub among-spec : {M : Type 1} → statement M
 among-spec =
