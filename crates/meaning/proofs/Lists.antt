@@ -7,7 +7,7 @@ use mathlib.Core.List.{List, [], _∷_, _++_, map, append-assoc}
 use lib.ListN.{length, length-append}
 use lib.Dec.{eqb}
 use borrow.Author.Tests.{eqb-true, eq-eqb}
-use Rattle.rules.specs.Signature.{sameTerms, elem}
+use Rattle.rules.specs.Signature.{sameTerms}
 use Rattle.rules.specs.Flat.{wordsOf}
 use Rattle.meaning.specs.Meaning.{All}
 

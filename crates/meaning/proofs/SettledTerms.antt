@@ -8,14 +8,14 @@ use mathlib.Core.Option.{Option, none, some}
 use lib.ListN.{length}
 use lib.Dec.{eqb, leb}
 use Rattle.rules.specs.Words.{unit, nameBase}
-use Rattle.rules.specs.Signature.{Sig, isFresh, isVar}
+use Rattle.rules.specs.Signature.{Sig, isFresh}
 use Rattle.rules.specs.Flat.{Tab, Atom, tab}
 use Rattle.rules.specs.ToQuery.{termsOf, bodyVars}
 use Rattle.rules.specs.Canonicalize.{Replacement, replaceTerm, replaceAtom, firstReplacement, replaceStep, replaceUpTo, canonicalize}
 use Rattle.rules.specs.RemoveDupVars.{keep, merged, Settled, afterPass, removeDupVars, settle}
 use Rattle.meaning.specs.Meaning.{All}
 use Rattle.meaning.specs.Demand3.{FreshOf}
-use Rattle.meaning.proofs.Lists.{or-left, all-append, all-map}
+use Rattle.meaning.proofs.Lists.{or-left, all-append}
 use Rattle.meaning.proofs.Terms.{AllTerms, AllTabTerms, all-terms-map, resolve-terms, keep-terms, merged-terms, tabs-terms, first-terms, replace-all-terms}
 use Rattle.meaning.proofs.RemoveDupVarsEnds.{unit-no-var}
 use Rattle.meaning.proofs.Replacements.{VarIn, body-in}

@@ -4,10 +4,10 @@ use Prim.Native.Nat.{ℕ}
 use mathlib.Core.Path.{refl}
 use mathlib.Core.Bool.{Bool, true, false, cond, _&&_}
 use mathlib.Core.Option.{Option, none, some}
-use Rattle.rules.specs.Signature.{Sig, isName, isConstructor}
+use Rattle.rules.specs.Signature.{isName, isConstructor}
 use Rattle.rules.specs.Written.{Expr, Exprs, leaf, call}
-use Rattle.rules.specs.ToCoreActions.{AsSet, optional, unionAsSet}
-use Rattle.meaning.specs.Meaning.{Built, UnionSet, setTo, either, unionSet}
+use Rattle.rules.specs.ToCoreActions.{AsSet, optional}
+use Rattle.meaning.specs.Meaning.{Built, setTo, either}
 use Rattle.meaning.specs.Demand3.{SameSet, UnionsAgree}
 
 -- a set at most, by the three tests

@@ -20,9 +20,6 @@ length-part l p n h =
 pub getD-part : (l : List ℕ) (p n i : ℕ) → i < n → getD (part l p n) i 0 ≡ getD l (p + i) 0
 getD-part l p n i h = getD-take n (drop p l) i 0 h ∙ getD-drop p l i 0
 
-pub part-zero : (l : List ℕ) (p : ℕ) → part l p 0 ≡ []
-part-zero l p = refl
-
 -- the whole
 pub part-all : (l : List ℕ) → part l 0 (length l) ≡ l
 part-all l = take-length l

@@ -2,11 +2,11 @@
 --
 -- The kinds are ranges of numbers here, as in `rules`; that the count of leading zero bits tells the same is proved in `proofs/Ranges`.
 -- Assumes nothing: these are definitions.
-use Prim.Native.Nat.{ℕ, _+_, _-_, _/_, _%_, _≤_, _<_}
+use Prim.Native.Nat.{ℕ, _-_, _/_, _%_}
 use mathlib.Core.Bool.{cond}
 use lib.Dec.{leb}
-use Rattle.rules.specs.Words.{limit12, limit16, freshBase, nameBase, literalBase, headBase, equalityBase, actionBase}
-use Rattle.rules.specs.Words.{signatureBase, freshWord, headWord, headerWord, actionWord, within, isNameWord, isLiteralWord}
+use Rattle.rules.specs.Words.{limit16, freshBase, nameBase, literalBase, headBase, equalityBase, actionBase}
+use Rattle.rules.specs.Words.{signatureBase, actionWord, within, isNameWord, isLiteralWord}
 use Rattle.rules.specs.Words.{isEqualityWord, isHeaderWord, headOf, countOf, factsOf, actionsOf}
 use Rattle.words.specs.declared.Word.{Word}
 use Rattle.words.specs.declared.Word.the-variants.{Fresh, Name, Literal, Head, Equality, Header, Action, Signature, Unfit}

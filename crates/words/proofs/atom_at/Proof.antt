@@ -1,6 +1,6 @@
 -- The word at an index of kind 3 or 4 begins an atom there; an index of a slice of words is below 2^62. Assumes nothing.
 use native.Mathlib.Omega.{arith}
-use mathlib.Core.Path.{sym, subst}
+use mathlib.Core.Path.{subst}
 use Prim.Native.Nat.{ℕ}
 use Rattle.octets.proofs.Words.{length-words}
 use Rattle.words.specs.Atom.{AtomSays}

@@ -1,6 +1,5 @@
 -- Whether a name is bound: a word below the first variable only among the names let, any other where the scope has it. Assumes nothing.
 use mathlib.Core.Path.{_∙_}
-use Rattle.octets.specs.Regions.{part}
 use Rattle.octets.specs.Words.{words}
 use Rattle.head_exprs.proofs.Scopes.{taken-low, taken-high}
 use borrow.Author.Needs.{needs}
