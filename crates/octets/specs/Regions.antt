@@ -2,7 +2,7 @@
 -- and a count, or a place and an end, since two parts of one slice can't be lent for writing at once. Assumes nothing.
 use mathlib.Core.Path.{_≡_}
 use mathlib.Core.List.{List, [], _∷_, _++_}
-use mathlib.Core.Bool.{Bool, true, false, cond, _&&_, _||_}
+use mathlib.Core.Bool.{Bool, true, false, cond, _||_}
 use Prim.Native.Nat.{ℕ, _+_, _≤_}
 use lib.Dec.{eqb}
 use lib.ListN.{length, take, drop}
@@ -39,10 +39,3 @@ swap x y w = cond (eqb w x) y w
 abbrev pub elem : ℕ → List ℕ → Bool
 elem w [] = false
 elem w (x ∷ xs) = eqb w x || elem w xs
-
--- whether two lists are the same words
-unfoldable pub eqWords : List ℕ → List ℕ → Bool
-eqWords [] [] = true
-eqWords [] (y ∷ ys) = false
-eqWords (x ∷ xs) [] = false
-eqWords (x ∷ xs) (y ∷ ys) = eqb x y && eqWords xs ys

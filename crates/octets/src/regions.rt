@@ -1,4 +1,4 @@
-// Loops over regions of words: copy, replace, search, compare. Each goes from the first word of its region to the last.
+// Loops over regions of words: copy, replace, search. Each goes from the first word of its region to the last.
 ghost use mathlib.Core.Path.{_≡_};
 ghost use mathlib.Core.Bool.{cond};
 ghost use mathlib.Core.List.{map};
@@ -6,7 +6,7 @@ ghost use Prim.Native.Nat.{_+_, _≤_};
 ghost use lib.Dec.{eqb};
 ghost use lib.ListN.{length};
 ghost use Rattle.octets.specs.Words.{words};
-ghost use Rattle.octets.specs.Regions.{splice, part, Clear, swap, elem, eqWords};
+ghost use Rattle.octets.specs.Regions.{splice, part, Clear, swap, elem};
 use crate::get;
 use crate::put;
 
@@ -78,27 +78,4 @@ pub fn among(buf: &[u8], from: usize, n: usize, w: u32) -> bool
         i += 1;
     }
     found == 1
-}
-
-// Whether the n words of `a` from p on are the n words of `b` from q on. It ends at the first two that differ.
-pub fn same_between(a: &[u8], p: usize, b: &[u8], q: usize, n: usize) -> bool
-    requires { ⌜ (p + n ≤ length (words (now a))) × (q + n ≤ length (words (now b))) ⌝ }
-    ensures { λ r. ⌜ r ≡ eqWords (part (words (now (a .entry))) p n) (part (words (now (b .entry))) q n) ⌝ }
-{
-    let mut i = 0;
-    while i < n {
-        if get(a, p + i) != get(b, q + i) {
-            return false;
-        }
-        i += 1;
-    }
-    true
-}
-
-// The same within one slice.
-pub fn same(buf: &[u8], p: usize, q: usize, n: usize) -> bool
-    requires { ⌜ (p + n ≤ length (words (now buf))) × (q + n ≤ length (words (now buf))) ⌝ }
-    ensures { λ r. ⌜ r ≡ eqWords (part (words (now (buf .entry))) p n) (part (words (now (buf .entry))) q n) ⌝ }
-{
-    same_between(buf, p, buf, q, n)
 }
