@@ -12,8 +12,8 @@ use Rattle.octets.proofs.Words.{length-words-kept}
 use Rattle.rules.specs.Refusals.{Res, ok, refuse, _>>=_, demand, shortOutput, ragged}
 use Rattle.rules.specs.Signature.{Sig}
 use Rattle.rules.specs.Calls.{Result, outputFits, wholeWords, Outcome, outcomeOf}
-use Rattle.records.specs.Signature.{signOf}
-use Rattle.records.specs.declared.signature.Signature.{Signature}
+use Rattle.signature.specs.Signature.{signOf}
+use Rattle.signature.specs.declared.Signature.{Signature}
 use Rattle.free_vars.specs.Head.{WroteIfRoom}
 use Rattle.answers.specs.declared.Answer.{Answer}
 use Rattle.answers.specs.Answers.{refusedWith, answerOf, GivesBoth}

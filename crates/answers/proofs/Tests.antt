@@ -14,8 +14,8 @@ use Rattle.rules.specs.Refusals.{Res, ok, refuse, _>>=_, demand, fewCounters, s
 use Rattle.rules.specs.Signature.{Sig, heads, readSignature}
 use Rattle.rules.specs.Written.{Rule, readWritten}
 use Rattle.rules.specs.Flat.{FlatRule, readFlat}
-use Rattle.records.specs.Signature.{signOf}
-use Rattle.records.specs.declared.signature.Signature.{Signature}
+use Rattle.signature.specs.Signature.{signOf}
+use Rattle.signature.specs.declared.Signature.{Signature}
 use Rattle.records.specs.declared.written.Walk.{Walk}
 use Rattle.records.specs.Written.{withHeads, wholeOf}
 use Rattle.records.proofs.WrittenWhole.{written-with}

@@ -1,9 +1,9 @@
 // The tests in front of the work, in the order of 01, "Turned back". They give the signature, or in its place the first refusal.
-use records::signature::Signature;
+use signature::Signature;
 ghost use mathlib.Core.Path.{_≡_};
 ghost use Rattle.octets.specs.Words.{words};
 ghost use Rattle.rules.specs.Refusals.{refuse};
-ghost use Rattle.records.specs.Signature.{signOf};
+ghost use Rattle.signature.specs.Signature.{signOf};
 ghost use Rattle.answers.specs.Fronts.{flatFront, writtenFront};
 
 // The refusals' numbers that are given here.
@@ -34,7 +34,7 @@ fn turned_back(number: u32, place: usize) -> Signature
 pub fn flat_front(signature: &[u8], rule: &[u8], scratch: usize) -> Signature
     ensures { λ r. ⌜ r ≡ signOf (flatFront (words (now (signature .entry))) (words (now (rule .entry))) scratch) ⌝ }
 {
-    let sign = records::signature::read(signature);
+    let sign = signature::read(signature);
     if sign.refused != 0 {
         return sign;
     }
@@ -55,7 +55,7 @@ pub fn flat_front(signature: &[u8], rule: &[u8], scratch: usize) -> Signature
 pub fn written_front(signature: &[u8], rule: &[u8], counters: usize, scratch: usize) -> Signature
     ensures { λ r. ⌜ r ≡ signOf (writtenFront (words (now (signature .entry))) (words (now (rule .entry))) counters scratch) ⌝ }
 {
-    let sign = records::signature::read(signature);
+    let sign = signature::read(signature);
     if sign.refused != 0 {
         return sign;
     }

@@ -13,7 +13,7 @@ use Rattle.rules.specs.Signature.{Sig}
 use Rattle.rules.specs.Flat.{Atom, CoreAction, tabWords, actionWords, wordsOf, encode}
 use Rattle.rules.specs.Canonicalize.{bindings}
 use Rattle.rules.specs.RemoveDupVars as rules
-use Rattle.records.specs.declared.signature.Signature.{Signature}
+use Rattle.signature.specs.declared.Signature.{Signature}
 use Rattle.bodies.specs.declared.terms.Sign.{Sign}
 use Rattle.settling.specs.declared.Settled.{Settled}
 use Rattle.settling.specs.Settle.{SettledAt}

@@ -11,7 +11,7 @@ use Rattle.rules.specs.Signature.{Sig}
 use Rattle.rules.specs.Flat.{FlatRule}
 use Rattle.rules.specs.FreeVars.{getFreeVars}
 use Rattle.rules.specs.Calls.{Result, wholeWords, freeVars}
-use Rattle.records.specs.declared.signature.Signature.{Signature}
+use Rattle.signature.specs.declared.Signature.{Signature}
 use Rattle.free_vars.specs.Head.{Good, GoodUnder, WroteIfRoom}
 use Rattle.meaning.proofs.SignatureLaws.{signature-sound}
 use Rattle.answers.specs.declared.Answer.{Answer}

@@ -14,8 +14,8 @@ use Rattle.rules.specs.Written.{Rule}
 use Rattle.rules.specs.ToCoreActions.{CoreRule, toCoreRule}
 use Rattle.rules.specs.RemoveDupVars.{settle}
 use Rattle.rules.specs.Calls.{Result, settledResult, lowerRule, wholeWords, lower}
-use Rattle.records.specs.Signature.{signOf}
-use Rattle.records.specs.declared.signature.Signature.{Signature}
+use Rattle.signature.specs.Signature.{signOf}
+use Rattle.signature.specs.declared.Signature.{Signature}
 use Rattle.answers.specs.declared.Answer.{Answer}
 use Rattle.lower_call.specs.declared.Lowered.{Lowered}
 use Rattle.answers.specs.Answers.{wholeThree, scratchWritten, refusedWith, GivesBoth}

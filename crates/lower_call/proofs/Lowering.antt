@@ -33,7 +33,7 @@ use Rattle.bodies.specs.Standing.{BodyAt}
 use Rattle.settling.specs.declared.Settled.{Settled}
 use Rattle.settling.specs.Settle.{SettleAsks, SettledAt}
 use Rattle.settling.proofs.Settling.{settle-asks}
-use Rattle.records.specs.declared.signature.Signature.{Signature}
+use Rattle.signature.specs.declared.Signature.{Signature}
 use Rattle.lower_call.specs.declared.Lowered.{Lowered}
 use Rattle.emitting.specs.Emit.{Parts, Stand}
 use Rattle.lower_call.specs.Lower.{WrittenUnder, LowerAsks, LowersTo}

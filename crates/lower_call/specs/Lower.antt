@@ -12,7 +12,7 @@ use Rattle.rules.specs.Flat.{encode}
 use Rattle.rules.specs.ToCoreActions.{CoreRule}
 use Rattle.rules.specs.Canonicalize.{bindings}
 use Rattle.rules.specs.RemoveDupVars.{settle}
-use Rattle.records.specs.declared.signature.Signature.{Signature}
+use Rattle.signature.specs.declared.Signature.{Signature}
 use Rattle.free_vars.specs.Head.{WroteIfRoom}
 use Rattle.lower_call.specs.declared.Lowered.{Lowered}
 

@@ -7,7 +7,7 @@ use answers::fronts::written_front;
 use answers::refused;
 use answers::whole;
 use bodies::terms::Sign;
-use records::signature::Signature;
+use signature::Signature;
 ghost use mathlib.Core.Path.{_≡_};
 ghost use mathlib.Core.List.{[], _∷_};
 ghost use lib.ListN.{length};

@@ -11,9 +11,9 @@ use Rattle.rules.specs.Signature.{readSignature}
 use Rattle.rules.specs.Written.{Rule, readWritten}
 use Rattle.rules.specs.Flat.{FlatRule, readFlat}
 use Rattle.rules.specs.Calls.{lengthFits}
-use Rattle.records.specs.declared.signature.Signature.{Signature}
+use Rattle.signature.specs.declared.Signature.{Signature}
 use Rattle.records.specs.declared.written.Walk.{Walk}
-use Rattle.records.specs.Signature.{signOf}
+use Rattle.signature.specs.Signature.{signOf}
 use Rattle.records.specs.Written.{withHeads, wholeOf}
 use Rattle.reads.specs.declared.Answer.{Answer}
 

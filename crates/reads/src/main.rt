@@ -10,7 +10,7 @@ ghost use lib.ListN.{length};
 ghost use Rattle.io.specs.Counts.{Counts};
 ghost use Rattle.octets.specs.Words.{words};
 ghost use Rattle.rules.specs.Signature.{readSignature};
-ghost use Rattle.records.specs.Signature.{signOf};
+ghost use Rattle.signature.specs.Signature.{signOf};
 ghost use Rattle.records.specs.Written.{wholeOf};
 ghost use Rattle.reads.specs.Answers.{writtenAlone, flatAlone, signatureAnswer, wholeRule, answerOf};
 
@@ -143,7 +143,7 @@ fn read_words(line: &[u8], out: &mut [u8]) -> Words
 fn signature(bytes: &[u8], heads: u32) -> Answer
     ensures { λ r. ⌜ r ≡ signatureAnswer heads (signOf (readSignature (words (now (bytes .entry))))) ⌝ }
 {
-    let read = records::signature::read(bytes);
+    let read = signature::read(bytes);
     if read.refused == 0 {
         return Answer {
             refused: read.refused,

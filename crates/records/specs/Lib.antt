@@ -1,4 +1,3 @@
-pub mod Signature
 pub mod Written
 pub mod Flat
 pub mod Rows

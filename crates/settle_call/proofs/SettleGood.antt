@@ -24,7 +24,7 @@ use Rattle.meaning.proofs.ReadFlatSizes.{total-words, atom-size, flat-size}
 use Rattle.meaning.proofs.ResultBounds.{settled-counts}
 use Rattle.records.specs.Written.{withHeads, walk, walkOf}
 use Rattle.records.specs.declared.written.Walk.{Walk}
-use Rattle.records.specs.declared.signature.Signature.{Signature}
+use Rattle.signature.specs.declared.Signature.{Signature}
 use Rattle.records.proofs.flat.Words.{word-read, row-spelled, atom-spelled, action-spelled, flat-spelled}
 use Rattle.records.proofs.flat.Whole.{flat-with}
 use Rattle.bodies.specs.Terms.{GoodSign, Agrees}

@@ -13,8 +13,8 @@ use Rattle.rules.specs.Signature.{Sig}
 use Rattle.rules.specs.Flat.{FlatRule}
 use Rattle.rules.specs.RemoveDupVars.{settle}
 use Rattle.rules.specs.Calls.{Result, settledResult, wholeWords, settled}
-use Rattle.records.specs.Signature.{signOf}
-use Rattle.records.specs.declared.signature.Signature.{Signature}
+use Rattle.signature.specs.Signature.{signOf}
+use Rattle.signature.specs.declared.Signature.{Signature}
 use Rattle.meaning.proofs.SignatureLaws.{signature-sound}
 use Rattle.meaning.proofs.Encodable.{flat-encodable}
 use Rattle.answers.specs.declared.Answer.{Answer}

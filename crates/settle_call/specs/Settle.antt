@@ -11,7 +11,7 @@ use Rattle.rules.specs.Canonicalize.{bindings}
 use Rattle.rules.specs.RemoveDupVars.{settle}
 use Rattle.meaning.specs.Meaning.{All}
 use Rattle.meaning.specs.ReadBack.{Encodable}
-use Rattle.records.specs.declared.signature.Signature.{Signature}
+use Rattle.signature.specs.declared.Signature.{Signature}
 use Rattle.free_vars.specs.Head.{WroteIfRoom}
 use Rattle.settle_call.specs.declared.Ended.{Ended}
 

@@ -6,7 +6,7 @@ use answers::all_whole;
 use answers::fronts::flat_front;
 use answers::refused;
 use answers::whole;
-use records::signature::Signature;
+use signature::Signature;
 ghost use Prim.Native.Nat.{_*_, _≤_};
 ghost use lib.ListN.{length};
 ghost use Rattle.octets.specs.Words.{words};

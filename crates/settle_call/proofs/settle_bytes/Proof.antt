@@ -8,7 +8,7 @@ use lib.ListN.{drop}
 use borrow.Author.Tests.{not-true, not-false}
 use denote.Ref.{now}
 use Rattle.rules.specs.Calls.{wholeWords}
-use Rattle.records.specs.Signature.{signOf}
+use Rattle.signature.specs.Signature.{signOf}
 use Rattle.answers.specs.Answers.{scratchFlat, Beyond}
 use Rattle.answers.proofs.Tests.{front}
 use Rattle.answers.proofs.Lent.{Lent, lent-size, beyond-lent}

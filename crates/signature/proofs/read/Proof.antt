@@ -8,10 +8,10 @@ use Rattle.octets.specs.Words.{words}
 use Rattle.rules.specs.Refusals.{ok}
 use Rattle.rules.specs.Signature.{payloadAt}
 use Rattle.rules.specs.Words.{limit12}
-use Rattle.records.proofs.signature.Laws.{payload-is, payload-range, heads-bad, globals-bad, equals-bad, flag-bad}
+use Rattle.signature.proofs.Laws.{payload-is, payload-range, heads-bad, globals-bad, equals-bad, flag-bad}
 use borrow.Author.Needs.{needs}
-use Rattle.records.proofs.signature.read.Statement.{statement}
-use Rattle.records.proofs.signature.read.Tie as tie
+use Rattle.signature.proofs.read.Statement.{statement}
+use Rattle.signature.proofs.read.Tie as tie
 
 abbrev ws : tie.Start → List ℕ
 ws c = words (c .args .signature .now)

@@ -17,10 +17,10 @@ use Rattle.words.proofs.Ranges.{within-true, true-within, false-below, false-ab
 use Rattle.words.proofs.WordLaws.{wordOf, answered, said, signature-kind}
 use Rattle.meaning.proofs.Lists.{and-left, and-right}
 use Rattle.meaning.proofs.Results.{demand-ok}
-use Rattle.records.specs.Signature.{isKindAt, allKinds, firstBad, payloadSays, signOf, Begins}
-use Rattle.records.specs.declared.signature.Payload.{Payload}
-use Rattle.records.specs.declared.signature.Payload.the-variants.{Fits, Unfit}
-use Rattle.records.specs.declared.signature.Signature.{Signature as Sign}
+use Rattle.signature.specs.Signature.{isKindAt, allKinds, firstBad, payloadSays, signOf, Begins}
+use Rattle.signature.specs.declared.Payload.{Payload}
+use Rattle.signature.specs.declared.Payload.the-variants.{Fits, Unfit}
+use Rattle.signature.specs.declared.Signature.{Signature as Sign}
 
 module _ (ws : List ℕ) where
   -- one kind more, at the end

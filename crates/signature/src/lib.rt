@@ -9,7 +9,7 @@ ghost use Rattle.octets.specs.Words.{words};
 ghost use Rattle.rules.specs.Signature.{readSignature, payloadAt};
 ghost use Rattle.rules.specs.Refusals.{refuse, badSignature};
 ghost use Rattle.rules.specs.Words.{signatureBase, within};
-ghost use Rattle.records.specs.Signature.{signOf, payloadSays, allKinds, firstBad, Begins};
+ghost use Rattle.signature.specs.Signature.{signOf, payloadSays, allKinds, firstBad, Begins};
 
 // The refusal's number.
 pub const BAD_SIGNATURE: u32 = 1;

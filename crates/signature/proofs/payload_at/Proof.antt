@@ -4,10 +4,10 @@ use mathlib.Core.List.{List}
 use Prim.Native.Nat.{ℕ}
 use Rattle.octets.specs.Words.{words}
 use Rattle.words.proofs.Tags.{other-kind}
-use Rattle.records.proofs.signature.Laws.{PayloadAt, payload-there, payload-missing, payload-other, payload-low, payload-high, payload-good}
+use Rattle.signature.proofs.Laws.{PayloadAt, payload-there, payload-missing, payload-other, payload-low, payload-high, payload-good}
 use borrow.Author.Needs.{needs}
-use Rattle.records.proofs.signature.payload_at.Statement.{statement}
-use Rattle.records.proofs.signature.payload_at.Tie as tie
+use Rattle.signature.proofs.payload_at.Statement.{statement}
+use Rattle.signature.proofs.payload_at.Tie as tie
 
 abbrev ws : tie.Start → List ℕ
 ws c = words (c .args .signature .now)

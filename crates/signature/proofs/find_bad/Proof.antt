@@ -6,11 +6,11 @@ use native.Mathlib.Omega.{arith}
 use native.Mathlib.Numerals.{add-one}
 use borrow.Author.Tests.{not-true, not-false}
 use Rattle.octets.specs.Words.{words}
-use Rattle.records.specs.Signature.{firstBad, isKindAt}
-use Rattle.records.proofs.signature.Laws.{first-bad-next, first-bad-here, first-bad-none, kind-here}
+use Rattle.signature.specs.Signature.{firstBad, isKindAt}
+use Rattle.signature.proofs.Laws.{first-bad-next, first-bad-here, first-bad-none, kind-here}
 use borrow.Author.Needs.{needs}
-use Rattle.records.proofs.signature.find_bad.Statement.{statement}
-use Rattle.records.proofs.signature.find_bad.Tie as tie
+use Rattle.signature.proofs.find_bad.Statement.{statement}
+use Rattle.signature.proofs.find_bad.Tie as tie
 
 abbrev Inv-loop : tie.InvT-loop
 Inv-loop signature end i₀ i = (4 ≤ i) × (i ≤ end) × (firstBad (words signature) (end - i) i ≡ firstBad (words signature) (end - 4) 4)

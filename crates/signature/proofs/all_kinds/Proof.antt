@@ -4,11 +4,11 @@ use Prim.Native.Nat.{_-_, _≤_, suc}
 use native.Mathlib.Omega.{arith}
 use native.Mathlib.Numerals.{add-one}
 use Rattle.octets.specs.Words.{words}
-use Rattle.records.specs.Signature.{allKinds, isKindAt}
-use Rattle.records.proofs.signature.Laws.{all-kinds-next, kind-here}
+use Rattle.signature.specs.Signature.{allKinds, isKindAt}
+use Rattle.signature.proofs.Laws.{all-kinds-next, kind-here}
 use borrow.Author.Needs.{needs}
-use Rattle.records.proofs.signature.all_kinds.Statement.{statement}
-use Rattle.records.proofs.signature.all_kinds.Tie as tie
+use Rattle.signature.proofs.all_kinds.Statement.{statement}
+use Rattle.signature.proofs.all_kinds.Tie as tie
 
 abbrev Inv-loop : tie.InvT-loop
 Inv-loop signature end good₀ i₀ good i = (4 ≤ i) × (i ≤ end) × (good ≡ allKinds (words signature) (i - 4) 4)

@@ -7,11 +7,11 @@ use native.Mathlib.Omega.{arith}
 use lib.ListN.{getD}
 use Rattle.octets.specs.Words.{words}
 use Rattle.rules.specs.Refusals.{refuse}
-use Rattle.records.specs.Signature.{signOf, firstBad}
-use Rattle.records.proofs.signature.Laws.{begins-inside, kind-bad, Kinds, none-bad, surplus-bad, equals-no-primitive, signature-read}
+use Rattle.signature.specs.Signature.{signOf, firstBad}
+use Rattle.signature.proofs.Laws.{begins-inside, kind-bad, Kinds, none-bad, surplus-bad, equals-no-primitive, signature-read}
 use borrow.Author.Needs.{needs}
-use Rattle.records.proofs.signature.read_kinds.Statement.{statement}
-use Rattle.records.proofs.signature.read_kinds.Tie as tie
+use Rattle.signature.proofs.read_kinds.Statement.{statement}
+use Rattle.signature.proofs.read_kinds.Tie as tie
 
 abbrev ws : tie.Start → List ℕ
 ws c = words (c .args .signature .now)

@@ -3,10 +3,10 @@ use mathlib.Core.Path.{sym, _∙_}
 use Prim.Native.Nat.{_-_}
 use native.Mathlib.Omega.{arith}
 use Rattle.octets.specs.Words.{words}
-use Rattle.records.proofs.signature.Laws.{first-bad-short}
+use Rattle.signature.proofs.Laws.{first-bad-short}
 use borrow.Author.Needs.{needs}
-use Rattle.records.proofs.signature.first_bad.Statement.{statement}
-use Rattle.records.proofs.signature.first_bad.Tie as tie
+use Rattle.signature.proofs.first_bad.Statement.{statement}
+use Rattle.signature.proofs.first_bad.Tie as tie
 
 count-requires : tie.Need-count-requires
 count-requires c κs = search needs

@@ -3,10 +3,10 @@ use mathlib.Core.Path.{sym, _∙_}
 use Prim.Native.Nat.{_-_}
 use native.Mathlib.Omega.{arith}
 use Rattle.octets.specs.Words.{words}
-use Rattle.records.proofs.signature.Laws.{first-bad-end}
+use Rattle.signature.proofs.Laws.{first-bad-end}
 use borrow.Author.Needs.{needs}
-use Rattle.records.proofs.signature.bad_before.Statement.{statement}
-use Rattle.records.proofs.signature.bad_before.Tie as tie
+use Rattle.signature.proofs.bad_before.Statement.{statement}
+use Rattle.signature.proofs.bad_before.Tie as tie
 
 all-kinds-requires : tie.Need-all-kinds-requires
 all-kinds-requires c κs = search needs

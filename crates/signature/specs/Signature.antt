@@ -9,9 +9,9 @@ use lib.Dec.{ltb}
 use Rattle.rules.specs.Words.{limit12, signatureBase, within}
 use Rattle.rules.specs.Refusals.{Res, ok, refuse, badSignature}
 use Rattle.rules.specs.Signature.{Sig, heads, payloadAt}
-use Rattle.records.specs.declared.signature.Signature.{Signature}
-use Rattle.records.specs.declared.signature.Payload.{Payload}
-use Rattle.records.specs.declared.signature.Payload.the-variants.{Fits, Unfit}
+use Rattle.signature.specs.declared.Signature.{Signature}
+use Rattle.signature.specs.declared.Payload.{Payload}
+use Rattle.signature.specs.declared.Payload.the-variants.{Fits, Unfit}
 
 -- the struct for a signature that was read or turned back. The kinds stay in the words
 abbrev pub signOf : Res Sig → Signature

@@ -1,7 +1,7 @@
 -- The code's two tests are those of `within`. Assumes nothing.
 use borrow.Author.Tests.{le-leb, lt-leb}
-use Rattle.records.proofs.signature.is_kind.Statement.{statement}
-use Rattle.records.proofs.signature.is_kind.Tie as tie
+use Rattle.signature.proofs.is_kind.Statement.{statement}
+use Rattle.signature.proofs.is_kind.Tie as tie
 
 returns : tie.Need-returns
 returns c = simp (le-leb _ _ (c .if1 .taken))

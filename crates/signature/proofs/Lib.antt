@@ -1,0 +1,2 @@
+-- What the proofs of this crate share, and the laws of a signature that later code cites.
+pub mod Laws
