@@ -1,7 +1,6 @@
--- An expected word, in a written rule or a flat one: what reading it comes to, by what the word at the index says. `There` is a word that is there and says
--- something, `NotKind` one of another kind, or none. Assumes nothing.
+-- An expected word, in a written rule or a flat one: what reading it comes to, by what the word at the index says. Assumes nothing.
 use mathlib.Core.Path.{_≡_, refl, sym, ap, _∙_}
-use mathlib.Core.Bool.{Bool, true, false, not, _&&_, cond}
+use mathlib.Core.Bool.{Bool, true, false, _&&_, cond}
 use mathlib.Core.Logic.{⊎-elim}
 use mathlib.Core.List.{List}
 use Prim.Native.Nat.{ℕ, suc, _+_, _≤_, _<_, min}
@@ -9,67 +8,20 @@ use native.Mathlib.Nat.{min-le-left, min-le-right, le-min, eq-or-lt-of-le}
 use native.Mathlib.Numerals.{add-one}
 use native.Mathlib.Omega.{arith}
 use lib.ListN.{length, getD, length-replicate}
-use lib.Dec.{T, ltb, eqb, lit<}
+use lib.Dec.{ltb, eqb, lit<}
 use borrow.Author.Tests.{ltb-true, ltb-false, lt-ltb, le-ltb, ne-eqb, eqb-true}
-use types.Run.{OneOf}
-use mir.Val.{hasKey}
-use denote.Enum.Declared.{tagOf}
 use Rattle.rules.specs.Words.{limit12, isHeadWord, isHeaderWord, countOf, factsOf, actionsOf, actionWord, Code, aDelete, aSubsume, aCall, anExpression, noCode, codeOf}
 use Rattle.rules.specs.Refusals.{Res, ok, refuse, _>>=_, demand, unfit}
 use Rattle.rules.specs.Signature.{heads}
 use Rattle.rules.specs.Written.{Read, Reader, readWord, readRow, codeAt, allRead}
-use Rattle.words.specs.Word.{numbers, kind, numbersOf}
+use Rattle.words.specs.Word.{kind}
 use Rattle.words.specs.declared.Word.{Word}
-use Rattle.words.specs.declared.Word.the-variants.{Head, Header, Action, Unfit}
-use Rattle.words.proofs.Tags.{others, other-kind}
-use Rattle.words.proofs.Word.{the-type}
-use Rattle.words.proofs.WordLaws.{wordOf, answered, answers, unfit-low, header-kind, header-numbers, head-numbers, head-below, no-head, no-action, said}
+use Rattle.words.specs.declared.Word.the-variants.{Head, Header, Action}
+use Rattle.words.proofs.WordAt.{There, NotKind}
+use Rattle.words.proofs.WordLaws.{wordOf, header-kind, header-numbers, head-numbers, head-below, no-head, no-action, said}
 use Rattle.records.specs.declared.written.Walk.{Walk}
-use Rattle.records.specs.Written.{withHeads, walk, walkOf, WordSays}
+use Rattle.records.specs.Written.{withHeads, walk, walkOf}
 use Rattle.records.proofs.WrittenWalk.{Went, went-then, went-made, went-word, went-row, stops, both, then-same, then-then, Whole}
-
--- ---- the word at an index
-
-unfoldable pub wordAt : List ℕ → ℕ → Word
-wordAt ws p = cond (ltb p (length ws)) (wordOf (getD ws p 0)) Unfit
-
--- the one with the numbers there
-pub word-is : {ws : List ℕ} {p : ℕ} {x : Word} → WordSays x ws p → x ≡ wordAt ws p
-unfolding wordAt
-word-is {ws} {p} {x} says = go (ltb p (length ws)) (says .numbersAre)
-  where
-    go : (b : Bool) → numbers x ≡ cond b (numbersOf (getD ws p 0)) (numbers Unfit) → x ≡ cond b (wordOf (getD ws p 0)) Unfit
-    go true e = answered (getD ws p 0) e
-    go false e = answered 0 (e ∙ answers 0 (unfit-low 0 (lit< tt))) ∙ unfit-low 0 (lit< tt)
-
--- w is the word at p
-pub record Here (ws : List ℕ) (p w : ℕ) : Type 0 where
-  pub inside : p < length ws
-  pub is : w ≡ getD ws p 0
-
--- the word at p is there, and says x
-pub record There (ws : List ℕ) (p : ℕ) (x : Word) : Type 0 where
-  pub inside : p < length ws
-  pub says : wordOf (getD ws p 0) ≡ x
-
--- it is of another kind than k, if it is there
-pub record NotKind (ws : List ℕ) (p k : ℕ) : Type 0 where
-  pub other : p < length ws → eqb (kind (wordOf (getD ws p 0))) k ≡ false
-
--- w is what the code was told of it
-module _ {ws : List ℕ} {p : ℕ} {w : Word} (read : WordSays w ws p) where
-  pub there : {x : Word} → w ≡ x → kind x < 8 → There ws p x
-  unfolding wordAt
-  there {x} is = go (ltb p (length ws)) refl (sym (word-is read) ∙ is)
-    where
-      go : (b : Bool) → ltb p (length ws) ≡ b → cond b (wordOf (getD ws p 0)) Unfit ≡ x → kind x < 8 → There ws p x
-      go true t e l = record { inside = ltb-true p (length ws) t; says = e }
-      go false t e l = let eight : 8 ≡ kind x = ap kind e in absurd (omega arith)
-
-  -- the other branch of a `let .. else`; at a numeral k the premise between is `tt`
-  pub not-kind : (k : ℕ) → T (not (hasKey (others k) k)) → OneOf (others k) (tagOf the-type w) → NotKind ws p k
-  unfolding wordAt
-  not-kind k t h = record { other = λ l. rw (lt-ltb p (length ws) l) at (rw (word-is read) at (other-kind k w t h)) }
 
 -- ---- it is taken, or refused
 

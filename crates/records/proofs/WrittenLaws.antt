@@ -25,7 +25,8 @@ use Rattle.records.specs.declared.written.Start.{Start}
 use Rattle.records.specs.declared.written.Start.the-variants.{Takes, Other}
 use Rattle.records.specs.Written.{withHeads, walk, walkOf, startSays, taken, takenAt, Starts}
 use Rattle.records.proofs.WrittenWalk.{made, then-made, moved, just-one, last-one}
-use Rattle.records.proofs.Expected.{Here, There, NotKind, kind-fits, kind-unfit, heads-most, head-with, head-other, head-high, head-fits, head-count}
+use Rattle.words.proofs.WordAt.{Here, There, NotKind}
+use Rattle.records.proofs.Expected.{kind-fits, kind-unfit, heads-most, head-with, head-other, head-high, head-fits, head-count}
 use Rattle.records.proofs.Expected.{no-code, as-code, change-code, NoneOf, last-code}
 
 -- ---- an expression, by how it begins

@@ -11,9 +11,6 @@ use Rattle.rules.specs.Words.{limit12, countOf}
 use Rattle.rules.specs.Refusals.{Res, ok, refuse, unfit}
 use Rattle.rules.specs.Signature.{Sig}
 use Rattle.rules.specs.Written.{Read, Shape, isLeaf, isCall, isBad, shapeAt}
-use Rattle.words.specs.Word.{Numbers, numbers, numbersOf}
-use Rattle.words.specs.declared.Word.{Word}
-use Rattle.words.specs.declared.Word.the-variants.{Unfit}
 use Rattle.records.specs.declared.written.Walk.{Walk}
 use Rattle.records.specs.declared.written.Start.{Start}
 use Rattle.records.specs.declared.written.Start.the-variants.{Takes, Other}
@@ -37,14 +34,7 @@ abbrev pub wholeOf : {A : Type 0} → List ℕ → Res A → Walk
 wholeOf ws (ok r) = walk 0 (length ws)
 wholeOf ws (refuse n p) = walk n p
 
--- ---- the words
-
--- the numbers of the word at an index; behind the end there is none that fits
-abbrev pub numbersAt : List ℕ → ℕ → Numbers
-numbersAt ws p = cond (ltb p (length ws)) (numbersOf (getD ws p 0)) (numbers Unfit)
-
-pub record WordSays (r : Word) (ws : List ℕ) (p : ℕ) : Type 0 where
-  pub numbersAre : numbers r ≡ numbersAt ws p
+-- ---- how an expression begins
 
 -- how an expression begins, for each case at p: with a word that takes so many arguments, or with none, which is refusal 5 there
 abbrev pub startSays : Start → (p : ℕ) → Res ℕ

@@ -8,13 +8,14 @@ use words::LITERAL_BASE;
 use words::MAX_DEPTH;
 use words::NAME_BASE;
 use words::Word;
+use words::word_at;
 ghost use mathlib.Core.Path.{_≡_};
 ghost use Prim.Native.Nat.{_+_, _<_};
 ghost use lib.ListN.{length};
 ghost use Rattle.octets.specs.Words.{words};
 ghost use Rattle.rules.specs.Words.{maxDepth, aLet, aSet, aPanic};
 ghost use Rattle.rules.specs.Written.{readMany, readExpr, readTarget, readEqual, readFact, readCode, readAction, readWritten};
-ghost use Rattle.records.specs.Written.{withHeads, walkOf, wholeOf, WordSays, startSays, takenAt, Starts};
+ghost use Rattle.records.specs.Written.{withHeads, walkOf, wholeOf, startSays, takenAt, Starts};
 
 // The refusals' numbers.
 pub const UNFIT: u32 = 5;
@@ -31,17 +32,6 @@ pub struct Walk {
 enum Start {
     Takes(u32),
     Other,
-}
-
-// The word at an index; behind the record's end there is none that fits.
-pub fn word_at(rule: &[u8], at: usize) -> Word
-    ensures { λ r. ⌜ WordSays r (words (now (rule .entry))) at ⌝ }
-{
-    if at < octets::count(rule) {
-        words::word_of(octets::get(rule, at))
-    } else {
-        Word::Unfit
-    }
 }
 
 // How the expression at an index begins, if one does. The count of leading zeros tells a name, a literal and a head; it is asked of nearly every word, so

@@ -8,13 +8,12 @@ use lib.ListN.{length, getD}
 use lib.Dec.{ltb, leb, eqb, lit<}
 use borrow.Author.Tests.{lt-ltb, le-ltb, ltb-true, leb-true, ne-eqb, eq-eqb, eqb-true, eqb-false}
 use Rattle.rules.specs.Words.{signatureBase, within, limit12}
-use Rattle.rules.specs.Refusals.{Res, ok, refuse, _>>=_, demand}
+use Rattle.rules.specs.Refusals.{Res, ok, refuse, _>>=_, demand, badSignature}
 use Rattle.rules.specs.Signature.{payloadAt, kindsAt, readSignature}
-use Rattle.words.specs.Word.{numbers, kind, numbersOf}
-use Rattle.words.specs.declared.Word.{Word}
 use Rattle.words.specs.declared.Word.the-variants.{Signature}
 use Rattle.words.proofs.Ranges.{within-true, true-within, false-below, false-above}
-use Rattle.words.proofs.WordLaws.{wordOf, answered, said, signature-kind}
+use Rattle.words.proofs.WordAt.{There, NotKind}
+use Rattle.words.proofs.WordLaws.{said, signature-kind}
 use Rattle.meaning.proofs.Lists.{and-left, and-right}
 use Rattle.meaning.proofs.Results.{demand-ok}
 use Rattle.signature.specs.Signature.{isKindAt, allKinds, firstBad, payloadSays, signOf, Begins}
@@ -173,29 +172,28 @@ pub record PayloadAt (ws : List ℕ) (p n : ℕ) : Type 0 where
   pub here : p < length ws
   pub is : getD ws p 0 ≡ signatureBase + n
 
-pub payload-there : {ws : List ℕ} {p w n : ℕ} {x : Word} → p < length ws → w ≡ getD ws p 0 → numbers x ≡ numbersOf w → x ≡ Signature n → PayloadAt ws p n
-payload-there {ws} {p} {w} here read says is = record { here = here; is = sym read ∙ said w (sym (answered w says) ∙ is) (lit< tt) .0 }
+pub payload-there : {ws : List ℕ} {p n : ℕ} → There ws p (Signature n) → PayloadAt ws p n
+payload-there {ws} {p} t = record { here = t .inside; is = said (getD ws p 0) (t .says) (lit< tt) .0 }
 
 module _ (ws : List ℕ) (low size p : ℕ) where
   -- what an answer for it is
   abbrev Answers : Payload → Type 0
   Answers x = payloadSays x p ≡ payloadAt ws low size p
 
-  pub payload-missing : length ws ≤ p → Answers Unfit
-  payload-missing l = rw (le-ltb p (length ws) l)
-
-  pub payload-other : {w : ℕ} (x : Word) → low + size ≤ signatureBase → p < length ws → w ≡ getD ws p 0 → numbers x ≡ numbersOf w → eqb (kind x) 7 ≡ false → Answers Unfit
-  payload-other {w} x most here read says other = rw (lt-ltb p (length ws) here, out (within (signatureBase + low) size (getD ws p 0)) refl)
+  pub payload-other : low + size ≤ signatureBase → NotKind ws p 7 → Answers Unfit
+  payload-other most none = go (ltb p (length ws)) refl
     where
-      none : eqb (kind (wordOf (getD ws p 0))) 7 ≡ false
-      none = ap (λ (u : ℕ). eqb (kind (wordOf u)) 7) (sym read) ∙ ap (λ (y : Word). eqb (kind y) 7) (sym (answered w {x = x} says)) ∙ other
-
-      out : (b : Bool) → within (signatureBase + low) size (getD ws p 0) ≡ b → b ≡ false
-      out true e =
+      out : p < length ws → (b : Bool) → within (signatureBase + low) size (getD ws p 0) ≡ b → b ≡ false
+      out here true e =
           let r = within-true (signatureBase + low) size (getD ws p 0) e in
           let there = true-within signatureBase signatureBase (getD ws p 0) (omega arith) (omega arith) in
-          cc (signature-kind (getD ws p 0), none)
-      out false e = refl
+          cc (signature-kind (getD ws p 0), none .other here)
+      out here false e = refl
+
+      go : (b : Bool) → ltb p (length ws) ≡ b
+          → refuse badSignature p ≡ demand (b && within (signatureBase + low) size (getD ws p 0)) badSignature p (getD ws p 0 - signatureBase)
+      go true e = rw (out (ltb-true p (length ws) e) (within (signatureBase + low) size (getD ws p 0)) refl)
+      go false e = refl
 
   module _ {n : ℕ} (t : PayloadAt ws p n) where
     pub payload-low : n < low → Answers Unfit

@@ -2,6 +2,7 @@
 use words::LIMIT_12;
 use words::SIGNATURE_BASE;
 use words::Word;
+use words::word_at;
 ghost use mathlib.Core.Path.{_≡_};
 ghost use Prim.Native.Nat.{_+_, _-_, _≤_};
 ghost use lib.ListN.{length};
@@ -64,10 +65,7 @@ fn payload_at(signature: &[u8], low: u32, size: u32, at: usize) -> Payload
     requires { ⌜ low + size ≤ signatureBase ⌝ }
     ensures { λ r. ⌜ payloadSays r at ≡ payloadAt (words (now (signature .entry))) low size at ⌝ }
 {
-    if octets::count(signature) <= at {
-        return Payload::Unfit;
-    }
-    let w = words::word_of(octets::get(signature, at));
+    let w = word_at(signature, at);
     let Word::Signature(n) = w else {
         return Payload::Unfit;
     };

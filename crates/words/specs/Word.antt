@@ -3,8 +3,11 @@
 -- The kinds are ranges of numbers here, as in `rules`; that the count of leading zero bits tells the same is proved in `proofs/Ranges`.
 -- Assumes nothing: these are definitions.
 use Prim.Native.Nat.{ℕ, _-_, _/_, _%_}
+use mathlib.Core.Path.{_≡_}
 use mathlib.Core.Bool.{cond}
-use lib.Dec.{leb}
+use mathlib.Core.List.{List}
+use lib.ListN.{length, getD}
+use lib.Dec.{leb, ltb}
 use Rattle.rules.specs.Words.{limit16, freshBase, nameBase, literalBase, headBase, equalityBase, actionBase}
 use Rattle.rules.specs.Words.{signatureBase, actionWord, within, isNameWord, isLiteralWord}
 use Rattle.rules.specs.Words.{isEqualityWord, isHeaderWord, headOf, countOf, factsOf, actionsOf}
@@ -51,3 +54,10 @@ numbersOf w =
     (cond (within (actionWord 1) 8 w) (numbered 6 (w - actionBase) 0)
     (cond (within signatureBase signatureBase w) (numbered 7 (w - signatureBase) 0)
     (numbered 8 0 0))))))))
+
+-- and of the word at an index of a record; behind its end there is none that fits
+abbrev pub numbersAt : List ℕ → ℕ → Numbers
+numbersAt ws p = cond (ltb p (length ws)) (numbersOf (getD ws p 0)) (numbers Unfit)
+
+pub record WordSays (r : Word) (ws : List ℕ) (p : ℕ) : Type 0 where
+  pub numbersAre : numbers r ≡ numbersAt ws p

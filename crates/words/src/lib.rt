@@ -4,7 +4,7 @@ ghost use Prim.Native.Nat.{_^_, _≤_, _<_};
 ghost use lib.ListN.{getD};
 ghost use Rattle.octets.specs.Words.{words};
 ghost use Rattle.rules.specs.Words.{equalityBase, literalBase};
-ghost use Rattle.words.specs.Word.{numbers, numbersOf};
+ghost use Rattle.words.specs.Word.{numbers, numbersOf, WordSays};
 ghost use Rattle.words.specs.Atom.{TermSays, AtomSays, BeginsAtom};
 
 // Heads, names, facts, atoms and actions are numbered below LIMIT_12, counts and literals below LIMIT_16.
@@ -117,6 +117,17 @@ pub fn word_of(w: u32) -> Word
         }
         7 => Word::Signature(w - SIGNATURE_BASE),
         _ => Word::Unfit,
+    }
+}
+
+// The word at an index; behind the record's end there is none that fits.
+pub fn word_at(rule: &[u8], at: usize) -> Word
+    ensures { λ r. ⌜ WordSays r (words (now (rule .entry))) at ⌝ }
+{
+    if at < octets::count(rule) {
+        word_of(octets::get(rule, at))
+    } else {
+        Word::Unfit
     }
 }
 

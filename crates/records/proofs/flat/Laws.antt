@@ -28,7 +28,8 @@ use Rattle.records.specs.Flat.{AtomNumbers, atomNumbers, numbersFrom, ta
 use Rattle.records.specs.declared.written.Walk.{Walk}
 use Rattle.records.specs.Written.{withHeads, walk, walkOf}
 use Rattle.records.proofs.WrittenWalk.{Went, stops, made, both, row, then-then}
-use Rattle.records.proofs.Expected.{Here, There, NotKind, word-fits, word-unfit, heads-with, heads-most, head-with, head-other, head-high, head-fits, head-count}
+use Rattle.words.proofs.WordAt.{Here, There, NotKind}
+use Rattle.records.proofs.Expected.{word-fits, word-unfit, heads-with, heads-most, head-with, head-other, head-high, head-fits, head-count}
 use Rattle.records.proofs.Expected.{no-code, as-code, change-code, NoneOf, last-code}
 use Rattle.records.proofs.flat.Ends.{went-term, went-target, went-terms}
 use Rattle.words.specs.declared.Word.the-variants as Said

@@ -6,7 +6,8 @@ use Rattle.octets.proofs.Words.{length-words}
 use Rattle.rules.specs.Signature.{Sig}
 use Rattle.words.specs.declared.Word.the-variants.{Action}
 use Rattle.records.specs.Written.{withHeads}
-use Rattle.records.proofs.Expected.{There, there, not-kind, none-of}
+use Rattle.words.proofs.WordAt.{There, there, not-kind}
+use Rattle.records.proofs.Expected.{none-of}
 use Rattle.records.proofs.flat.Laws.{action-other, action-by, change-goes, union-goes, panic-goes, action-none}
 use borrow.Author.Needs.{needs}
 use Rattle.records.proofs.flat.action.Statement.{statement}

@@ -5,7 +5,7 @@ use lib.Dec.{lit<}
 use Rattle.octets.specs.Words.{words}
 use Rattle.octets.proofs.Words.{length-words}
 use Rattle.words.specs.declared.Word.the-variants.{Head}
-use Rattle.records.proofs.Expected.{There, there, not-kind}
+use Rattle.words.proofs.WordAt.{There, there, not-kind}
 use Rattle.records.proofs.flat.Laws.{terms-other, terms-high, terms-go}
 use borrow.Author.Needs.{needs}
 use Rattle.records.proofs.flat.head_terms.Statement.{statement}

@@ -7,7 +7,8 @@ use Rattle.octets.specs.Words.{words}
 use Rattle.rules.specs.Words.{isLiteralWord}
 use Rattle.words.proofs.WordLaws.{literal-kind}
 use Rattle.words.specs.declared.Word.the-variants.{Literal}
-use Rattle.records.proofs.Expected.{There, there, not-kind, kind-taken, kind-refused}
+use Rattle.words.proofs.WordAt.{There, there, not-kind}
+use Rattle.records.proofs.Expected.{kind-taken, kind-refused}
 use borrow.Author.Needs.{needs}
 use Rattle.records.proofs.flat.literal.Statement.{statement}
 use Rattle.records.proofs.flat.literal.Tie as tie

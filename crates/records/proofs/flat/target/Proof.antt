@@ -7,7 +7,7 @@ use Rattle.octets.specs.Words.{words}
 use Rattle.octets.proofs.Words.{length-words}
 use Rattle.rules.specs.Words.{limit12}
 use Rattle.words.specs.declared.Word.the-variants.{Fresh}
-use Rattle.records.proofs.Expected.{There, there, not-kind}
+use Rattle.words.proofs.WordAt.{There, there, not-kind}
 use Rattle.records.proofs.flat.Laws.{target-name, target-fresh, target-high}
 use borrow.Author.Needs.{needs}
 use Rattle.records.proofs.flat.target.Statement.{statement}

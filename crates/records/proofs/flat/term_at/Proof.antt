@@ -8,7 +8,7 @@ use Rattle.rules.specs.Words.{limit12, limit16, freshBase, nameBase, literalBas
 use Rattle.words.proofs.Ranges.{kind-range, kind-from, past, false-below, false-above}
 use Rattle.words.proofs.AtomLaws.{term-fresh, term-name, term-literal}
 use Rattle.records.specs.Written.{withHeads}
-use Rattle.records.proofs.Expected.{Here}
+use Rattle.words.proofs.WordAt.{Here}
 use Rattle.records.proofs.flat.Laws.{no-word, term-fits, term-none, fresh-term, name-fits, literal-fits, none-fits}
 use Rattle.records.proofs.flat.term_at.Statement.{statement}
 use Rattle.records.proofs.flat.term_at.Tie as tie

@@ -11,7 +11,8 @@ use Rattle.rules.specs.Written.{Reader}
 use Rattle.records.specs.Rows.{Of, readItem}
 use Rattle.records.specs.declared.rows.Item.{Item}
 use Rattle.records.proofs.WrittenWalk.{Went}
-use Rattle.records.proofs.Expected.{There, there, not-kind, header-other, first-stops, then-second}
+use Rattle.words.proofs.WordAt.{There, there, not-kind}
+use Rattle.records.proofs.Expected.{header-other, first-stops, then-second}
 use Rattle.records.proofs.Items.{went, pair}
 use borrow.Author.Needs.{needs}
 use Rattle.records.proofs.rows.rule_at.Statement.{statement}

@@ -7,7 +7,8 @@ use Rattle.rules.specs.Signature.{Sig}
 use Rattle.words.proofs.Ranges.{past}
 use Rattle.words.specs.declared.Word.the-variants.{Action}
 use Rattle.records.specs.Written.{withHeads}
-use Rattle.records.proofs.Expected.{There, there, not-kind, none-of}
+use Rattle.words.proofs.WordAt.{There, there, not-kind}
+use Rattle.records.proofs.Expected.{none-of}
 use Rattle.records.proofs.WrittenLaws.{action-other, action-by, union-goes, expression-goes, change-goes, action-none}
 use borrow.Author.Needs.{needs}
 use Rattle.records.proofs.written.action.Statement.{statement}

@@ -4,7 +4,7 @@ use lib.Dec.{lit<}
 use Rattle.octets.specs.Words.{words}
 use Rattle.words.specs.declared.Word.the-variants.{Equality}
 use Rattle.records.specs.Written.{withHeads}
-use Rattle.records.proofs.Expected.{There, there, not-kind}
+use Rattle.words.proofs.WordAt.{There, there, not-kind}
 use Rattle.records.proofs.WrittenLaws.{fact-holds, fact-equal, fact-odd}
 use borrow.Author.Needs.{needs}
 use Rattle.records.proofs.written.fact.Statement.{statement}

@@ -7,7 +7,7 @@ use Rattle.octets.specs.Words.{words}
 use Rattle.octets.proofs.Words.{length-words}
 use Rattle.words.specs.declared.Word.the-variants.{Name}
 use Rattle.records.specs.Written.{withHeads}
-use Rattle.records.proofs.Expected.{There, there, not-kind}
+use Rattle.words.proofs.WordAt.{There, there, not-kind}
 use Rattle.records.proofs.WrittenLaws.{let-other, let-goes}
 use borrow.Author.Needs.{needs}
 use Rattle.records.proofs.written.let_action.Statement.{statement}

@@ -6,7 +6,7 @@ use Rattle.octets.specs.Words.{words}
 use Rattle.octets.proofs.Words.{length-words}
 use Rattle.words.specs.declared.Word.the-variants.{Literal}
 use Rattle.records.specs.Written.{withHeads}
-use Rattle.records.proofs.Expected.{There, there, not-kind}
+use Rattle.words.proofs.WordAt.{There, there, not-kind}
 use Rattle.records.proofs.WrittenLaws.{panic-other, panic-goes}
 use borrow.Author.Needs.{needs}
 use Rattle.records.proofs.written.panic_action.Statement.{statement}

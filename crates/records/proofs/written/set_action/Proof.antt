@@ -7,7 +7,8 @@ use lib.Dec.{lit<}
 use Rattle.octets.specs.Words.{words}
 use Rattle.octets.proofs.Words.{length-words}
 use Rattle.words.specs.declared.Word.the-variants.{Head}
-use Rattle.records.proofs.Expected.{There, there, not-kind, head-count}
+use Rattle.words.proofs.WordAt.{There, there, not-kind}
+use Rattle.records.proofs.Expected.{head-count}
 use Rattle.records.proofs.WrittenLaws.{set-other, set-high, set-goes}
 use borrow.Author.Needs.{needs}
 use Rattle.records.proofs.written.set_action.Statement.{statement}

@@ -10,7 +10,7 @@ use Rattle.words.specs.declared.Word.the-variants.{Name, Literal, Unfit}
 use Rattle.words.proofs.Ranges.{kind-range, true-within}
 use Rattle.words.proofs.WordLaws.{is-name, is-literal, is-head, unfit-name, unfit-literal}
 use Rattle.records.specs.Written.{withHeads}
-use Rattle.records.proofs.Expected.{Here}
+use Rattle.words.proofs.WordAt.{Here}
 use Rattle.records.proofs.WrittenLaws.{start-missing, start-says, start-head, start-no-head, start-other}
 use Rattle.records.proofs.written.start_at.Statement.{statement}
 use Rattle.records.proofs.written.start_at.Tie as tie

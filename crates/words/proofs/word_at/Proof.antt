@@ -6,8 +6,8 @@ use lib.ListN.{length}
 use borrow.Author.Tests.{lt-ltb, le-ltb}
 use borrow.Author.Needs.{needs}
 use Rattle.octets.specs.Words.{words}
-use Rattle.records.proofs.written.word_at.Statement.{statement}
-use Rattle.records.proofs.written.word_at.Tie as tie
+use Rattle.words.proofs.word_at.Statement.{statement}
+use Rattle.words.proofs.word_at.Tie as tie
 
 count-requires : tie.Need-count-requires
 count-requires c κs = search needs
