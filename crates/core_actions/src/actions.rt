@@ -22,15 +22,6 @@ ghost use Rattle.walks.specs.Steps.{Piece, Walked, Room, Under, Counted, ExprAt
 ghost use Rattle.head_exprs.specs.Scopes.{Scoped, ScopeRoom, Names};
 ghost use Rattle.core_actions.specs.Acts.{LetAt, ChangeAt, PairAt, NameCallAt, refusedAction, ChangeFits, Termed, andChange, changed, Gave, Quiet, Acts};
 
-// The words of actions 1, 2, 5 and 6.
-const LET: u32 = 0x0200_0001;
-
-pub const SET: u32 = 0x0200_0002;
-
-const UNION: u32 = 0x0200_0005;
-
-const PANIC: u32 = 0x0200_0006;
-
 // The answer of an action: its walk, how many names it let, and how many flat actions it gave.
 pub struct Acted {
     pub walk: Walk,
@@ -95,7 +86,7 @@ pub fn lower_let(
     let e = lower(
         rule,
         at + 2,
-        walks::MAX_DEPTH,
+        words::MAX_DEPTH,
         scope,
         counters,
         scratch,
@@ -106,7 +97,7 @@ pub fn lower_let(
     if e.refused != 0 {
         return refused_action(e);
     }
-    let end = octets::rows::put_three(scratch, e.to, LET, name, e.term);
+    let end = octets::rows::put_three(scratch, e.to, words::LET, name, e.term);
     octets::put(scratch, sp, name);
     Acted {
         walk: Walk {
@@ -141,7 +132,7 @@ fn put_change(
         → Walked 0 (Gave r) (andChange code more place (headOf w) x) size
         at to sp log s cs (words (now (scratch .exit))) (words (now (counters .exit))) (r .walk)) ⌝ }
 {
-    let h = (w - walks::HEAD) / walks::LIMIT_16;
+    let h = (w - words::HEAD_BASE) / words::LIMIT_16;
     let used = walks::take(counters, scratch, terms.log, h);
     if used == 0 {
         return refused_action(walks::stopped(place, terms.to, terms.log, walks::USED_UP));
@@ -186,12 +177,12 @@ pub fn lower_change(
         at to sp log (words (now (scratch .entry))) (words (now (counters .entry))) (words (now (scratch .exit))) (words (now (counters .exit))) (r .walk)) ⌝ }
 {
     let w = octets::get(rule, at + 1);
-    let n = ((w - walks::HEAD) % walks::LIMIT_16) as usize + more;
+    let n = ((w - words::HEAD_BASE) % words::LIMIT_16) as usize + more;
     let args = lower_arguments(
         rule,
         at + 2,
         n,
-        walks::MAX_DEPTH,
+        words::MAX_DEPTH,
         scope,
         counters,
         scratch,
@@ -225,7 +216,7 @@ pub fn lower_panic(
         at to sp log (words (now (scratch .entry))) (words (now (counters .entry))) (words (now (scratch .exit))) (words (now (counters .exit))) r) ⌝ }
 {
     let l = octets::get(rule, at + 1);
-    let end = octets::rows::put_two(scratch, to, PANIC, l);
+    let end = octets::rows::put_two(scratch, to, words::PANIC, l);
     Acted {
         walk: Walk {
             next: at + 2,
@@ -262,7 +253,7 @@ pub fn lower_expression(
     let e = lower(
         rule,
         at + 1,
-        walks::MAX_DEPTH,
+        words::MAX_DEPTH,
         scope,
         counters,
         scratch,
@@ -303,7 +294,7 @@ pub fn unite(
     let left = lower(
         rule,
         at + 1,
-        walks::MAX_DEPTH,
+        words::MAX_DEPTH,
         scope,
         counters,
         scratch,
@@ -317,7 +308,7 @@ pub fn unite(
     let right = lower(
         rule,
         left.next,
-        walks::MAX_DEPTH,
+        words::MAX_DEPTH,
         scope,
         counters,
         scratch,
@@ -328,7 +319,7 @@ pub fn unite(
     if right.refused != 0 {
         return refused_action(right);
     }
-    let end = octets::rows::put_three(scratch, right.to, UNION, left.term, right.term);
+    let end = octets::rows::put_three(scratch, right.to, words::UNION, left.term, right.term);
     Acted {
         walk: Walk {
             next: right.next,
@@ -365,12 +356,12 @@ pub fn set_name(
 {
     let name = octets::get(rule, at + 1);
     let w = octets::get(rule, at + 2);
-    let n = ((w - walks::HEAD) % walks::LIMIT_16) as usize;
+    let n = ((w - words::HEAD_BASE) % words::LIMIT_16) as usize;
     let args = lower_all(
         rule,
         at + 3,
         n,
-        walks::MAX_DEPTH - 1,
+        words::MAX_DEPTH - 1,
         scope,
         counters,
         scratch,
@@ -383,7 +374,17 @@ pub fn set_name(
     }
     if may_read(scratch, scope, name) {
         octets::put(scratch, sp + n, name);
-        return put_change(args, at + 2, SET, w, n + 1, counters, scratch, sp, log);
+        return put_change(
+            args,
+            at + 2,
+            words::SET,
+            w,
+            n + 1,
+            counters,
+            scratch,
+            sp,
+            log,
+        );
     }
     refused_action(walks::stopped(at + 1, args.to, args.log, walks::UNBOUND))
 }

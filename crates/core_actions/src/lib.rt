@@ -53,7 +53,7 @@ fn lower_action(
         at to sp log (words (now (scratch .entry))) (words (now (counters .entry))) (words (now (scratch .exit))) (words (now (counters .exit))) r) ⌝ }
 {
     let w = octets::get(rule, at);
-    let code = w - walks::ACTION;
+    let code = w - words::ACTION_BASE;
     match code {
         1 => lower_let(rule, at, scope, counters, scratch, to, sp, log),
         2 => apart(lower_change(rule, at, w, 1, scope, counters, scratch, to, sp, log)),

@@ -1,6 +1,5 @@
 // Unions. With the flag on, a union of a name and a constructor call, in either order, becomes a set; any other stays one.
 use crate::actions::Acted;
-use crate::actions::SET;
 use crate::actions::lower_change;
 use crate::actions::set_name;
 use crate::actions::unite;
@@ -19,15 +18,15 @@ ghost use Rattle.head_exprs.specs.Scopes.{Scoped, ScopeRoom, Names};
 ghost use Rattle.core_actions.specs.Acts.{PairAt, Acts, Signed, setMode, arityOf};
 
 // The word of a signature that says 1: the flag is on, a head is a constructor.
-const ONE: u32 = 0x0100_0001;
+const ONE: u32 = words::SIGNATURE_BASE + 1;
 
 // How many expressions stand under the first word of an expression.
 fn arity(w: u32) -> usize
     requires { ⌜ headBase ≤ w ⌝ }
     ensures { λ r. ⌜ (r ≡ arityOf w) × (r < 65536) ⌝ }
 {
-    if w < walks::LITERAL {
-        return ((w - walks::HEAD) % walks::LIMIT_16) as usize;
+    if w < words::LITERAL_BASE {
+        return ((w - words::HEAD_BASE) % words::LIMIT_16) as usize;
     }
     0
 }
@@ -52,7 +51,7 @@ fn constructs(signature: &[u8], w: u32) -> bool
     requires { ⌜ (headBase ≤ w) × (4 + headOf w < length (words (now signature))) ⌝ }
     ensures { λ r. ⌜ r ≡ eqb (getD (words (now (signature .entry))) (4 + headOf w) 0) (signatureBase + 1) ⌝ }
 {
-    let h = ((w - walks::HEAD) / walks::LIMIT_16) as usize;
+    let h = ((w - words::HEAD_BASE) / words::LIMIT_16) as usize;
     octets::get(signature, 4 + h) == ONE
 }
 
@@ -66,18 +65,18 @@ fn as_set(signature: &[u8], rule: &[u8], at: usize) -> u32
         return 0;
     }
     let left = octets::get(rule, at + 1);
-    if left < walks::LITERAL {
+    if left < words::LITERAL_BASE {
         if constructs(signature, left) {
             let right = octets::get(rule, skip(rule, at + 1));
-            if walks::NAME <= right {
+            if words::NAME_BASE <= right {
                 return 1;
             }
         }
         return 0;
     }
-    if walks::NAME <= left {
+    if words::NAME_BASE <= left {
         let right = octets::get(rule, at + 2);
-        if right < walks::LITERAL {
+        if right < words::LITERAL_BASE {
             if constructs(signature, right) {
                 return 2;
             }
@@ -110,7 +109,18 @@ pub fn lower_union(
 {
     let mode = as_set(signature, rule, at);
     if mode == 1 {
-        return lower_change(rule, at, SET, 1, scope, counters, scratch, to, sp, log);
+        return lower_change(
+            rule,
+            at,
+            words::SET,
+            1,
+            scope,
+            counters,
+            scratch,
+            to,
+            sp,
+            log,
+        );
     }
     if mode == 2 {
         return set_name(rule, at, scope, counters, scratch, to, sp, log);

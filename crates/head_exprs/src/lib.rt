@@ -19,9 +19,6 @@ ghost use Rattle.walks.specs.Steps.{Walked, InAnswer, OnStack, Room, Under, Cou
 ghost use Rattle.head_exprs.specs.Scopes.{Scoped, ScopeRoom, Names};
 ghost use Rattle.head_exprs.specs.Lowered.{lowered, loweredAll};
 
-// Action 7: a call whose answer is bound.
-const CALL: u32 = 0x0200_0007;
-
 // Lowers the call w at `at`, which has no arguments: nothing is put on the stack, and no walk over arguments is set up.
 fn lower_bare(
     rule: &[u8],
@@ -41,12 +38,12 @@ fn lower_bare(
         → Walked 1 (InAnswer log r) (lowered sig bound (x .value) (words (now (counters .entry)))) (x .size)
         at to sp log (words (now (scratch .entry))) (words (now (counters .entry))) (words (now (scratch .exit))) (words (now (counters .exit))) r) ⌝ }
 {
-    let h = (w - walks::HEAD) / walks::LIMIT_16;
+    let h = (w - words::HEAD_BASE) / words::LIMIT_16;
     let v = walks::take(counters, scratch, log, h);
     if v == 0 {
         return walks::stopped(at, to, log, walks::USED_UP);
     }
-    let end = octets::rows::put_three(scratch, to, CALL, v, w);
+    let end = octets::rows::put_three(scratch, to, words::CALL, v, w);
     Walk {
         next: at + 1,
         to: end,
@@ -77,7 +74,7 @@ pub fn lower(
         at to sp log (words (now (scratch .entry))) (words (now (counters .entry))) (words (now (scratch .exit))) (words (now (counters .exit))) r) ⌝ }
 {
     let w = octets::get(rule, at);
-    if walks::LITERAL <= w {
+    if words::LITERAL_BASE <= w {
         if may_read(scratch, scope, w) {
             return Walk {
                 next: at + 1,
@@ -89,8 +86,8 @@ pub fn lower(
         }
         return walks::stopped(at, to, log, walks::UNBOUND);
     }
-    let h = (w - walks::HEAD) / walks::LIMIT_16;
-    let n = (w - walks::HEAD) % walks::LIMIT_16;
+    let h = (w - words::HEAD_BASE) / words::LIMIT_16;
+    let n = (w - words::HEAD_BASE) % words::LIMIT_16;
     if n == 0 {
         return lower_bare(rule, at, depth, w, counters, scratch, to, sp, log);
     }
@@ -113,7 +110,7 @@ pub fn lower(
     if v == 0 {
         return walks::stopped(at, args.to, args.log, walks::USED_UP);
     }
-    let end = octets::rows::put_call(scratch, args.to, CALL, v, w, sp, n as usize);
+    let end = octets::rows::put_call(scratch, args.to, words::CALL, v, w, sp, n as usize);
     Walk {
         next: args.next,
         to: end,
@@ -197,7 +194,14 @@ pub fn lower_arguments(
         → Walked n (OnStack sp n log (words (now (scratch .exit))) r) (loweredAll sig bound (x .value) (words (now (counters .entry)))) (x .size)
         at to sp log (words (now (scratch .entry))) (words (now (counters .entry))) (words (now (scratch .exit))) (words (now (counters .exit))) r) ⌝ }
 {
-    let k = walks::leaves(rule, at, n, walks::NAME + scope.globals - 1, scratch, sp);
+    let k = walks::leaves(
+        rule,
+        at,
+        n,
+        words::NAME_BASE + scope.globals - 1,
+        scratch,
+        sp,
+    );
     lower_all(
         rule,
         at + k,

@@ -27,7 +27,7 @@ pub fn may_read(s: &[u8], scope: Scope, w: u32) -> bool
     requires { ⌜ ScopeFits (words (now s)) scope ⌝ }
     ensures { λ r. ⌜ r ≡ mayRead (words (now (s .entry))) scope w ⌝ }
 {
-    if w < walks::NAME + scope.globals {
+    if w < words::NAME_BASE + scope.globals {
         return true; // a literal or a global
     }
     has(s, scope, w)
@@ -38,7 +38,7 @@ pub fn taken(s: &[u8], scope: Scope, w: u32) -> bool
     requires { ⌜ ScopeFits (words (now s)) scope ⌝ }
     ensures { λ r. ⌜ r ≡ isTaken (words (now (s .entry))) scope w ⌝ }
 {
-    if w < walks::NAME + scope.globals {
+    if w < words::NAME_BASE + scope.globals {
         return octets::regions::among(s, scope.first, scope.names, w);
     }
     has(s, scope, w)

@@ -11,14 +11,6 @@ ghost use Rattle.rules.specs.Written.{Rule, readWritten};
 ghost use Rattle.rules.specs.ToCoreActions.{toCoreRule};
 ghost use Rattle.lowering.specs.Lowered.{Good, Lowers};
 
-// The first words of their kinds.
-const HEADER: u32 = 0x0400_0000;
-
-const SIGNATURE: u32 = 0x0100_0000;
-
-// Facts and actions are numbered below LIMIT_12.
-const LIMIT_12: u32 = 4096;
-
 // Where the parts of a rule of n words start in the scratch, in steps of n words. The body starts at 0 and has at most 3 n words; settling takes
 // 8 words for each of them, so that the head comes 24 n words behind.
 const HEAD_AT: usize = 24;
@@ -52,11 +44,11 @@ pub fn to_core_rule(
 {
     let n = octets::count(rule);
     let log = LOG_AT * n;
-    let counts = octets::get(rule, 0) - HEADER;
+    let counts = octets::get(rule, 0) - words::HEADER_BASE;
     let body = query::to_query(
         rule,
         1,
-        (counts / LIMIT_12) as usize,
+        (counts / words::LIMIT_12) as usize,
         counters,
         scratch,
         0,
@@ -75,7 +67,7 @@ pub fn to_core_rule(
         };
     }
     let scope = Scope {
-        globals: octets::get(signature, 1) - SIGNATURE,
+        globals: octets::get(signature, 1) - words::SIGNATURE_BASE,
         body: body.to,
         first: STACK_AT * n,
         names: 0,
@@ -84,7 +76,7 @@ pub fn to_core_rule(
         signature,
         rule,
         body.next,
-        (counts % LIMIT_12) as usize,
+        (counts % words::LIMIT_12) as usize,
         scope,
         counters,
         scratch,

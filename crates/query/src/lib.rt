@@ -15,9 +15,6 @@ ghost use Rattle.rules.specs.Signature.{Sig};
 ghost use Rattle.walks.specs.Steps.{Walked, InAnswer, OnStack, NoTerms, Room, Under, Counted, ExprAt, ExprsAt};
 ghost use Rattle.query.specs.Flattened.{flattened, flattenedAll, flattenedFact, query, FactAt, FactsAt};
 
-// The equality of two.
-const EQUALITY: u32 = 0x0800_0002;
-
 // Flattens the expression at `at`, which is at most `depth` deep. A name or a literal is its own term.
 pub fn flatten(
     rule: &[u8],
@@ -36,7 +33,7 @@ pub fn flatten(
         (words (now (scratch .entry))) (words (now (counters .entry))) (words (now (scratch .exit))) (words (now (counters .exit))) r) ⌝ }
 {
     let w = octets::get(rule, at);
-    if walks::LITERAL <= w {
+    if words::LITERAL_BASE <= w {
         return Walk {
             next: at + 1,
             to,
@@ -82,8 +79,8 @@ pub fn flatten_call(
         → Walked 1 (InAnswer log r) (flattened (x .value) (words (now (counters .entry)))) (x .size) at to sp log
         (words (now (scratch .entry))) (words (now (counters .entry))) (words (now (scratch .exit))) (words (now (counters .exit))) r) ⌝ }
 {
-    let h = (w - walks::HEAD) / walks::LIMIT_16;
-    let n = (w - walks::HEAD) % walks::LIMIT_16;
+    let h = (w - words::HEAD_BASE) / words::LIMIT_16;
+    let n = (w - words::HEAD_BASE) % words::LIMIT_16;
     let v = walks::take(counters, scratch, log, h);
     if v == 0 {
         return walks::stopped(at, to, log, walks::USED_UP);
@@ -148,7 +145,7 @@ pub fn flatten_all(
     let mut uses = log;
     while 0 < left {
         let w = octets::get(rule, next);
-        if walks::LITERAL <= w {
+        if words::LITERAL_BASE <= w {
             octets::put(scratch, top, w);
             next += 1;
             top += 1;
@@ -192,13 +189,13 @@ pub fn flatten_fact(
         (words (now (scratch .entry))) (words (now (counters .entry))) (words (now (scratch .exit))) (words (now (counters .exit))) r) ⌝ }
 {
     let w = octets::get(rule, at);
-    if w != EQUALITY {
-        return flatten(rule, at, walks::MAX_DEPTH, counters, scratch, to, sp, log);
+    if w != words::EQUALITY {
+        return flatten(rule, at, words::MAX_DEPTH, counters, scratch, to, sp, log);
     }
     let left = flatten(
         rule,
         at + 1,
-        walks::MAX_DEPTH,
+        words::MAX_DEPTH,
         counters,
         scratch,
         to,
@@ -211,7 +208,7 @@ pub fn flatten_fact(
     let right = flatten(
         rule,
         left.next,
-        walks::MAX_DEPTH,
+        words::MAX_DEPTH,
         counters,
         scratch,
         left.to,
@@ -221,7 +218,7 @@ pub fn flatten_fact(
     if right.refused != 0 {
         return right;
     }
-    let end = octets::rows::put_three(scratch, right.to, EQUALITY, left.term, right.term);
+    let end = octets::rows::put_three(scratch, right.to, words::EQUALITY, left.term, right.term);
     Walk {
         next: right.next,
         to: end,

@@ -11,23 +11,6 @@ ghost use Rattle.walks.specs.Log.{Taken, undone};
 ghost use Rattle.walks.specs.Leaves.{leavesUpTo};
 ghost use Rattle.walks.specs.Steps.{stoppedAt};
 
-// Counts and literals are numbered below LIMIT_16.
-pub const LIMIT_16: u32 = 65536;
-
-// The first words of their kinds.
-pub const FRESH: u32 = 0x8000_0000;
-
-pub const NAME: u32 = 0x4000_0000;
-
-pub const LITERAL: u32 = 0x2000_0000;
-
-pub const HEAD: u32 = 0x1000_0000;
-
-pub const ACTION: u32 = 0x0200_0000;
-
-// An expression holds expressions up to 32 deep, itself counted.
-pub const MAX_DEPTH: u32 = 32;
-
 // The refusals that a walk can meet.
 pub const UNBOUND: u32 = 7;
 
@@ -65,10 +48,10 @@ pub fn take(counters: &mut [u8], scratch: &mut [u8], log: usize, h: u32) -> u32
         (words (now (scratch .entry))) (words (now (counters .entry))) (words (now (scratch .exit))) (words (now (counters .exit))) r) ⌝ }
 {
     let c = octets::get(counters, h as usize);
-    if LIMIT_16 <= c {
+    if words::LIMIT_16 <= c {
         return 0;
     }
-    let v = FRESH + h * LIMIT_16 + c;
+    let v = words::FRESH_BASE + h * words::LIMIT_16 + c;
     octets::put(counters, h as usize, c + 1);
     octets::put(scratch, log, v);
     v
@@ -83,9 +66,9 @@ pub fn restore(counters: &mut [u8], scratch: &[u8], from: usize, n: usize)
     while 0 < k {
         k -= 1;
         let v = octets::get(scratch, from + k);
-        let h = (v / LIMIT_16 % 32768) as usize;
+        let h = (v / words::LIMIT_16 % 32768) as usize;
         if h < octets::count(counters) {
-            octets::put(counters, h, v % LIMIT_16);
+            octets::put(counters, h, v % words::LIMIT_16);
         }
     }
 }
@@ -99,7 +82,7 @@ pub fn leaves(rule: &[u8], at: usize, n: usize, most: u32, scratch: &mut [u8], t
     let mut k = 0;
     while k < n {
         let w = octets::get(rule, at + k);
-        if w < LITERAL {
+        if w < words::LITERAL_BASE {
             return k;
         }
         if most < w {
