@@ -16,8 +16,7 @@ use Rattle.rules.specs.Words.{maxLines}
 use Rattle.rules.specs.Refusals.{Res, ok, refuse, _>>=_, demand, badLine}
 use Rattle.rules.specs.Program.{areDigits, spelt, lineFeed, lineAt, linesFrom, readLines}
 use Rattle.meaning.proofs.Lists.{and-left, and-right}
-use Rattle.lines.specs.Reading.{lineOf, firstWords, linesOf, stored, LinesRead}
-use Rattle.lines.specs.declared.reading.Line.the-variants.{Word, Malformed}
+use Rattle.lines.specs.Reading.{firstWords, linesOf, stored, LinesRead}
 
 -- ---- one line
 
@@ -29,10 +28,10 @@ isGood input line = ltb line maxLines && leb (line * 9 + 9) (length input) && ar
 
 -- a line is the word w, or is malformed
 abbrev pub HasWord : List ℕ → ℕ → ℕ → Type 0
-HasWord input line w = Word w ≡ lineOf (lineAt input (line * 9) line)
+HasWord input line w = ok w ≡ lineAt input (line * 9) line
 
 abbrev pub HasNone : List ℕ → ℕ → Type 0
-HasNone input line = Malformed ≡ lineOf (lineAt input (line * 9) line)
+HasNone input line = refuse badLine (suc line) ≡ lineAt input (line * 9) line
 
 first-two : (a b c d : Bool) → (a && b && c && d) ≡ true → (a ≡ true) × (b ≡ true)
 first-two a b c d e =
@@ -40,11 +39,11 @@ first-two a b c d e =
     (and-left a b two, and-right a b two)
 
 -- a word is the line's own, and its tests held
-word-demanded : (b : Bool) (p x w : ℕ) → Word w ≡ lineOf (demand b badLine p x) → (b ≡ true) × (w ≡ x)
+word-demanded : (b : Bool) (p x w : ℕ) → ok w ≡ demand b badLine p x → (b ≡ true) × (w ≡ x)
 word-demanded true p x w e = (refl, cc)
 word-demanded false p x w e = absurd (let z : _≡_ {A = ℕ} 0 1 = cc in omega arith)
 
-malformed-demanded : (b : Bool) (p x : ℕ) → Malformed ≡ lineOf (demand b badLine p x) → b ≡ false
+malformed-demanded : (b : Bool) (p x : ℕ) → refuse badLine p ≡ demand b badLine p x → b ≡ false
 malformed-demanded true p x e = absurd (let z : _≡_ {A = ℕ} 0 1 = cc in omega arith)
 malformed-demanded false p x e = refl
 

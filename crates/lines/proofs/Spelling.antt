@@ -12,10 +12,9 @@ use borrow.Author.Tests.{lt-ltb, le-ltb, le-leb, lt-leb, eq-eqb, ne-eqb}
 use Rattle.octets.specs.Regions.{part}
 use Rattle.octets.proofs.Splice.{part-more, part-join}
 use Rattle.rules.specs.Words.{maxLines}
-use Rattle.rules.specs.Refusals.{demand, badLine}
+use Rattle.rules.specs.Refusals.{ok, refuse, demand, badLine}
 use Rattle.rules.specs.Program.{digit, areDigits, spelt, lineFeed, lineAt}
-use Rattle.lines.specs.Reading.{lineOf, spelling}
-use Rattle.lines.specs.declared.reading.Line.the-variants.{Word, Malformed}
+use Rattle.lines.specs.Reading.{spelling}
 
 -- ---- tests
 
@@ -98,8 +97,8 @@ module _ {input : List ℕ} {at i w : ℕ} (s : SpeltTo input at i w) (more : i 
       }
 
   -- one byte that is no digit
-  pub spelt-bad : digit (getD input (at + i) 0) ≡ 16 → Malformed ≡ spelling (part input at 8)
-  spelt-bad e = sym (ap (λ (b : Bool). lineOf (demand b badLine 0 (spelt 0 (part input at 8)))) no)
+  pub spelt-bad : digit (getD input (at + i) 0) ≡ 16 → (line : ℕ) → refuse badLine (suc line) ≡ spelling (part input at 8) line
+  spelt-bad e line = sym (ap (λ (b : Bool). demand b badLine (suc line) (spelt 0 (part input at 8))) no)
     where
       whole : part input at 8 ≡ part input at i ++ (getD input (at + i) 0 ∷ []) ++ part input (at + (i + 1)) (8 - (i + 1))
       whole =
@@ -114,31 +113,26 @@ module _ {input : List ℕ} {at i w : ℕ} (s : SpeltTo input at i w) (more : i 
       no : areDigits (part input at 8) ≡ false
       no = ap areDigits whole ∙ digits-append (part input at i ++ (getD input (at + i) 0 ∷ [])) (part input (at + (i + 1)) (8 - (i + 1))) ∙ rw last
 
-pub spelt-end : {input : List ℕ} {at i w : ℕ} → SpeltTo input at i w → 8 ≤ i → Word w ≡ spelling (part input at 8)
-spelt-end {input} {at} {i} {w} s h =
+pub spelt-end : {input : List ℕ} {at i w : ℕ} → SpeltTo input at i w → 8 ≤ i → (line : ℕ) → ok w ≡ spelling (part input at 8) line
+spelt-end {input} {at} {i} {w} s h line =
     let e : i ≡ 8 = omega arith in
     let good : areDigits (part input at 8) ≡ true = ap (λ (k : ℕ). areDigits (part input at k)) (sym e) ∙ s .good in
     let value : w ≡ spelt 0 (part input at 8) = s .value ∙ ap (λ (k : ℕ). spelt 0 (part input at k)) e in
-    ap Word value ∙ sym (ap (λ (b : Bool). lineOf (demand b badLine 0 (spelt 0 (part input at 8)))) good)
+    ap ok value ∙ sym (ap (λ (b : Bool). demand b badLine (suc line) (spelt 0 (part input at 8))) good)
 
 -- ---- the tests of a line
 
 module _ (input : List ℕ) (line : ℕ) where
-  pub line-late : maxLines ≤ line → Malformed ≡ lineOf (lineAt input (line * 9) line)
+  pub line-late : maxLines ≤ line → refuse badLine (suc line) ≡ lineAt input (line * 9) line
   line-late h = rw (le-ltb line maxLines h)
 
-  pub line-short : line < maxLines → length input < line * 9 + 9 → Malformed ≡ lineOf (lineAt input (line * 9) line)
+  pub line-short : line < maxLines → length input < line * 9 + 9 → refuse badLine (suc line) ≡ lineAt input (line * 9) line
   line-short h k = rw (lt-ltb line maxLines h, lt-leb (line * 9 + 9) (length input) k)
 
-  pub line-unended : (getD input (line * 9 + 8) 0 ≡ lineFeed → ⊥) → Malformed ≡ lineOf (lineAt input (line * 9) line)
+  pub line-unended : (getD input (line * 9 + 8) 0 ≡ lineFeed → ⊥) → refuse badLine (suc line) ≡ lineAt input (line * 9) line
   line-unended h = rw (ne-eqb (getD input (line * 9 + 8) 0) lineFeed h, and-false)
 
   pub line-spelt : line < maxLines → line * 9 + 9 ≤ length input → getD input (line * 9 + 8) 0 ≡ lineFeed
-      → spelling (part input (line * 9) 8) ≡ lineOf (lineAt input (line * 9) line)
+      → spelling (part input (line * 9) 8) line ≡ lineAt input (line * 9) line
   line-spelt h k e =
       rw (lt-ltb line maxLines h, le-leb (line * 9 + 9) (length input) k, eq-eqb (getD input (line * 9 + 8) 0) lineFeed e, and-true (areDigits (part input (line * 9) 8)))
-      (go (areDigits (part input (line * 9) 8)))
-    where
-      go : (b : Bool) → lineOf (demand b badLine 0 (spelt 0 (part input (line * 9) 8))) ≡ lineOf (demand b badLine (suc line) (spelt 0 (part input (line * 9) 8)))
-      go true = refl
-      go false = refl

@@ -14,14 +14,14 @@ use Rattle.lines.specs.declared.reading.Lines.{Lines}
 
 -- ---- a line
 
--- every refusal of a line has one number, so the code tells only whether there is a word
-abbrev pub lineOf : Res ℕ → Line
-lineOf (ok w) = Word w
-lineOf (refuse n p) = Malformed
+-- what stands in the place of a line, for each case: its word, or refusal 13 with the line's number. Lines are counted from 0 here, and from 1 in refusals
+abbrev pub lineSays : Line → (line : ℕ) → Res ℕ
+lineSays (Word w) line = ok w
+lineSays Malformed line = refuse badLine (suc line)
 
--- the word that bytes spell
-abbrev pub spelling : List ℕ → Line
-spelling bs = lineOf (demand (areDigits bs) badLine 0 (spelt 0 bs))
+-- the word that the bytes of a line spell, if they are digits
+abbrev pub spelling : List ℕ → (line : ℕ) → Res ℕ
+spelling bs line = demand (areDigits bs) badLine (suc line) (spelt 0 bs)
 
 -- ---- all lines
 

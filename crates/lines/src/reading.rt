@@ -1,14 +1,14 @@
 // Standard input as words. A line is eight lowercase hexadecimal digits and a line feed; the first line that is none is refused, and so is
 // one beyond the last that is read. What lies behind it is not looked at.
 ghost use mathlib.Core.Path.{_≡_};
-ghost use Prim.Native.Nat.{_+_, _*_, _<_, _≤_};
+ghost use Prim.Native.Nat.{ℕ, _+_, _*_, _<_, _≤_};
 ghost use lib.ListN.{length};
 ghost use Rattle.octets.specs.Words.{words};
 ghost use Rattle.octets.specs.Regions.{part};
 ghost use Rattle.rules.specs.Words.{maxLines};
 ghost use Rattle.rules.specs.Program.{signatureLength, lineAt};
 ghost use Rattle.rules.specs.Program.{digit as Program·digit};
-ghost use Rattle.lines.specs.Reading.{spelling, lineOf, LinesRead};
+ghost use Rattle.lines.specs.Reading.{spelling, lineSays, LinesRead};
 
 // The lines that are read at most, and the number of the refusal of a line: 01, "Turned back".
 const MAX_LINES: usize = 4612;
@@ -45,10 +45,10 @@ fn digit(b: u8) -> u32
     }
 }
 
-// The word that the eight bytes from `at` on spell, the highest digit first.
+// The word that the eight bytes from `at` on spell, the highest digit first; whichever line they are of.
 fn spelled(input: &[u8], at: usize) -> Line
     requires { ⌜ at + 8 ≤ length (now input) ⌝ }
-    ensures { λ r. ⌜ r ≡ spelling (part (now (input .entry)) at 8) ⌝ }
+    ensures { λ r. ⌜ ((line : ℕ) → lineSays r line ≡ spelling (part (now (input .entry)) at 8) line) ⌝ }
 {
     let mut w: u32 = 0;
     let mut i: usize = 0;
@@ -66,7 +66,7 @@ fn spelled(input: &[u8], at: usize) -> Line
 // The line with this number, from 0. Every line before it was good, so it starts at nine times its number.
 fn line_at(input: &[u8], line: usize) -> Line
     requires { ⌜ line * 9 < length (now input) ⌝ }
-    ensures { λ r. ⌜ r ≡ lineOf (lineAt (now (input .entry)) (line * 9) line) ⌝ }
+    ensures { λ r. ⌜ lineSays r line ≡ lineAt (now (input .entry)) (line * 9) line ⌝ }
 {
     if line >= MAX_LINES {
         return Line::Malformed;

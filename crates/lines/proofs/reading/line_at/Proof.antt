@@ -48,7 +48,7 @@ returns-4 : tie.Need-returns-4
 returns-4 c =
     let e = few (c .before) in
     let a = start e .args in
-    c .spelled .ensures ∙ line-spelt (a .input .now) (a .line) (e .if1 .left) (omega arith) (c .before .if3 .left)
+    c .spelled .ensures (a .line) ∙ line-spelt (a .input .now) (a .line) (e .if1 .left) (omega arith) (c .before .if3 .left)
 
 pub line-at-spec : {M : Type 1} → statement M
 line-at-spec =

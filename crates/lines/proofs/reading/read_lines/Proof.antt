@@ -1,9 +1,11 @@
 -- Reading all lines: those passed are good and their words are written, so the first that is malformed is the one that `readLines` refuses. Assumes nothing.
-use mathlib.Core.Path.{sym, _∙_}
+use mathlib.Core.Path.{sym, ap, _∙_}
 use Prim.Native.Nat.{_-_, _*_}
 use lib.ListN.{length}
 use Rattle.octets.proofs.Filling.{filled-count}
 use Rattle.lines.proofs.AllLines.{HasWord, ReadTo, read-start, read-good, read-next, read-refused, read-end}
+use Rattle.lines.specs.Reading.{lineSays}
+use Rattle.lines.specs.declared.reading.Line.{Line}
 use native.Mathlib.Omega.{arith}
 use borrow.Author.Needs.{needs}
 use Rattle.lines.proofs.reading.read_lines.Statement.{statement}
@@ -54,7 +56,7 @@ same-length c = turn (c .before .before) .before .loop .inv .filled .size
 returns : tie.Need-returns Inv-loop μ-loop
 returns c =
     let k = c .before .before in
-    read-refused (turn k .before .loop .inv) (turn k .loop-test .taken) (sym (c .enum-told .given .1) ∙ k .line-at .ensures)
+    read-refused (turn k .before .loop .inv) (turn k .loop-test .taken) (ap (λ (x : Line). lineSays x (turn k .before .loop .line)) (sym (c .enum-told .given .1)) ∙ k .line-at .ensures)
 
 -- ---- the word is written
 
@@ -66,7 +68,7 @@ read c = c .before .before
 
 -- the line's word is what stands there
 word-is : (c : At-word) → let t = turn (read c) in HasWord (start t .args .input .now) (t .before .loop .line) (c .w .given .0 .0)
-word-is c = sym (c .w .given .1) ∙ read c .line-at .ensures
+word-is c = ap (λ (x : Line). lineSays x (turn (read c) .before .loop .line)) (sym (c .w .given .1)) ∙ read c .line-at .ensures
 
 put-requires : tie.Need-put-requires Inv-loop μ-loop
 put-requires c κs =
