@@ -46,7 +46,7 @@ fn digit(b: u8) -> u32
 }
 
 // The word that the eight bytes from `at` on spell, the highest digit first; whichever line they are of.
-fn spelled(input: &[u8], at: usize) -> Line
+pub fn spelled(input: &[u8], at: usize) -> Line
     requires { ⌜ at + 8 ≤ length (now input) ⌝ }
     ensures { λ r. ⌜ ((line : ℕ) → lineSays r line ≡ spelling (part (now (input .entry)) at 8) line) ⌝ }
 {

@@ -3,6 +3,7 @@
 //
 // A line is a letter for the reader, then the record's words, a space before each. A signature that reads well sets H for the rules
 // behind it. Empty lines and those that begin with `#` are copied, so that what is printed can be read beside what was read.
+use lines::reading::Line;
 use records::written::Walk;
 ghost use mathlib.Core.Path.{_≡_};
 ghost use Prim.Native.Nat.{_+_, _<_, _≤_};
@@ -20,13 +21,6 @@ const STANDARD_OUTPUT: i32 = 1;
 // The bytes of a word in a line: a space and eight digits.
 const SPACED: usize = 9;
 
-// How many values one digit has, and two, and four. Bytes that are no digits come to this number, which is none of them.
-const NO_DIGIT: u32 = 16;
-
-const NO_PAIR: u32 = 256;
-
-const NO_HALF: u32 = 65536;
-
 // The refusal of a rule's length.
 const BAD_LENGTH: u32 = 4;
 
@@ -34,12 +28,6 @@ const BAD_LENGTH: u32 = 4;
 struct Words {
     good: bool,
     end: usize,
-}
-
-// What a space and eight bytes spell, if those are digits.
-enum Spelling {
-    Word(u32),
-    Other,
 }
 
 // What becomes of a record: with 0, it is good; else a refusal's number and place. H is for the lines that follow.
@@ -51,60 +39,14 @@ struct Answer {
 
 // ---- a line's words
 
-// The value of a digit, or NO_DIGIT.
-fn digit(b: u8) -> u32
-    ensures { λ r. ⌜ r ≤ 16 ⌝ }
+// A line that holds something else.
+fn other() -> Words
+    ensures { λ r. ⌜ r .end ≡ 0 ⌝ }
 {
-    let d = b as u32;
-    match d {
-        48..=57 => d - 48,
-        97..=102 => d - 87,
-        _ => NO_DIGIT,
+    Words {
+        good: false,
+        end: 0,
     }
-}
-
-// The value of two digits, or NO_PAIR.
-fn pair(line: &[u8], at: usize) -> u32
-    requires { ⌜ at + 2 ≤ length (now line) ⌝ }
-    ensures { λ r. ⌜ r ≤ 256 ⌝ }
-{
-    let high = digit(line[at]);
-    let low = digit(line[at + 1]);
-    if NO_DIGIT <= high || NO_DIGIT <= low {
-        return NO_PAIR;
-    }
-    high * NO_DIGIT + low
-}
-
-// The value of four digits, or NO_HALF.
-fn half(line: &[u8], at: usize) -> u32
-    requires { ⌜ at + 4 ≤ length (now line) ⌝ }
-    ensures { λ r. ⌜ r ≤ 65536 ⌝ }
-{
-    let high = pair(line, at);
-    let low = pair(line, at + 2);
-    if NO_PAIR <= high || NO_PAIR <= low {
-        return NO_HALF;
-    }
-    high * NO_PAIR + low
-}
-
-// The word that a space and eight digits from `at` on spell, the highest digit first.
-fn spelled(line: &[u8], at: usize) -> Spelling
-    requires { ⌜ at + 9 ≤ length (now line) ⌝ }
-{
-    if line[at] != b' ' {
-        return Spelling::Other;
-    }
-    let high = half(line, at + 1);
-    let low = half(line, at + 5);
-    if NO_HALF <= high {
-        return Spelling::Other;
-    }
-    if NO_HALF <= low {
-        return Spelling::Other;
-    }
-    Spelling::Word(high * NO_HALF + low)
 }
 
 // The words behind a line's letter, at the front of `out`. A line whose words are too many for it is not read either.
@@ -115,17 +57,14 @@ fn read_words(line: &[u8], out: &mut [u8]) -> Words
     let mut at = 1;
     let mut count = 0;
     while SPACED <= line.len() - at {
-        let Spelling::Word(w) = spelled(line, at) else {
-            return Words {
-                good: false,
-                end: 0,
-            };
+        if line[at] != b' ' {
+            return other();
+        }
+        let Line::Word(w) = lines::reading::spelled(line, at + 1) else {
+            return other();
         };
         if octets::count(out) <= count {
-            return Words {
-                good: false,
-                end: 0,
-            };
+            return other();
         }
         octets::put(out, count, w);
         count += 1;
