@@ -3,9 +3,22 @@
  *
  *     rt staticlib tulgarent        at the repository's root makes target/staticlib/libtulgarent.a
  *
- * A record is a list of 32-bit words, four bytes a word, lowest byte first. Slices are lent as a pointer and a length in
- * bytes, at any alignment; with length 0 the pointer is not looked at. A slice that is written (counters, output, scratch)
- * overlaps no other. Nothing is allocated and nothing is kept after the call; calls on different memory may run at once.
+ * A record is a list of 32-bit words, four bytes a word, lowest byte first. How many zero bits a word begins with is its
+ * kind; the letters h, c, n, a and b are hexadecimal digits:
+ *   0  8hhhcccc  fresh variable of head h, count c
+ *   1  40000nnn  name n
+ *   2  2000nnnn  literal n; literal 0 is unit
+ *   3  1hhhcccc  head h, with c words or expressions under it
+ *   4  08000002  equality of two
+ *   5  04aaabbb  rule of a facts or atoms and b actions
+ *   6  0200000c  action: 1 let, 2 set, 3 delete, 4 subsume, 5 union, 6 panic, 7 call, 8 expression
+ *   7  0100nnnn  word of a signature
+ * So (rule ((= x2 (f1 x1))) ()) is 04001000 08000002 40000002 10010001 40000001. docs/FORMAT.md explains signatures, rules
+ * and what each refusal asks for, by one example.
+ *
+ * Slices are lent as a pointer and a length in bytes, at any alignment; with length 0 the pointer is not looked at. A slice
+ * that is written (counters, output, scratch) overlaps no other. Nothing is allocated and nothing is kept after the call;
+ * calls on different memory may run at once.
  *
  * What stays as it was:
  *   - signature and rule, always;
