@@ -28,14 +28,6 @@ impl Family {
     pub fn heads(&self) -> usize {
         self.signature.len() - SIGNATURE_FRONT
     }
-
-    /// How many different rules.
-    pub fn distinct(&self) -> usize {
-        let mut rules: Vec<&Vec<u32>> = self.rules.iter().collect();
-        rules.sort_unstable();
-        rules.dedup();
-        rules.len()
-    }
 }
 
 /// Words of a signature before its heads.

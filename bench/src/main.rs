@@ -11,6 +11,7 @@ mod clock;
 mod draw;
 mod families;
 mod picture;
+mod places;
 #[allow(dead_code, reason = "the comparison uses the rest")]
 #[path = "../../compare/src/records.rs"]
 mod records;
@@ -22,25 +23,32 @@ mod timing;
 mod words;
 
 use families::Family;
+use std::io;
+use std::path::Path;
 use std::process::ExitCode;
+use table::Tables;
 use timing::Row;
 
 const USAGE: &str = "\
-bench                     the ten families: a table, and docs/speed.svg
-bench --more              further families, the worst one last
-bench --only FAMILY       one family of either
-bench --profile FAMILY N  this side alone, N times through the family, untimed: for a profiler";
-
-/// Where the picture goes, from this folder.
-const PICTURE: &str = concat!(env!("CARGO_MANIFEST_DIR"), "/../docs/speed.svg");
+bench                      the ten families by which speed is judged: a table
+bench --more               further families, the worst one last
+bench --all [--publish]    both tables and the picture: target/bench/speed.md and .svg
+bench --draw T [--publish] the picture from the tables of file T, without a run
+bench --only FAMILY        one family of either
+bench --profile FAMILY N   this side alone, N times through the family, untimed: for a profiler
+--publish writes docs/speed.svg, and behind --all the tables of docs/SPEED.md too";
 
 fn main() -> ExitCode {
     let arguments: Vec<String> = std::env::args().skip(1).collect();
     let arguments: Vec<&str> = arguments.iter().map(String::as_str).collect();
     match arguments[..] {
-        [] => ten_families(),
-        ["--more"] => more_families(),
-        ["--only", family] => named(family).map_or_else(usage, |family| show(&[timing::measured(&family)])),
+        [] => show(&measured(&[families::ten()])),
+        ["--more"] => show(&worst_last(measured(&[families::more()]))),
+        ["--all"] => all(false),
+        ["--all", "--publish"] => all(true),
+        ["--draw", file] => told(places::redraw(Path::new(file), false)),
+        ["--draw", file, "--publish"] => told(places::redraw(Path::new(file), true)),
+        ["--only", family] => named(family).map_or_else(usage, |family| show(&measured(&[vec![family]]))),
         ["--profile", family, times] => match (named(family), times.parse()) {
             (Some(family), Ok(times)) => profile(&family, times),
             _ => usage(),
@@ -59,32 +67,44 @@ fn named(name: &str) -> Option<Family> {
     families::ten().into_iter().chain(families::more()).find(|family| family.name == name)
 }
 
-fn ten_families() -> ExitCode {
-    let rows = rows(&families::ten());
-    show(&rows);
-    match std::fs::write(PICTURE, picture::svg(&rows)) {
-        Ok(()) => ExitCode::SUCCESS,
-        Err(error) => {
-            eprintln!("{PICTURE}: {error}");
-            ExitCode::FAILURE
-        }
+/// One table after the other. Whoever waits sees how far it is.
+fn measured(groups: &[Vec<Family>]) -> Tables {
+    let all: usize = groups.iter().map(Vec::len).sum();
+    let (mut at, mut rounds) = (0, usize::MAX);
+    let mut row = |family: &Family| -> Row {
+        at += 1;
+        eprintln!("{at:2} of {all}  {}", family.name);
+        let (row, taken) = timing::measured(family);
+        rounds = rounds.min(taken);
+        row
+    };
+    let tables = groups.iter().map(|families| families.iter().map(&mut row).collect()).collect();
+    Tables::new(rounds, tables)
+}
+
+/// In the last table the family where this side does worst stands last, where it is seen.
+fn worst_last(mut tables: Tables) -> Tables {
+    if let Some(rows) = tables.tables.last_mut() {
+        rows.sort_by(|one, other| other.ratio.total_cmp(&one.ratio));
     }
+    tables
 }
 
-/// The one where this side does worst stands last, where it is seen.
-fn more_families() -> ExitCode {
-    let mut rows = rows(&families::more());
-    rows.sort_by(|one, other| other.ratio().total_cmp(&one.ratio()));
-    show(&rows)
-}
-
-fn rows(families: &[Family]) -> Vec<Row> {
-    families.iter().map(timing::measured).collect()
-}
-
-fn show(rows: &[Row]) -> ExitCode {
-    print!("{}", table::text(rows));
+fn show(tables: &Tables) -> ExitCode {
+    print!("{}", tables.printed());
     ExitCode::SUCCESS
+}
+
+fn all(publish: bool) -> ExitCode {
+    let tables = worst_last(measured(&[families::ten(), families::more()]));
+    show(&tables);
+    told(places::save(&tables).and_then(|()| if publish { places::publish(&tables) } else { Ok(()) }))
+}
+
+fn told(done: io::Result<()>) -> ExitCode {
+    let Err(error) = done else { return ExitCode::SUCCESS };
+    eprintln!("{error}");
+    ExitCode::FAILURE
 }
 
 fn profile(family: &Family, times: usize) -> ExitCode {

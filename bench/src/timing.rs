@@ -18,43 +18,39 @@ const ROUNDS: usize = 20;
 const PART_WORDS: usize = 1_000;
 
 /// What was measured for one family. Words and counts are means over its rules.
+#[derive(Debug, Clone, PartialEq)]
 pub struct Row {
-    pub name: &'static str,
-    pub what: &'static str,
-    pub rules: usize,
+    pub name: String,
+    pub what: String,
     pub words: f64,
     pub replacements: f64,
     pub passes: f64,
     /// Nanoseconds a rule.
     pub rust: f64,
     pub ours: f64,
-    pub rounds: usize,
-}
-
-impl Row {
     /// How many times as long the Rust takes.
-    pub fn ratio(&self) -> f64 {
-        self.rust / self.ours
-    }
+    pub ratio: f64,
 }
 
-pub fn measured(family: &Family) -> Row {
+/// The row, and how many rounds each side took for it.
+pub fn measured(family: &Family) -> (Row, usize) {
     let (mut ours, mut rust) = (Ours::new(family), Rust::new(family));
     let counts = agreed(family, &mut ours, &mut rust);
     let rules = family.rules.len() as f64;
     let mean = |of: fn(&Lowered) -> usize| counts.iter().map(of).sum::<usize>() as f64 / rules;
     let least = least_rounds(family, &mut ours, &mut rust);
-    Row {
-        name: family.name,
-        what: family.what,
-        rules: family.distinct(),
+    let (rust, ours) = (least.rust.as_nanos() as f64, least.ours.as_nanos() as f64);
+    let row = Row {
+        name: family.name.to_string(),
+        what: family.what.to_string(),
         words: family.rules.iter().map(Vec::len).sum::<usize>() as f64 / rules,
         replacements: mean(|counts| counts.replacements),
         passes: mean(|counts| counts.passes),
-        rust: least.rust.as_nanos() as f64 / rules,
-        ours: least.ours.as_nanos() as f64 / rules,
-        rounds: least.rounds,
-    }
+        rust: rust / rules,
+        ours: ours / rules,
+        ratio: rust / ours,
+    };
+    (row, least.rounds)
 }
 
 /// Both sides give the same words for every rule of the round; this side's counts of it.

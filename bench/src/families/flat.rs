@@ -42,7 +42,7 @@ pub fn freed() -> Vec<Family> {
     vec![
         Family {
             name: "free vars, largest signature",
-            what: "4,096 heads, no actions",
+            what: "no actions, under 4,096 heads",
             signature: largest().words(),
             ..free("", "", &[])
         },

@@ -36,7 +36,7 @@ fn empty() -> Family {
 }
 
 fn empty_largest_signature() -> Family {
-    let what = "4,096 heads, the empty rule";
+    let what = "the empty rule under 4,096 heads";
     Family { name: "empty, largest signature", what, signature: largest().words(), ..empty() }
 }
 
@@ -58,7 +58,7 @@ fn under_calls(leaf: u32) -> Vec<u32> {
 /// Heads spread over all there are.
 fn many_heads() -> Family {
     let facts: Vec<Vec<u32>> = (0..511).map(|n| vec![call(n * (NAMES / 511), 0)]).collect();
-    let family = lowered("many heads", "4,096 heads, 511 of them called", 16, joined(&facts, &[]));
+    let family = lowered("many heads", "511 calls, each of another head of 4,096", 16, joined(&facts, &[]));
     Family { signature: largest().words(), ..family }
 }
 

@@ -7,7 +7,7 @@ use crate::words::{
 };
 
 pub fn small() -> Family {
-    drawn("small", "5 to 60 words, varied", 4_000, 5, 60)
+    drawn("small", "4,000 rules of 5 to 60 words, varied", 4_000, 5, 60)
 }
 
 pub fn small_hot() -> Family {
@@ -15,13 +15,13 @@ pub fn small_hot() -> Family {
 }
 
 pub fn large() -> Family {
-    drawn("large", "300 to 512 words, varied", 200, 300, WRITTEN_WORDS)
+    drawn("large", "200 rules of 300 to 512 words, varied", 200, 300, WRITTEN_WORDS)
 }
 
 /// Equalities x = f(..f(w)) in pairs over one beginning, calls as deep as they may be. A pass finds one pair of calls
 /// alike, which makes the next pair alike.
 pub fn merges() -> Family {
-    lowered("merges", "a long cascade: one merge a pass", 1, cascade(WRITTEN_WORDS - 1))
+    lowered("merges", "a cascade: each merge makes two more calls alike", 1, cascade(WRITTEN_WORDS - 1))
 }
 
 /// A rule of at most so many words.
@@ -45,7 +45,7 @@ pub fn equalities() -> Family {
 }
 
 pub fn chain() -> Family {
-    lowered("chain", "x = f(y), y = f(z), ..", 8, links(127))
+    lowered("chain", "127 times x = f(y), each y the next x", 8, links(127))
 }
 
 pub fn links(count: usize) -> Vec<u32> {
@@ -54,7 +54,7 @@ pub fn links(count: usize) -> Vec<u32> {
 }
 
 pub fn same() -> Family {
-    lowered("same", "f() 511 times", 4, joined(&vec![vec![call(F, 0)]; 511], &[]))
+    lowered("same", "the call f() 511 times: all are one", 4, joined(&vec![vec![call(F, 0)]; 511], &[]))
 }
 
 pub fn wide() -> Family {
@@ -85,6 +85,6 @@ pub fn heads() -> Family {
 
 /// The small rules read but four of its heads; the whole signature is tested all the same.
 pub fn largest_signature() -> Family {
-    let what = "4,096 heads, the 200 small rules";
+    let what = "the 200 small rules under 4,096 heads";
     Family { name: "largest signature", what, signature: largest().words(), ..small_hot() }
 }
