@@ -59,7 +59,7 @@ fn main() -> ExitCode {
 
 fn usage() -> ExitCode {
     let names: Vec<&str> = families::ten().iter().chain(&families::more()).map(|family| family.name).collect();
-    eprintln!("{USAGE}\nfamilies: {}", names.join(", "));
+    eprintln!("{USAGE}\nfamilies: {}", names.join("; "));
     ExitCode::from(2)
 }
 
