@@ -4,7 +4,10 @@ use crate::families::{Call, Family};
 use oracle::prepared::{Decoded, Flat, Generator, Written};
 use std::hint::black_box;
 use std::ops::Range;
-use tulgarent::{Lowered, SCRATCH_WORDS, room_for_free_vars, room_to_lower, room_to_settle, words};
+use tulgarent::{
+    Counters, Lowered, Output, SCRATCH_WORDS, Scratch, Signature, free_vars, lower, room_for_free_vars, room_to_lower,
+    room_to_settle, settle,
+};
 
 /// The archive: the whole exported call, with all memory lent once.
 pub struct Ours<'a> {
@@ -12,6 +15,12 @@ pub struct Ours<'a> {
     counters: Vec<u32>,
     output: Vec<u32>,
     scratch: Vec<u32>,
+}
+
+/// What settling counted for a rule; nothing for free variables.
+pub struct Counts {
+    pub replacements: usize,
+    pub passes: usize,
 }
 
 impl<'a> Ours<'a> {
@@ -33,30 +42,32 @@ impl<'a> Ours<'a> {
     /// These rules of the round.
     pub fn part(&mut self, rules: Range<usize>) {
         for rule in &self.family.rules[rules] {
-            black_box(self.call(black_box(rule)));
+            let _ = black_box(self.call(black_box(rule)));
         }
     }
 
     /// What each rule gives, from cleared counters on.
-    pub fn results(&mut self) -> Vec<(Lowered, Vec<u32>)> {
+    pub fn results(&mut self) -> Vec<(Counts, Vec<u32>)> {
         self.clear();
         let rules = &self.family.rules;
         rules.iter().map(|rule| self.result(rule)).collect()
     }
 
-    fn result(&mut self, rule: &[u32]) -> (Lowered, Vec<u32>) {
-        let counts = self.call(rule);
-        (counts, self.output[..counts.words].to_vec())
+    fn result(&mut self, rule: &[u32]) -> (Counts, Vec<u32>) {
+        let Lowered { words, replacements, passes } = self.call(rule);
+        (Counts { replacements, passes }, words.to_vec())
     }
 
-    fn call(&mut self, rule: &[u32]) -> Lowered {
-        let signature = &self.family.signature;
-        let (counters, output, scratch) = (&mut self.counters, &mut self.output, &mut self.scratch);
+    fn call(&mut self, rule: &[u32]) -> Lowered<'_, u32> {
+        // Here alone: elsewhere these are the Rust's.
+        use tulgarent::{Flat, Written};
+        let signature = Signature(&self.family.signature);
+        let (output, scratch) = (Output(&mut self.output), Scratch(&mut self.scratch));
         let answer = match self.family.call {
-            Call::Lower => words::lower(signature, rule, counters, output, scratch),
-            Call::Settle => words::settle(signature, rule, output, scratch),
+            Call::Lower => lower(signature, Written(rule), Counters(&mut self.counters), output, scratch),
+            Call::Settle => settle(signature, Flat(rule), output, scratch),
             Call::FreeVars => {
-                words::free_vars(signature, rule, output).map(|words| Lowered { words, replacements: 0, passes: 0 })
+                free_vars(signature, Flat(rule), output).map(|words| Lowered { words, replacements: 0, passes: 0 })
             }
         };
         answer.unwrap_or_else(|refusal| panic!("{}: {refusal}", self.family.name))

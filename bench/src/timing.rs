@@ -3,10 +3,9 @@
 
 use crate::clock::time;
 use crate::families::Family;
-use crate::sides::{Ours, Rust};
+use crate::sides::{Counts, Ours, Rust};
 use std::ops::Range;
 use std::time::{Duration, Instant};
-use tulgarent::Lowered;
 
 /// Rounds go on for so long for each family, both sides together.
 const LONG_ENOUGH: Duration = Duration::from_secs(3);
@@ -37,7 +36,7 @@ pub fn measured(family: &Family) -> (Row, usize) {
     let (mut ours, mut rust) = (Ours::new(family), Rust::new(family));
     let counts = agreed(family, &mut ours, &mut rust);
     let rules = family.rules.len() as f64;
-    let mean = |of: fn(&Lowered) -> usize| counts.iter().map(of).sum::<usize>() as f64 / rules;
+    let mean = |of: fn(&Counts) -> usize| counts.iter().map(of).sum::<usize>() as f64 / rules;
     let least = least_rounds(family, &mut ours, &mut rust);
     let (rust, ours) = (least.rust.as_nanos() as f64, least.ours.as_nanos() as f64);
     let row = Row {
@@ -54,7 +53,7 @@ pub fn measured(family: &Family) -> (Row, usize) {
 }
 
 /// Both sides give the same words for every rule of the round; this side's counts of it.
-fn agreed(family: &Family, ours: &mut Ours, rust: &mut Rust) -> Vec<Lowered> {
+fn agreed(family: &Family, ours: &mut Ours, rust: &mut Rust) -> Vec<Counts> {
     let given = ours.results();
     for (rule, ((_, ours), rust)) in given.iter().zip(rust.results()).enumerate() {
         assert_eq!(*ours, rust, "{}, rule {rule}: the words differ", family.name);

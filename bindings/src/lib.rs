@@ -9,112 +9,78 @@
 //! | [`settle`] | a flat rule | the rule settled |
 //! | [`free_vars`] | a flat rule | the free variables of its actions, ascending |
 //!
-//! They take byte slices, four bytes a word, lowest byte first, at any alignment. [`words`] has the same three over
-//! slices of `u32`. All memory is lent by the caller; nothing is allocated.
+//! There are two ways to call them. A [`Lowerer`] owns a signature, its counters and all memory, and hands out results.
+//! The functions of this module are lent every slice by the caller and allocate nothing. Records are slices of [`Word`],
+//! of `u32`, or of bytes, four bytes a word, lowest byte first, at any alignment.
 //!
 //! A rule is accepted, or turned back with a [`Refusal`], which leaves output and counters as they were. Scratch may hold
 //! anything before and after a call. Output past the words written is untouched.
 //!
-//! ```
-//! use tulgarent::{Refusal, SCRATCH_WORDS, room_to_lower, words};
+#![cfg_attr(feature = "alloc", doc = "```")]
+#![cfg_attr(not(feature = "alloc"), doc = "```ignore")]
+//! use tulgarent::{Lowerer, Refusal, SignatureParts, Sort, Word};
 //!
-//! // Four heads, one global, value-eq is head 0, unions may become sets; then the sort of each head.
-//! let signature = [
-//!     0x0100_0004, 0x0100_0001, 0x0100_0000, 0x0100_0001, 0x0100_0002, 0x0100_0000, 0x0100_0001, 0x0100_0000,
-//! ];
-//! // One fact, (= name-1 global-0), and no actions.
-//! let rule = [0x0400_1000, 0x0800_0002, 0x4000_0001, 0x4000_0000];
+//! // Four heads, of which head 0 is value-eq; name 0 is a global; unions may become sets.
+//! let parts = SignatureParts {
+//!     globals: 1,
+//!     value_eq: 0,
+//!     union_to_set: true,
+//!     sorts: &[Sort::Primitive, Sort::Function, Sort::Constructor, Sort::Function],
+//! };
+//! let mut lowerer = Lowerer::new(&parts.words().collect::<Vec<Word>>())?;
 //!
-//! let mut counters = [0; 4];
-//! let mut output = vec![0; room_to_lower(rule.len())];
-//! let mut scratch = vec![0; SCRATCH_WORDS];
-//!
-//! let lowered = words::lower(&signature, &rule, &mut counters, &mut output, &mut scratch)?;
-//! assert_eq!(output[..lowered.words], [0x0400_0001, 0x0200_0001, 0x4000_0001, 0x4000_0000]);
+//! // One fact, (= x1 x0), and no actions.
+//! let rule = [0x0400_1000_u32, 0x0800_0002, 0x4000_0001, 0x4000_0000];
+//! let lowered = lowerer.lower(&rule)?;
+//! assert_eq!(lowered.to_string(), "rule/0/1 let x1 x0");
 //! assert_eq!((lowered.replacements, lowered.passes), (1, 1));
+//! assert_eq!(Word::slice_bits(lowered.words), [0x0400_0001, 0x0200_0001, 0x4000_0001, 0x4000_0000]);
 //!
-//! // An action that reads name 1, which no fact binds.
-//! let unbound = [0x0400_0001, 0x0200_0008, 0x4000_0001];
-//! let answer = words::lower(&signature, &unbound, &mut counters, &mut output, &mut scratch);
-//! assert_eq!(answer, Err(Refusal::Unbound { place: 2 }));
+//! // An action that reads x1, which no fact binds.
+//! let unbound = [0x0400_0001_u32, 0x0200_0008, 0x4000_0001];
+//! assert_eq!(lowerer.lower(&unbound), Err(Refusal::Unbound { place: 2 }));
 //! # Ok::<(), Refusal>(())
 //! ```
+//!
+//! # Without std
+//!
+//! The crate uses `core`, and with the feature `alloc`, which is on unless turned off, also `alloc` for [`Lowerer`]. An
+//! owner with arrays inside would be some 100 KB that a function returns by way of its stack; where nothing may be
+//! allocated, the functions over lent slices leave the caller to say where the memory stands. Nothing here panics.
 
+#![no_std]
+// Without `alloc` there is no `Lowerer` for the pages to lead to.
+#![cfg_attr(not(feature = "alloc"), allow(rustdoc::broken_intra_doc_links))]
 #![deny(unsafe_code, missing_docs)]
+#![deny(clippy::unwrap_used, clippy::expect_used, clippy::panic, clippy::indexing_slicing)]
+#![deny(clippy::arithmetic_side_effects)]
+
+#[cfg(feature = "alloc")]
+extern crate alloc;
 
 // The only module that may: the calls across, and words seen as bytes.
 #[allow(unsafe_code)]
 mod abi;
+mod answer;
+mod calls;
+#[cfg(feature = "alloc")]
+mod lowerer;
 mod refusal;
+mod signature;
 mod sizes;
-pub mod words;
+mod text;
+mod word;
 
-pub use abi::Answer;
+pub use abi::Element;
+pub use answer::{Answer, Lowered};
+pub use calls::{Counters, Flat, Output, Scratch, Signature, Written, free_vars, lower, raw, settle};
+#[cfg(feature = "alloc")]
+pub use lowerer::Lowerer;
 pub use refusal::Refusal;
+pub use signature::{SignatureParts, Sort};
 pub use sizes::{
-    FLAT_WORDS, SCRATCH_BYTES, SCRATCH_WORDS, WORD_BYTES, WRITTEN_WORDS, room_for_free_vars, room_to_lower,
-    room_to_settle,
+    FLAT_WORDS, RESULT_WORDS, SCRATCH_BYTES, SCRATCH_WORDS, WORD_BYTES, WRITTEN_WORDS, room_for_free_vars,
+    room_to_lower, room_to_settle,
 };
-
-/// The archive's answers as they are, number 0 for acceptance: for tools that look at every number.
-pub mod raw {
-    pub use crate::abi::{free_vars, lower, settle};
-}
-
-/// What an accepted rule came to.
-#[derive(Debug, Clone, Copy, PartialEq, Eq, Hash)]
-pub struct Lowered {
-    /// Words written to the output, from its start.
-    pub words: usize,
-    /// Variables that settling replaced. The result's first actions are as many bindings.
-    pub replacements: usize,
-    /// Merge passes until the body was settled, the last one counted.
-    pub passes: usize,
-}
-
-/// Lowers a written rule and settles it.
-///
-/// `counters` has a word a head: the count that the head's next fresh variable takes. They move on only if the rule is
-/// accepted; entries past the last head stay.
-///
-/// # Errors
-/// Refusals 1 to 10 and 14.
-pub fn lower(
-    signature: &[u8],
-    rule: &[u8],
-    counters: &mut [u8],
-    output: &mut [u8],
-    scratch: &mut [u8],
-) -> Result<Lowered, Refusal> {
-    raw::lower(signature, rule, counters, output, scratch).into_result()
-}
-
-/// Settles a flat rule: equalities go, and atoms alike in head and inputs are merged.
-///
-/// # Errors
-/// Refusals 1, 3, 4, 5, 10, 11, 12 and 14.
-pub fn settle(signature: &[u8], rule: &[u8], output: &mut [u8], scratch: &mut [u8]) -> Result<Lowered, Refusal> {
-    raw::settle(signature, rule, output, scratch).into_result()
-}
-
-/// Writes the free variables of a flat rule's actions in ascending order, and says how many there are.
-///
-/// # Errors
-/// Refusals 1, 4, 5, 10, 11, 12 and 14.
-pub fn free_vars(signature: &[u8], rule: &[u8], output: &mut [u8]) -> Result<usize, Refusal> {
-    Ok(raw::free_vars(signature, rule, output).into_result()?.words)
-}
-
-impl Answer {
-    /// Acceptance with its counts, or the refusal.
-    pub fn into_result(self) -> Result<Lowered, Refusal> {
-        match self.number {
-            0 => Ok(Lowered {
-                words: sizes::size(self.words),
-                replacements: sizes::size(self.replacements),
-                passes: sizes::size(self.passes),
-            }),
-            number => Err(Refusal::new(number, sizes::size(self.place))),
-        }
-    }
-}
+pub use text::Record;
+pub use word::{Action, Kind, Word};

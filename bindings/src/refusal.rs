@@ -1,16 +1,26 @@
 //! Why a call turned its input back.
 
-use crate::sizes::{SCRATCH_WORDS, WORD_BYTES};
-use std::error::Error;
-use std::fmt;
+use crate::sizes::{FLAT_WORDS, SCRATCH_WORDS, WORD_BYTES, WRITTEN_WORDS};
+use core::error::Error;
+use core::fmt;
 
 /// An expression stands inside fewer calls than this.
 const MOST_CALLS: usize = 32;
+/// Where a signature names its value-eq head.
+const VALUE_EQ: usize = 2;
 
-/// A refusal by its number, with the place that it names.
+/// A refusal: a variant for each number, which carries what that number tells.
 ///
 /// Places are indexes of words, from 0, also where bytes were lent. Number 13 is missing: it is about lines, which only the
 /// program reads.
+///
+/// ```
+/// use tulgarent::Refusal;
+///
+/// let refusal = Refusal::Output { needed: 17 };
+/// assert_eq!((refusal.number(), refusal.place()), (10, 17));
+/// assert_eq!(refusal.to_string(), "the result needs an output of 17 words (refused 10 17)");
+/// ```
 #[derive(Debug, Clone, Copy, PartialEq, Eq, Hash)]
 #[non_exhaustive]
 pub enum Refusal {
@@ -21,21 +31,12 @@ pub enum Refusal {
         place: usize,
     },
     /// 2: fewer counters than the signature has heads.
-    Counters {
-        /// 0.
-        place: usize,
-    },
+    Counters,
     /// 3: less scratch than [`SCRATCH_WORDS`](crate::SCRATCH_WORDS).
-    Scratch {
-        /// 0.
-        place: usize,
-    },
+    Scratch,
     /// 4: a rule of no words, or of more than [`WRITTEN_WORDS`](crate::WRITTEN_WORDS) for a written rule and
     /// [`FLAT_WORDS`](crate::FLAT_WORDS) for a flat one.
-    Length {
-        /// 0.
-        place: usize,
-    },
+    Length,
     /// 5: a word of the rule whose kind or payload does not fit where it stands, or a rule that ends early or goes on.
     Unfit {
         /// The word; the first surplus one if the rule goes on; the rule's length if it ends early.
@@ -63,8 +64,8 @@ pub enum Refusal {
     },
     /// 10: the result is longer than the output.
     Output {
-        /// How many words it needs.
-        place: usize,
+        /// How many words it has.
+        needed: usize,
     },
     /// 11: an atom of a flat rule has no terms, so it has no output.
     NoTerms {
@@ -77,11 +78,8 @@ pub enum Refusal {
         place: usize,
     },
     /// 14: a byte slice is not whole words.
-    Ragged {
-        /// 0.
-        place: usize,
-    },
-    /// A number that this crate does not know: the archive is newer.
+    Ragged,
+    /// A number that this crate does not know, or a place that it does not know for this number: the archive is newer.
     Other {
         /// The number.
         number: u64,
@@ -91,32 +89,34 @@ pub enum Refusal {
 }
 
 impl Refusal {
+    /// Four numbers always come with place 0, so their variants carry none.
     pub(crate) fn new(number: u64, place: usize) -> Refusal {
-        match number {
-            1 => Refusal::Signature { place },
-            2 => Refusal::Counters { place },
-            3 => Refusal::Scratch { place },
-            4 => Refusal::Length { place },
-            5 => Refusal::Unfit { place },
-            6 => Refusal::TooDeep { place },
-            7 => Refusal::Unbound { place },
-            8 => Refusal::AlreadyDefined { place },
-            9 => Refusal::CounterAtEnd { place },
-            10 => Refusal::Output { place },
-            11 => Refusal::NoTerms { place },
-            12 => Refusal::EqualityCount { place },
-            14 => Refusal::Ragged { place },
-            _ => Refusal::Other { number, place },
+        match (number, place) {
+            (1, place) => Refusal::Signature { place },
+            (2, 0) => Refusal::Counters,
+            (3, 0) => Refusal::Scratch,
+            (4, 0) => Refusal::Length,
+            (5, place) => Refusal::Unfit { place },
+            (6, place) => Refusal::TooDeep { place },
+            (7, place) => Refusal::Unbound { place },
+            (8, place) => Refusal::AlreadyDefined { place },
+            (9, place) => Refusal::CounterAtEnd { place },
+            (10, needed) => Refusal::Output { needed },
+            (11, place) => Refusal::NoTerms { place },
+            (12, place) => Refusal::EqualityCount { place },
+            (14, 0) => Refusal::Ragged,
+            (number, place) => Refusal::Other { number, place },
         }
     }
 
     /// The number, as the archive and the program give it.
-    pub fn number(&self) -> u64 {
+    #[must_use]
+    pub const fn number(&self) -> u64 {
         match *self {
             Refusal::Signature { .. } => 1,
-            Refusal::Counters { .. } => 2,
-            Refusal::Scratch { .. } => 3,
-            Refusal::Length { .. } => 4,
+            Refusal::Counters => 2,
+            Refusal::Scratch => 3,
+            Refusal::Length => 4,
             Refusal::Unfit { .. } => 5,
             Refusal::TooDeep { .. } => 6,
             Refusal::Unbound { .. } => 7,
@@ -125,43 +125,43 @@ impl Refusal {
             Refusal::Output { .. } => 10,
             Refusal::NoTerms { .. } => 11,
             Refusal::EqualityCount { .. } => 12,
-            Refusal::Ragged { .. } => 14,
+            Refusal::Ragged => 14,
             Refusal::Other { number, .. } => number,
         }
     }
 
-    /// The place, as the archive and the program give it.
-    pub fn place(&self) -> usize {
+    /// The place, as the archive and the program give it: the words needed for number 10, and 0 for numbers that tell of
+    /// no place.
+    #[must_use]
+    pub const fn place(&self) -> usize {
         match *self {
+            Refusal::Counters | Refusal::Scratch | Refusal::Length | Refusal::Ragged => 0,
+            Refusal::Output { needed } => needed,
             Refusal::Signature { place }
-            | Refusal::Counters { place }
-            | Refusal::Scratch { place }
-            | Refusal::Length { place }
             | Refusal::Unfit { place }
             | Refusal::TooDeep { place }
             | Refusal::Unbound { place }
             | Refusal::AlreadyDefined { place }
             | Refusal::CounterAtEnd { place }
-            | Refusal::Output { place }
             | Refusal::NoTerms { place }
             | Refusal::EqualityCount { place }
-            | Refusal::Ragged { place }
             | Refusal::Other { place, .. } => place,
         }
     }
-}
 
-/// A sentence for the rule's writer, then number and place as the program prints them.
-impl fmt::Display for Refusal {
-    fn fmt(&self, f: &mut fmt::Formatter<'_>) -> fmt::Result {
-        match self {
-            Refusal::Signature { place: 2 } => {
-                write!(f, "word 2 of the signature is not the number of a head that is primitive")
+    /// The sentence for the rule's writer.
+    fn sentence(&self, f: &mut fmt::Formatter<'_>) -> fmt::Result {
+        match *self {
+            // A signature of two words has no word 2, so this place alone has three causes.
+            Refusal::Signature { place: VALUE_EQ } => {
+                write!(f, "word 2 of the signature is missing, or is not the number of a head that is primitive")
             }
             Refusal::Signature { place } => write!(f, "word {place} of the signature is wrong, missing or surplus"),
-            Refusal::Counters { .. } => write!(f, "there are fewer counters than the signature has heads"),
-            Refusal::Scratch { .. } => write!(f, "less than {SCRATCH_WORDS} words of scratch were lent"),
-            Refusal::Length { .. } => write!(f, "the rule is empty, or longer than a rule may be"),
+            Refusal::Counters => write!(f, "there are fewer counters than the signature has heads"),
+            Refusal::Scratch => write!(f, "less than {SCRATCH_WORDS} words of scratch were lent"),
+            Refusal::Length => {
+                write!(f, "the rule is empty, or longer than {WRITTEN_WORDS} words if written, {FLAT_WORDS} if flat")
+            }
             Refusal::Unfit { place } => write!(f, "word {place} of the rule is wrong there, missing or surplus"),
             Refusal::TooDeep { place } => write!(f, "word {place} of the rule stands inside {MOST_CALLS} calls"),
             Refusal::Unbound { place } => {
@@ -173,45 +173,23 @@ impl fmt::Display for Refusal {
             Refusal::CounterAtEnd { place } => {
                 write!(f, "no fresh variable is left for the head at word {place} of the rule")
             }
-            Refusal::Output { place } => write!(f, "the result needs an output of {place} words"),
+            Refusal::Output { needed } => write!(f, "the result needs an output of {needed} words"),
             Refusal::NoTerms { place } => write!(f, "the atom at word {place} of the rule has no terms"),
             Refusal::EqualityCount { place } => {
                 write!(f, "the equality at word {place} of the rule has other than two terms")
             }
-            Refusal::Ragged { .. } => write!(f, "a byte slice is not whole words of {WORD_BYTES} bytes"),
+            Refusal::Ragged => write!(f, "a byte slice is not whole words of {WORD_BYTES} bytes"),
             Refusal::Other { .. } => write!(f, "the archive refuses for a reason that this crate does not know"),
-        }?;
+        }
+    }
+}
+
+/// A sentence for the rule's writer, then number and place as the program prints them.
+impl fmt::Display for Refusal {
+    fn fmt(&self, f: &mut fmt::Formatter<'_>) -> fmt::Result {
+        self.sentence(f)?;
         write!(f, " (refused {} {})", self.number(), self.place())
     }
 }
 
 impl Error for Refusal {}
-
-#[cfg(test)]
-mod tests {
-    use super::Refusal;
-
-    #[test]
-    fn a_number_and_a_place_come_back_as_they_went_in() {
-        for number in (1..40).chain([u64::MAX]) {
-            let refusal = Refusal::new(number, 77);
-            assert_eq!((refusal.number(), refusal.place()), (number, 77), "{refusal:?}");
-        }
-    }
-
-    #[test]
-    fn every_number_of_the_library_has_a_variant() {
-        for number in 1..=14 {
-            let known = !matches!(Refusal::new(number, 0), Refusal::Other { .. });
-            assert_eq!(known, number != 13, "{number}");
-        }
-    }
-
-    #[test]
-    fn the_text_ends_as_the_program_prints_it() {
-        for number in 1..=20 {
-            let text = Refusal::new(number, 3).to_string();
-            assert!(text.ends_with(&format!("(refused {number} 3)")), "{text}");
-        }
-    }
-}

@@ -2,8 +2,8 @@
 
 mod common;
 
-use common::{P1, TRIAL, bytes, record};
-use tulgarent::{Answer, SCRATCH_BYTES, raw};
+use common::{P1, TRIAL, bytes, random, record};
+use tulgarent::{Answer, Counters, Flat, Output, SCRATCH_BYTES, Scratch, Signature, Written, raw};
 
 /// The slices that a call is lent, in the order of `lower`.
 #[derive(Clone)]
@@ -13,6 +13,18 @@ struct Lent {
     counters: Vec<u8>,
     output: Vec<u8>,
     scratch: Vec<u8>,
+}
+
+impl Lent {
+    fn lower(&mut self) -> Answer {
+        raw::lower(
+            Signature(&self.signature),
+            Written(&self.rule),
+            Counters(&mut self.counters),
+            Output(&mut self.output),
+            Scratch(&mut self.scratch),
+        )
+    }
 }
 
 /// P1 with exactly as much as it needs.
@@ -36,9 +48,9 @@ fn checksum(lent: &Lent) -> u64 {
 fn refused(mut lent: Lent) -> [(u64, u64); 3] {
     let before = checksum(&lent);
     let calls: [fn(&mut Lent) -> Answer; 3] = [
-        |l| raw::lower(&l.signature, &l.rule, &mut l.counters, &mut l.output, &mut l.scratch),
-        |l| raw::settle(&l.signature, &l.rule, &mut l.output, &mut l.scratch),
-        |l| raw::free_vars(&l.signature, &l.rule, &mut l.output),
+        Lent::lower,
+        |l| raw::settle(Signature(&l.signature), Flat(&l.rule), Output(&mut l.output), Scratch(&mut l.scratch)),
+        |l| raw::free_vars(Signature(&l.signature), Flat(&l.rule), Output(&mut l.output)),
     ];
     calls.map(|call| {
         let answer = call(&mut lent);
@@ -53,21 +65,9 @@ fn refused(mut lent: Lent) -> [(u64, u64); 3] {
 fn lowering_refused(lent: Lent) -> (u64, u64) {
     let mut lent = lent;
     let before = checksum(&lent);
-    let answer = raw::lower(&lent.signature, &lent.rule, &mut lent.counters, &mut lent.output, &mut lent.scratch);
+    let answer = lent.lower();
     assert_eq!(checksum(&lent), before, "a refusal changed output or counters");
     (answer.number, answer.place)
-}
-
-/// Bytes that a fixed seed gives.
-fn random(count: usize) -> Vec<u8> {
-    let mut state = 0x9e37_79b9_7f4a_7c15_u64;
-    let mut next = || {
-        state ^= state << 13;
-        state ^= state >> 7;
-        state ^= state << 17;
-        state
-    };
-    (0..count / 8).flat_map(|_| next().to_le_bytes()).collect()
 }
 
 #[test]
@@ -111,7 +111,8 @@ fn one_slice_is_a_word_short() {
 
 #[test]
 fn five_megabytes_of_random_bytes() {
-    let random = random(5_000_000);
+    let mut next = random();
+    let random: Vec<u8> = (0..625_000).flat_map(|_| next().to_le_bytes()).collect();
     assert_eq!(random.len(), 5_000_000);
     assert_eq!(refused(Lent { signature: random.clone(), ..p1() }), [(1, 0); 3]);
     assert_eq!(refused(Lent { rule: random.clone(), ..p1() }), [(4, 0); 3]);

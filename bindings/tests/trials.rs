@@ -2,14 +2,14 @@
 
 mod common;
 
-use common::{FLAG_OFF, P1, P1_LOWERED, TRIAL, lower, lower_from, record};
-use tulgarent::{Lowered, Refusal};
+use common::{Counts, FLAG_OFF, P1, P1_LOWERED, TRIAL, lower, lower_from, record};
+use tulgarent::Refusal;
 
 /// The rule is accepted with these words, replacements and passes.
 fn gives(rule: &str, lowered: &str, replacements: usize, passes: usize) {
     let expected = record(lowered);
     let words = expected.len();
-    assert_eq!(lower(TRIAL, rule), Ok((expected, Lowered { words, replacements, passes })), "{rule}");
+    assert_eq!(lower(TRIAL, rule), Ok((expected, Counts { words, replacements, passes })), "{rule}");
 }
 
 #[test]
@@ -18,7 +18,7 @@ fn p1() {
     let (_, after) = lower_from(&record(TRIAL), &record(P1), &[0; 4], 17);
     assert_eq!(after, [0, 2, 0, 1]);
     let (answer, _) = lower_from(&record(TRIAL), &record(P1), &[0; 4], 16);
-    assert_eq!(answer, Err(Refusal::Output { place: 17 }));
+    assert_eq!(answer, Err(Refusal::Output { needed: 17 }));
 }
 
 #[test]

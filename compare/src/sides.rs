@@ -1,6 +1,6 @@
 //! What is compared with the Rust: the archive, or a wrong copy of the Rust.
 
-use tulgarent::Answer;
+use tulgarent::{Answer, Counters, Flat, Output, Scratch, Signature, Written, raw};
 
 /// The three calls over byte slices.
 pub trait Side {
@@ -28,15 +28,15 @@ impl Side for Archive {
         output: &mut [u8],
         scratch: &mut [u8],
     ) -> Answer {
-        tulgarent::raw::lower(signature, rule, counters, output, scratch)
+        raw::lower(Signature(signature), Written(rule), Counters(counters), Output(output), Scratch(scratch))
     }
 
     fn settle(&self, signature: &[u8], rule: &[u8], output: &mut [u8], scratch: &mut [u8]) -> Answer {
-        tulgarent::raw::settle(signature, rule, output, scratch)
+        raw::settle(Signature(signature), Flat(rule), Output(output), Scratch(scratch))
     }
 
     fn free_vars(&self, signature: &[u8], rule: &[u8], output: &mut [u8]) -> Answer {
-        tulgarent::raw::free_vars(signature, rule, output)
+        raw::free_vars(Signature(signature), Flat(rule), Output(output))
     }
 }
 
