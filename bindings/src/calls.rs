@@ -141,6 +141,15 @@ pub fn settle<'o, T: Element>(
 /// # Ok::<(), tulgarent::Refusal>(())
 /// ```
 ///
+/// A written rule is no flat one, so this does not compile:
+///
+/// ```compile_fail,E0308
+/// # use tulgarent::{Output, Signature, Written, free_vars};
+/// # let (signature, rule, mut output) = ([0_u32; 5], [0_u32; 4], [0_u32; 4]);
+/// let free = free_vars(Signature(&signature), Written(&rule), Output(&mut output))?;
+/// # Ok::<(), tulgarent::Refusal>(())
+/// ```
+///
 /// # Errors
 /// Refusals 1, 4, 5, 10, 11 and 12, and over bytes 14.
 pub fn free_vars<'o, T: Element>(

@@ -29,7 +29,7 @@
 //! };
 //! let mut lowerer = Lowerer::new(&parts.words().collect::<Vec<Word>>())?;
 //!
-//! // One fact, (= x1 x0), and no actions.
+//! // One fact, (= x1 x0), and no actions; in the notation of `Word`: rule/1/0 =/2 x1 x0.
 //! let rule = [0x0400_1000_u32, 0x0800_0002, 0x4000_0001, 0x4000_0000];
 //! let lowered = lowerer.lower(&rule)?;
 //! assert_eq!(lowered.to_string(), "rule/0/1 let x1 x0");

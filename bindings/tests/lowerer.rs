@@ -94,6 +94,14 @@ fn copies_have_their_own_counters() {
     assert_eq!((first.counters(), second.counters()), ([0, 2, 0, 0].as_slice(), [0, 1, 0, 0].as_slice()));
 }
 
+/// Each thread of a service may have one, and refusals go from thread to thread.
+#[test]
+fn a_lowerer_goes_to_another_thread() {
+    let mut lowerer = trial();
+    let answer = std::thread::spawn(move || lowerer.lower(&record(P1)).map(|lowered| lowered.words.to_vec()));
+    assert_eq!(answer.join().expect("the thread ends").map(|words| words.len()), Ok(17));
+}
+
 /// The largest signature, and the rules that give the longest results.
 #[test]
 fn there_is_room_for_every_result() {
