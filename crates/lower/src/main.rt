@@ -2,7 +2,8 @@
 //
 // All but reading and writing is `print_program`, a function from the bytes read to the bytes printed, with the definition of both as its contract.
 // What `main` adds is not in a contract, since those of reading and writing speak of counts alone: it reads until its room is full or the input ends, lends the
-// room for the work, and writes the bytes that it is told of. A read that fails counts as the input's end, and a write that fails is not told.
+// room for the work, and writes the bytes that it is told of. Where a read fails it prints nothing, since the lines before it may be another rule than the
+// one that was meant, and says so on standard error; so it does where a write fails.
 use answers::Answer;
 ghost use mathlib.Core.Path.{_≡_};
 ghost use Prim.Native.Nat.{_*_, _≤_, min};
@@ -21,6 +22,9 @@ ghost use Rattle.lower.specs.Room.{textBytes, Zeros};
 const STANDARD_INPUT: i32 = 0;
 
 const STANDARD_OUTPUT: i32 = 1;
+
+// Where it says what failed.
+const STANDARD_ERROR: i32 = 2;
 
 // ---- room for the work
 
@@ -112,6 +116,36 @@ fn print_program(
     )
 }
 
+// ---- reading and writing
+
+// What was read: so many bytes, and whether the last read failed.
+struct Got {
+    failed: bool,
+    count: usize,
+}
+
+// Reads until the room is full, the input ends or a read fails. Those last two are told apart, which the library's reader does not do.
+fn read_input(input: &mut [u8]) -> Got
+    ensures { λ r. ⌜ Counts (r .count) (now (input .exit)) ⌝ }
+{
+    let mut done = 0;
+    while done < input.len() {
+        let got = libc::read(STANDARD_INPUT, &mut input[done..]);
+        let more = io::count(got, &input[done..]);
+        if more == 0 {
+            return Got {
+                failed: got < 0,
+                count: done,
+            };
+        }
+        done += more;
+    }
+    Got {
+        failed: false,
+        count: done,
+    }
+}
+
 fn main() {
     let mut input = input_room();
     let mut text = text_room();
@@ -119,7 +153,12 @@ fn main() {
     let mut counters = line_words();
     let mut output = io::large_buffer();
     let mut scratch = io::large_buffer();
-    let n = io::read_full(STANDARD_INPUT, &mut input);
+    let got = read_input(&mut input);
+    if got.failed {
+        io::write_all(STANDARD_ERROR, b"lower: a read of standard input failed\n");
+        return;
+    }
+    let n = got.count;
     let end = print_program(
         &input[..n],
         &mut text,
@@ -128,5 +167,10 @@ fn main() {
         &mut output,
         &mut scratch,
     );
-    io::write_all(STANDARD_OUTPUT, &text[..end]);
+    if !io::write_all(STANDARD_OUTPUT, &text[..end]) {
+        io::write_all(
+            STANDARD_ERROR,
+            b"lower: a write to standard output failed\n",
+        );
+    }
 }
