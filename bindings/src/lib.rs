@@ -46,7 +46,10 @@
 //!
 //! The crate uses `core`, and with the feature `alloc`, which is on unless turned off, also `alloc` for [`Lowerer`]. An
 //! owner with arrays inside would be some 100 KB that a function returns by way of its stack; where nothing may be
-//! allocated, the functions over lent slices leave the caller to say where the memory stands. Nothing here panics.
+//! allocated, the functions over lent slices leave the caller to say where the memory stands.
+//!
+//! Nothing here panics. Only memory that runs out while a [`Lowerer`] is made or copied ends the program, as it does
+//! everywhere in Rust.
 
 #![no_std]
 // Without `alloc` there is no `Lowerer` for the pages to lead to.
