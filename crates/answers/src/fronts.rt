@@ -7,17 +7,17 @@ ghost use Rattle.signature.specs.Signature.{signOf};
 ghost use Rattle.answers.specs.Fronts.{flatFront, writtenFront};
 
 // The refusals' numbers that are given here.
-const FEW_COUNTERS: u32 = 2;
+const FEW_COUNTERS: usize = 2;
 
-const SMALL_SCRATCH: u32 = 3;
+const SMALL_SCRATCH: usize = 3;
 
-const BAD_LENGTH: u32 = 4;
+const BAD_LENGTH: usize = 4;
 
 // The words of scratch that settling and lowering ask for.
 pub const SCRATCH_WORDS: usize = 16384;
 
 // A signature's place for a refusal that comes behind it.
-fn turned_back(number: u32, place: usize) -> Signature
+fn turned_back(number: usize, place: usize) -> Signature
     ensures { λ r. ⌜ r ≡ signOf (refuse number place) ⌝ }
 {
     Signature {

@@ -8,9 +8,9 @@ ghost use lib.Dec.{eqb};
 ghost use Rattle.answers.specs.Answers.{refusedWith, wholeThree};
 
 // The refusals' numbers that the calls give themselves.
-pub const SHORT_OUTPUT: u32 = 10;
+pub const SHORT_OUTPUT: usize = 10;
 
-pub const RAGGED: u32 = 14;
+pub const RAGGED: usize = 14;
 
 // What a call answers. Number 0 is acceptance, with place 0 and the three counts; a refusal has all counts 0.
 #[repr(C)]
@@ -22,7 +22,7 @@ pub struct Answer {
     pub passes: u64,
 }
 
-pub fn refused(number: u32, place: usize) -> Answer
+pub fn refused(number: usize, place: usize) -> Answer
     ensures { λ r. ⌜ r ≡ refusedWith number place ⌝ }
 {
     Answer {

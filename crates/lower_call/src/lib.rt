@@ -135,7 +135,7 @@ pub fn lower_bytes(
         &mut scratch[..LENT * size],
     );
     if lowered.refused != 0 {
-        return refused(lowered.refused, lowered.place);
+        return refused(lowered.refused as usize, lowered.place);
     }
     if octets::count(output) < lowered.needed {
         return refused(SHORT_OUTPUT, lowered.needed);

@@ -22,7 +22,7 @@ const STANDARD_OUTPUT: i32 = 1;
 const SPACED: usize = 9;
 
 // The refusal of a rule's length.
-const BAD_LENGTH: u32 = 4;
+const BAD_LENGTH: usize = 4;
 
 // What a line's words are read to: the bytes up to an end. A line that is not good holds something else.
 struct Words {
@@ -32,7 +32,7 @@ struct Words {
 
 // What becomes of a record: with 0, it is good; else a refusal's number and place. H is for the lines that follow.
 struct Answer {
-    refused: u32,
+    refused: usize,
     place: usize,
     heads: u32,
 }

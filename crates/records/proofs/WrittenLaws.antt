@@ -2,31 +2,30 @@
 use mathlib.Core.Path.{_≡_, refl, sym, ap, _∙_}
 use mathlib.Core.Bool.{Bool, true, false, _&&_, _||_, cond, false≢true}
 use mathlib.Core.List.{List}
-use Prim.Native.Nat.{ℕ, zero, suc, _+_, _-_, _*_, _≤_, _<_}
+use Prim.Native.Nat.{ℕ, zero, suc, _+_, _-_, _*_, _/_, _%_, _^_, _≤_, _<_}
 use native.Mathlib.Numerals.{add-one}
 use native.Mathlib.Omega.{arith}
 use lib.ListN.{length, getD}
-use lib.Dec.{ltb, leb, eqb, lit<}
+use lib.Dec.{ltb, eqb, lit<}
 use lib.Count.{leadingZeros}
-use borrow.Author.Tests.{ltb-true, lt-ltb, le-ltb, leb-true, leb-false, ne-eqb, eq-eqb}
-use Rattle.rules.specs.Words.{limit12, limit16, maxDepth, freshBase, nameBase, literalBase, headBase, equalityWord, actionWord, isNameWord, isLiteralWord, isHeadWord}
+use borrow.Author.Tests.{ltb-true, ltb-false, lt-ltb, le-ltb, ne-eqb, eq-eqb}
+use Rattle.rules.specs.Words.{limit12, limit16, maxDepth, nameBase, literalBase, headBase, equalityWord, actionWord, isNameWord, isLiteralWord, isHeadWord}
 use Rattle.rules.specs.Words.{isEqualityWord, countOf, Code, aLet, aSet, aPanic, codeOf}
 use Rattle.rules.specs.Refusals.{Res, ok, refuse, _>>=_, unfit, tooDeep}
 use Rattle.rules.specs.Signature.{Sig, heads}
 use Rattle.rules.specs.Written.{Expr, Read, Shape, isLeaf, isCall, isBad, shape, shapeAt, readMany, readShape, readExpr, readTarget, readEqual, readFact}
 use Rattle.rules.specs.Written.{readCode, readAction, equal, union′, Action as Act}
 use Rattle.words.specs.Word.{kind}
-use Rattle.words.specs.declared.Word.{Word}
-use Rattle.words.specs.declared.Word.the-variants.{Fresh, Name, Literal, Head, Equality, Header, Action, Signature, Unfit}
-use Rattle.words.proofs.Ranges.{not-kind as range-below, false-below, false-above}
-use Rattle.words.proofs.WordLaws.{wordOf, name-kind, literal-kind, equality-kind, said, head-numbers, no-head}
+use Rattle.words.specs.declared.Word.the-variants.{Name, Literal, Head, Equality, Action}
+use Rattle.words.proofs.Ranges.{kind-from, kind-below, true-within, false-below, false-above, heads-below}
+use Rattle.words.proofs.WordLaws.{wordOf, name-kind, literal-kind, equality-kind, said}
 use Rattle.records.specs.declared.written.Walk.{Walk}
 use Rattle.records.specs.declared.written.Start.{Start}
 use Rattle.records.specs.declared.written.Start.the-variants.{Takes, Other}
-use Rattle.records.specs.Written.{withHeads, walk, walkOf, startSays, taken, takenAt, Starts}
+use Rattle.records.specs.Written.{withHeads, walk, walkOf, leafEnd, startSays, taken, takenAt, Starts}
 use Rattle.records.proofs.WrittenWalk.{made, then-made, moved, just-one, last-one}
 use Rattle.words.proofs.WordAt.{Here, There, NotKind}
-use Rattle.records.proofs.Expected.{kind-fits, kind-unfit, heads-most, head-with, head-other, head-high, head-fits, head-count}
+use Rattle.records.proofs.Expected.{kind-fits, kind-unfit, heads-most, with-below, head-other, head-high, head-fits, head-count}
 use Rattle.records.proofs.Expected.{no-code, as-code, change-code, NoneOf, last-code}
 
 -- ---- an expression, by how it begins
@@ -78,41 +77,7 @@ module _ {s : Sig} {ws : List ℕ} {p n : ℕ} (b : Starts s ws p n) where
       go isCall h = let same : n ≡ countOf (getD ws p 0) = cc in rw same (sym (made (readMany (readExpr s ws d) (countOf (getD ws p 0)) (suc p)) _))
       go isBad h = cc
 
--- ---- how it begins, by what that word says
-
-abbrev pub startWith : ℕ → Word → Start
-startWith H (Fresh h n) = Other
-startWith H (Name n) = Takes 0
-startWith H (Literal n) = Takes 0
-startWith H (Head h n) = cond (ltb h H) (Takes n) Other
-startWith H (Equality n) = Other
-startWith H (Header a b) = Other
-startWith H (Action n) = Other
-startWith H (Signature n) = Other
-startWith H Unfit = Other
-
-module _ (H w p : ℕ) where
-  -- the shape, where two of its three tests are known by the kind
-  shape-told : {x : Word} → wordOf w ≡ x → shape (withHeads H) w ≡ cond (eqb (kind x) 1 || eqb (kind x) 2) isLeaf (cond (isHeadWord (heads (withHeads H)) w) isCall isBad)
-  shape-told says = simp (name-kind w, literal-kind w, says)
-
-  start-word : (x : Word) → wordOf w ≡ x → startSays (startWith H x) p ≡ taken (shape (withHeads H) w) w p
-  start-word (Name n) says = rw (shape-told says)
-  start-word (Literal n) says = rw (shape-told says)
-  start-word (Head h n) says = rw (shape-told says, head-with H w h n says) (go (ltb h H))
-    where
-      go : (b : Bool) → startSays (cond b (Takes n) Other) p ≡ taken (cond b isCall isBad) w p
-      go true = rw (head-numbers w h n says .1)
-      go false = refl
-  start-word (Fresh h n) says = rw (shape-told says, no-head w (rw says refl) (heads (withHeads H)) (heads-most H))
-  start-word (Equality n) says = rw (shape-told says, no-head w (rw says refl) (heads (withHeads H)) (heads-most H))
-  start-word (Header a b) says = rw (shape-told says, no-head w (rw says refl) (heads (withHeads H)) (heads-most H))
-  start-word (Action n) says = rw (shape-told says, no-head w (rw says refl) (heads (withHeads H)) (heads-most H))
-  start-word (Signature n) says = rw (shape-told says, no-head w (rw says refl) (heads (withHeads H)) (heads-most H))
-  start-word Unfit says = rw (shape-told says, no-head w (rw says refl) (heads (withHeads H)) (heads-most H))
-
-start-there : (H : ℕ) {ws : List ℕ} {p : ℕ} {x : Word} → There ws p x → startSays (startWith H x) p ≡ takenAt (withHeads H) ws p
-start-there H {ws} {p} {x} t = rw (lt-ltb p (length ws) (t .inside)) (start-word H (getD ws p 0) p x (t .says))
+-- ---- how it begins, by the range that its word lies in
 
 -- no word is there
 pub start-missing : (s : Sig) (ws : List ℕ) (p : ℕ) → length ws ≤ p → startSays Other p ≡ takenAt s ws p
@@ -120,31 +85,64 @@ start-missing s ws p l = rw (le-ltb p (length ws) l)
 
 -- w is the word there
 module _ (H : ℕ) {ws : List ℕ} {p w : ℕ} (k : Here ws p w) where
-  pub start-says : (x : Word) → wordOf w ≡ x → startSays (startWith H x) p ≡ takenAt (withHeads H) ws p
-  start-says x says =
-      let t : There ws p x = record { inside = k .inside; says = ap wordOf (sym (k .is)) ∙ says } in
-      start-there H t
+  -- what an answer for it is
+  abbrev Begins : Start → Type 0
+  Begins x = startSays x p ≡ takenAt (withHeads H) ws p
 
-  pub start-head : {h n : ℕ} → wordOf w ≡ Head h n → h < H → startSays (Takes n) p ≡ takenAt (withHeads H) ws p
-  start-head {h} {n} says low = rw (lt-ltb h H low) at (start-says (Head h n) says)
+  begins : (x : Start) (sh : Shape) → shape (withHeads H) w ≡ sh → startSays x p ≡ taken sh w p → Begins x
+  begins x sh e h = rw (← k .is, lt-ltb p (length ws) (k .inside), e) h
 
-  pub start-no-head : {h n : ℕ} → wordOf w ≡ Head h n → H ≤ h → startSays Other p ≡ takenAt (withHeads H) ws p
-  start-no-head {h} {n} says high = rw (le-ltb h H high) at (start-says (Head h n) says)
+  no-start : isNameWord w ≡ false → isLiteralWord w ≡ false → isHeadWord (heads (withHeads H)) w ≡ false → Begins Other
+  no-start n l h = begins Other isBad (simp (n, l, h)) refl
 
-  -- of the kinds 1 to 3 it is none: it is a fresh variable, or below the heads
-  pub start-other : ¬ (leadingZeros 32 w ≡ 1) → ¬ (leadingZeros 32 w ≡ 2) → ¬ (leadingZeros 32 w ≡ 3) → startSays Other p ≡ takenAt (withHeads H) ws p
-  start-other one two three = go (leb freshBase w) refl
-    where
-      go : (b : Bool) → leb freshBase w ≡ b → startSays Other p ≡ takenAt (withHeads H) ws p
-      go true e =
-          let high = leb-true freshBase w e in
-          let most = heads-most H in
-          let none : isHeadWord (heads (withHeads H)) w ≡ false = false-above headBase (heads (withHeads H) * limit16) w (omega arith) in
-          rw (← k .is) (simp (lt-ltb p (length ws) (k .inside), false-above nameBase limit12 w (omega arith), false-above literalBase limit16 w (omega arith), none))
-      go false e =
-          let low = range-below 3 28 w refl three (range-below 2 29 w refl two (range-below 1 30 w refl one (leb-false freshBase w e))) in
-          let none : isHeadWord (heads (withHeads H)) w ≡ false = false-below headBase (heads (withHeads H) * limit16) w low in
-          rw (← k .is) (simp (lt-ltb p (length ws) (k .inside), false-below nameBase limit12 w (omega arith), false-below literalBase limit16 w (omega arith), none))
+  -- neither the names nor the literals nor the heads reach so far
+  start-high : literalBase + limit16 ≤ w → isNameWord w ≡ false → Begins Other
+  start-high lo n =
+      let most = heads-most H in
+      no-start n (false-above literalBase limit16 w lo) (false-above headBase (heads (withHeads H) * limit16) w (omega arith))
+
+  pub start-low : w < headBase → Begins Other
+  start-low low =
+      no-start (false-below nameBase limit12 w (omega arith)) (false-below literalBase limit16 w (omega arith))
+      (false-below headBase (heads (withHeads H) * limit16) w low)
+
+  -- from the literals up, the end of its kind tells whether it is a leaf
+  module _ (h : w < 2 ^ 32) (leaf : leadingZeros 32 w < 3) where
+    pub start-leaf : w < leafEnd (leadingZeros 32 w) → Begins (Takes 0)
+    start-leaf = go (ltb (leadingZeros 32 w) 2) refl
+      where
+        go : (b : Bool) → ltb (leadingZeros 32 w) 2 ≡ b → w < cond b (nameBase + limit12) (literalBase + limit16) → Begins (Takes 0)
+        go true e hi = begins (Takes 0) isLeaf (simp (true-within nameBase limit12 w (kind-below 2 30 w refl h (ltb-true _ 2 e)) hi)) refl
+        go false e hi =
+            let other = false-below nameBase limit12 w (kind-from 2 30 w refl h (ltb-false _ 2 e)) in
+            begins (Takes 0) isLeaf (simp (other, true-within literalBase limit16 w (kind-below 3 29 w refl h leaf) hi)) refl
+
+    pub start-no-leaf : leafEnd (leadingZeros 32 w) ≤ w → Begins Other
+    start-no-leaf = go (ltb (leadingZeros 32 w) 2) refl
+      where
+        go : (b : Bool) → ltb (leadingZeros 32 w) 2 ≡ b → cond b (nameBase + limit12) (literalBase + limit16) ≤ w → Begins Other
+        go true e lo = start-high (omega arith) (false-above nameBase limit12 w lo)
+        go false e lo = start-high lo (false-below nameBase limit12 w (kind-from 2 30 w refl h (ltb-false _ 2 e)))
+
+  -- a head, which its payload tells
+  module _ (lo : headBase ≤ w) (hi : w < literalBase) where
+    payload : w % headBase ≡ w - headBase
+    payload = omega arith
+
+    head-is : isHeadWord (heads (withHeads H)) w ≡ ltb (w % headBase / limit16) H
+    head-is = heads-below headBase (heads (withHeads H)) w lo ∙ rw payload (with-below H ((w - headBase) / limit16) (omega arith))
+
+    leaf-false : isNameWord w ≡ false
+    leaf-false = false-below nameBase limit12 w (omega arith)
+
+    pub start-head : w % headBase / limit16 < H → Begins (Takes (w % limit16))
+    start-head low =
+        let same : w % limit16 ≡ (w - headBase) % limit16 = omega arith in
+        let is = head-is ∙ lt-ltb _ H low in
+        begins (Takes (w % limit16)) isCall (simp (leaf-false, false-below literalBase limit16 w hi, is)) (rw same refl)
+
+    pub start-no-head : H ≤ w % headBase / limit16 → Begins Other
+    start-no-head high = no-start leaf-false (false-below literalBase limit16 w hi) (head-is ∙ le-ltb _ H high)
 
 -- ---- facts
 
@@ -189,7 +187,10 @@ pub fact-odd : (H : ℕ) {ws : List ℕ} {p n : ℕ} → There ws p (Equality n)
 fact-odd H {ws} {p} {n} t odd =
     let is = said (getD ws p 0) (t .says) (lit< tt) .0 in
     let other : eqb (getD ws p 0) equalityWord ≡ false = ne-eqb (getD ws p 0) equalityWord (λ e. odd (omega arith)) in
-    no-expression (withHeads H) ws maxDepth p (start-there H t) refl ∙ sym (fact-by (withHeads H) ws p false (rw (lt-ltb p (length ws) (t .inside), other)))
+    let here : Here ws p (getD ws p 0) = record { inside = t .inside; is = refl } in
+    let few = said (getD ws p 0) (t .says) (lit< tt) .1 in
+    let low = start-low H here (omega arith) in
+    no-expression (withHeads H) ws maxDepth p low refl ∙ sym (fact-by (withHeads H) ws p false (rw (lt-ltb p (length ws) (t .inside), other)))
 
 -- ---- the kind 3 word of a set, a delete or a subsume
 

@@ -1,13 +1,13 @@
 -- 01, "Words and records" and "Turned back": what the code answers for a written rule, refusals 5 and 6 included.
 -- The readings themselves are those of `rules`.
 -- Assumes nothing: these are definitions.
-use Prim.Native.Nat.{ℕ, _<_, min}
+use Prim.Native.Nat.{ℕ, _+_, _<_, min}
 use mathlib.Core.Path.{_≡_}
 use mathlib.Core.Bool.{false, cond}
 use mathlib.Core.List.{List}
 use lib.ListN.{length, getD, replicate}
 use lib.Dec.{ltb}
-use Rattle.rules.specs.Words.{limit12, countOf}
+use Rattle.rules.specs.Words.{limit12, limit16, nameBase, literalBase, countOf}
 use Rattle.rules.specs.Refusals.{Res, ok, refuse, unfit}
 use Rattle.rules.specs.Signature.{Sig}
 use Rattle.rules.specs.Written.{Read, Shape, isLeaf, isCall, isBad, shapeAt}
@@ -35,6 +35,10 @@ wholeOf ws (ok r) = walk 0 (length ws)
 wholeOf ws (refuse n p) = walk n p
 
 -- ---- how an expression begins
+
+-- where the leaves of a kind end: names are of kind 1, literals of kind 2
+abbrev pub leafEnd : (kind : ℕ) → ℕ
+leafEnd k = cond (ltb k 2) (nameBase + limit12) (literalBase + limit16)
 
 -- how an expression begins, for each case at p: with a word that takes so many arguments, or with none, which is refusal 5 there
 abbrev pub startSays : Start → (p : ℕ) → Res ℕ

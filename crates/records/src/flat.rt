@@ -24,9 +24,9 @@ ghost use Rattle.records.specs.Written.{withHeads, walkOf, wholeOf};
 ghost use Rattle.records.specs.Flat.{takenSays, termAt, firstSays, firstAt, readBehind};
 
 // The refusals' numbers.
-pub const NO_TERMS: u32 = 11;
+pub const NO_TERMS: usize = 11;
 
-pub const NOT_TWO: u32 = 12;
+pub const NOT_TWO: usize = 12;
 
 // ---- terms
 

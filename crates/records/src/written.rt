@@ -15,16 +15,22 @@ ghost use lib.ListN.{length};
 ghost use Rattle.octets.specs.Words.{words};
 ghost use Rattle.rules.specs.Words.{maxDepth, aLet, aSet, aPanic};
 ghost use Rattle.rules.specs.Written.{readMany, readExpr, readTarget, readEqual, readFact, readCode, readAction, readWritten};
-ghost use Rattle.records.specs.Written.{withHeads, walkOf, wholeOf, startSays, takenAt, Starts};
+ghost use Rattle.records.specs.Written.{withHeads, walkOf, wholeOf, leafEnd, startSays, takenAt, Starts};
 
 // The refusals' numbers.
-pub const UNFIT: u32 = 5;
+pub const UNFIT: usize = 5;
 
-pub const TOO_DEEP: u32 = 6;
+pub const TOO_DEEP: usize = 6;
 
-// What a walk answers: with 0, the index after what it read; else a refusal's number and place.
+// The first words that are no name and no literal any more.
+const NAME_END: u32 = NAME_BASE + LIMIT_12;
+
+const LITERAL_END: u32 = LITERAL_BASE + LIMIT_16;
+
+// What a walk answers: with 0, the index after what it read; else a refusal's number and place. The number is as wide as the place, so that there is no gap
+// between them: a processor waits where a struct with a gap is copied soon after it was written.
 pub struct Walk {
-    pub refused: u32,
+    pub refused: usize,
     pub at: usize,
 }
 
@@ -34,8 +40,15 @@ enum Start {
     Other,
 }
 
-// How the expression at an index begins, if one does. The count of leading zeros tells a name, a literal and a head; it is asked of nearly every word, so
-// no more is told than is wanted here.
+// Where the leaves of a kind end: the names are of kind 1, the literals of kind 2. A fresh variable, of kind 0, lies behind the end of the names.
+fn leaf_end(kind: u32) -> u32
+    ensures { λ r. ⌜ r ≡ leafEnd kind ⌝ }
+{
+    if kind < 2 { NAME_END } else { LITERAL_END }
+}
+
+// How the expression at an index begins, if one does. The count of leading zeros tells a leaf from a head. It is asked of nearly every word, and whether a
+// leaf is a name or a literal can't be foreseen: so the ends of both are compared in one way, and no branch depends on which of them it is.
 fn start_at(rule: &[u8], heads: u32, at: usize) -> Start
     ensures { λ r. ⌜ startSays r at ≡ takenAt (withHeads heads) (words (now (rule .entry))) at ⌝ }
 {
@@ -44,30 +57,19 @@ fn start_at(rule: &[u8], heads: u32, at: usize) -> Start
     }
     let w = octets::get(rule, at);
     let kind = u32::leading_zeros(w);
-    match kind {
-        1 => {
-            if w - NAME_BASE < LIMIT_12 {
-                Start::Takes(0)
-            } else {
-                Start::Other
-            }
+    if kind < 3 {
+        if w < leaf_end(kind) {
+            return Start::Takes(0);
         }
-        2 => {
-            if w - LITERAL_BASE < LIMIT_16 {
-                Start::Takes(0)
-            } else {
-                Start::Other
-            }
-        }
-        3 => {
-            let p = w - HEAD_BASE;
-            if p / LIMIT_16 < heads {
-                Start::Takes(p % LIMIT_16)
-            } else {
-                Start::Other
-            }
-        }
-        _ => Start::Other,
+        return Start::Other;
+    }
+    if 3 < kind {
+        return Start::Other;
+    }
+    if w % HEAD_BASE / LIMIT_16 < heads {
+        Start::Takes(w % LIMIT_16)
+    } else {
+        Start::Other
     }
 }
 
@@ -118,18 +120,21 @@ fn arguments(rule: &[u8], heads: u32, at: usize, count: u32, depth: u32) -> Walk
     }
 }
 
-// `count` expressions that stand in no other.
-fn all_outermost(rule: &[u8], heads: u32, at: usize, count: u32) -> Walk
-    ensures { λ r. ⌜ r ≡ walkOf (readMany (readExpr (withHeads heads) (words (now (rule .entry))) maxDepth) count at) ⌝ }
-{
-    arguments(rule, heads, at, count, MAX_DEPTH)
-}
-
-// An expression that stands in no other.
+// An expression that stands in no other. Most have no arguments or few: what begins here is told at once, and only arguments are walked.
 fn outermost(rule: &[u8], heads: u32, at: usize) -> Walk
     ensures { λ r. ⌜ r ≡ walkOf (readExpr (withHeads heads) (words (now (rule .entry))) maxDepth at) ⌝ }
 {
-    all_outermost(rule, heads, at, 1)
+    let Start::Takes(some) = start_at(rule, heads, at) else {
+        return Walk { refused: UNFIT, at };
+    };
+    let next = at + 1;
+    if some == 0 {
+        return Walk {
+            refused: 0,
+            at: next,
+        };
+    }
+    arguments(rule, heads, next, some, MAX_DEPTH - 1)
 }
 
 // The two expressions behind the word at an index, which is an equality's or a union's.
@@ -137,7 +142,7 @@ fn pair(rule: &[u8], heads: u32, at: usize) -> Walk
     requires { ⌜ at < length (words (now rule)) ⌝ }
     ensures { λ r. ⌜ r ≡ walkOf (readEqual (withHeads heads) (words (now (rule .entry))) at) ⌝ }
 {
-    all_outermost(rule, heads, at + 1, 2)
+    arguments(rule, heads, at + 1, 2, MAX_DEPTH)
 }
 
 // A fact: an expression, or an equality of two.
@@ -164,7 +169,7 @@ fn target(rule: &[u8], heads: u32, at: usize) -> Walk
         return Walk { refused: UNFIT, at };
     };
     if head < heads {
-        all_outermost(rule, heads, at + 1, count)
+        arguments(rule, heads, at + 1, count, MAX_DEPTH)
     } else {
         Walk { refused: UNFIT, at }
     }
@@ -200,7 +205,7 @@ fn set_action(rule: &[u8], heads: u32, at: usize) -> Walk
         };
     };
     if head < heads {
-        all_outermost(rule, heads, set + 1, count + 1)
+        arguments(rule, heads, set + 1, count + 1, MAX_DEPTH)
     } else {
         Walk {
             refused: UNFIT,

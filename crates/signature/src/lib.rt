@@ -13,7 +13,7 @@ ghost use Rattle.rules.specs.Words.{signatureBase, within};
 ghost use Rattle.signature.specs.Signature.{signOf, payloadSays, allKinds, firstBad, Begins};
 
 // The refusal's number.
-pub const BAD_SIGNATURE: u32 = 1;
+pub const BAD_SIGNATURE: usize = 1;
 
 // G is at most 4,096, so one of so many numbers.
 const GLOBALS: u32 = LIMIT_12 + 1;
@@ -27,7 +27,7 @@ const NO_KIND: u32 = SIGNATURE_BASE + 3;
 
 // H, G, the value-eq head and the union-to-set flag; or refusal 1 and its place.
 pub struct Signature {
-    pub refused: u32,
+    pub refused: usize,
     pub place: usize,
     pub heads: u32,
     pub globals: u32,

@@ -46,6 +46,20 @@ kind-from k j w e h z =
     let t = leading-length 32 w h in
     lt-of-lt-of-le (t .2) (pow-mono {i = t .0} {j = j} (omega (arith, t .1)))
 
+-- fewer: a kind below k
+pub kind-below : (k j w : ℕ) → k + j ≡ 32 → w < 2 ^ 32 → leadingZeros 32 w < k → 2 ^ j ≤ w
+kind-below k j w e h z = ⊎-elim none some (eq-zero-or-pos w)
+  where
+    none : w ≡ zero → 2 ^ j ≤ w
+    none w0 =
+        let all : leadingZeros 32 w ≡ 32 = ap (leadingZeros 32) w0 ∙ leading-of-zero 32 in
+        absurd (omega arith)
+
+    some : zero < w → 2 ^ j ≤ w
+    some p =
+        let t = leading-top 32 w p h in
+        omega (arith, pow-mono {i = j} {j = t .0} (omega (arith, t .1)), t .2)
+
 -- a number from n up that is not n
 pub past : {n x : ℕ} → n ≤ x → (x ≡ n → ⊥) → suc n ≤ x
 past h f = omega arith

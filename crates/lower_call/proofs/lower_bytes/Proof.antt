@@ -158,6 +158,9 @@ at-beyond c = let g = good c .lower-good in beyond-lent (at-lent (good-lent c)) 
 abbrev then-good : tie.Then3 → tie.After-slice-known5
 then-good c = c .before .before .before .before
 
+cast-refused : tie.Need-cast-refused
+cast-refused c = search needs
+
 refused-requires-3 : tie.Need-refused-requires-3
 refused-requires-3 c κs = search needs
 
@@ -172,8 +175,9 @@ same-length-9 c = search needs
 
 returns-3 : tie.Need-returns-3
 returns-3 c =
-    let g = then-good (c .before) in
-    (lower-gives (else-given (good-front g)) (rule-refused (at-good g) (c .before .if3 .taken) (c .refused3 .ensures)), at-beyond g)
+    let t = c .before .before in
+    let g = then-good t in
+    (lower-gives (else-given (good-front g)) (rule-refused (at-good g) (t .if3 .taken) (c .refused3 .ensures)), at-beyond g)
 
 -- ---- room for it
 
@@ -245,6 +249,7 @@ lower-bytes-spec =
     slice-relend-prefix-lower-good
     slice-aggregate-lower-good
     lower-good-requires
+    cast-refused
     refused-requires-3
     same-length-7
     same-length-8

@@ -9,16 +9,16 @@ use borrow.Author.Needs.{needs}
 use Rattle.records.proofs.written.pair.Statement.{statement}
 use Rattle.records.proofs.written.pair.Tie as tie
 
-add-all-outermost : tie.Need-add-all-outermost
-add-all-outermost c = omega (arith, length-words (c .before .args .rule .now))
+add-arguments : tie.Need-add-arguments
+add-arguments c = omega (arith, length-words (c .before .args .rule .now))
 
-all-outermost-requires : tie.Need-all-outermost-requires
-all-outermost-requires c κs = search needs
+arguments-requires : tie.Need-arguments-requires
+arguments-requires c κs = search needs
 
 returns : tie.Need-returns
 returns c =
     let a = c .before .before .args in
-    c .all-outermost .ensures ∙ pair-goes (withHeads (a .heads)) (words (a .rule .now)) (a .at)
+    c .arguments .ensures ∙ pair-goes (withHeads (a .heads)) (words (a .rule .now)) (a .at)
 
 pub pair-spec : {M : Type 1} → statement M
-pair-spec = tie.close (tie.spec add-all-outermost all-outermost-requires returns)
+pair-spec = tie.close (tie.spec add-arguments arguments-requires returns)

@@ -40,20 +40,20 @@ at-word : (c : tie.After-known-told)
     There (words (a .rule .now)) (a .at + 1) (Head (g .0) (g .1 .0))
 at-word c = there (told c .word-at .ensures) (c .before .w .given .1) (lit< tt)
 
-add-all-outermost : tie.Need-add-all-outermost
-add-all-outermost c = let t = c .before in omega (arith, at-word t .inside, length-words (start (told t) .args .rule .now))
+add-arguments : tie.Need-add-arguments
+add-arguments c = let t = c .before in omega (arith, at-word t .inside, length-words (start (told t) .args .rule .now))
 
-add-all-outermost-2 : tie.Need-add-all-outermost-2
-add-all-outermost-2 c = omega (arith, head-count (at-word (c .before)))
+add-arguments-2 : tie.Need-add-arguments-2
+add-arguments-2 c = omega (arith, head-count (at-word (c .before)))
 
-all-outermost-requires : tie.Need-all-outermost-requires
-all-outermost-requires c κs = search needs
+arguments-requires : tie.Need-arguments-requires
+arguments-requires c κs = search needs
 
 returns-2 : tie.Need-returns-2
 returns-2 c =
     let t = c .before .before in
     let a = start (told t) .args in
-    c .all-outermost .ensures ∙ set-goes (a .heads) (a .at) (at-word t) (c .before .if1 .taken)
+    c .arguments .ensures ∙ set-goes (a .heads) (a .at) (at-word t) (c .before .if1 .taken)
 
 returns-3 : tie.Need-returns-3
 returns-3 c = let a = start (told (c .before)) .args in set-high (a .heads) (a .at) (at-word (c .before)) (c .if1 .left)
@@ -66,8 +66,8 @@ set-action-spec =
     word-at-requires
     enum-known-w
     returns
-    add-all-outermost
-    add-all-outermost-2
-    all-outermost-requires
+    add-arguments
+    add-arguments-2
+    arguments-requires
     returns-2
     returns-3)

@@ -34,14 +34,14 @@ at-word : (c : tie.After-known-told)
     There (words (a .rule .now)) (a .at) (Head (g .0) (g .1 .0))
 at-word c = there (told c .word-at .ensures) (c .before .w .given .1) (lit< tt)
 
-add-all-outermost : tie.Need-add-all-outermost
-add-all-outermost c = let t = c .before in omega (arith, at-word t .inside, length-words (start (told t) .args .rule .now))
+add-arguments : tie.Need-add-arguments
+add-arguments c = let t = c .before in omega (arith, at-word t .inside, length-words (start (told t) .args .rule .now))
 
-all-outermost-requires : tie.Need-all-outermost-requires
-all-outermost-requires c κs = search needs
+arguments-requires : tie.Need-arguments-requires
+arguments-requires c κs = search needs
 
 returns-2 : tie.Need-returns-2
-returns-2 c = let t = c .before .before in c .all-outermost .ensures ∙ target-goes (start (told t) .args .heads) (at-word t) (c .before .if1 .taken)
+returns-2 c = let t = c .before .before in c .arguments .ensures ∙ target-goes (start (told t) .args .heads) (at-word t) (c .before .if1 .taken)
 
 returns-3 : tie.Need-returns-3
 returns-3 c = target-high (start (told (c .before)) .args .heads) (at-word (c .before)) (c .if1 .left)
@@ -53,7 +53,7 @@ target-spec =
     word-at-requires
     enum-known-w
     returns
-    add-all-outermost
-    all-outermost-requires
+    add-arguments
+    arguments-requires
     returns-2
     returns-3)
