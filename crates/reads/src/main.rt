@@ -110,12 +110,12 @@ fn written_rule(bytes: &[u8], heads: u32) -> Walk
     }
 }
 
-// What a flat rule comes to, likewise.
+// What a flat rule comes to, likewise. Which of its names are globals does not matter to that.
 fn flat_rule(bytes: &[u8], heads: u32) -> Walk
     ensures { λ r. ⌜ r ≡ wholeOf (words (now (bytes .entry))) (flatAlone heads (words (now (bytes .entry)))) ⌝ }
 {
     if records::length_fits(bytes, records::MAX_FLAT) {
-        return records::flat::flat(bytes, heads);
+        return records::flat::flat(bytes, heads, 0);
     }
     Walk {
         refused: BAD_LENGTH,

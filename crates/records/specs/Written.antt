@@ -15,9 +15,13 @@ use Rattle.records.specs.declared.written.Walk.{Walk}
 use Rattle.records.specs.declared.written.Start.{Start}
 use Rattle.records.specs.declared.written.Start.the-variants.{Takes, Other}
 
--- a signature of H heads; a kind 3 word can tell 4,096 of them apart, and no signature has more. Reading a written rule asks nothing else of a signature
+-- a signature of H heads and G globals; a kind 3 word can tell 4,096 heads apart, and no signature has more. Of a signature, reading a rule asks nothing else
+abbrev pub withGlobals : (heads globals : ℕ) → Sig
+withGlobals H G = record { globals = G; valueEq = 0; flag = false; kinds = replicate (min H limit12) 0 }
+
+-- G tells what a name is taken as; whether a rule is good does not depend on it
 abbrev pub withHeads : ℕ → Sig
-withHeads H = record { globals = 0; valueEq = 0; flag = false; kinds = replicate (min H limit12) 0 }
+withHeads H = withGlobals H 0
 
 -- ---- the answers
 

@@ -5,7 +5,6 @@ use super::rows::whole;
 use super::written::UNFIT;
 use super::written::Walk;
 use words::Atom;
-use words::EQUALITY_BASE;
 use words::FRESH_BASE;
 use words::HeadOrEq;
 use words::LIMIT_12;
@@ -20,13 +19,13 @@ ghost use Rattle.octets.specs.Words.{words};
 ghost use Rattle.rules.specs.Words.{isNameWord, isLiteralWord, aLet, aSet, aCall};
 ghost use Rattle.rules.specs.Written.{readWord, readRow};
 ghost use Rattle.rules.specs.Flat.{isTarget, readTerm, readTerms, readAtom, readCoreAction, readFlat};
-ghost use Rattle.records.specs.Written.{withHeads, walkOf, wholeOf};
+ghost use Rattle.records.specs.Written.{withHeads, withGlobals, walkOf, wholeOf};
 ghost use Rattle.records.specs.Flat.{takenSays, termAt, firstSays, firstAt, readBehind};
 
 // The refusals' numbers.
-pub const NO_TERMS: usize = 11;
+const NO_TERMS: usize = 11;
 
-pub const NOT_TWO: usize = 12;
+const NOT_TWO: usize = 12;
 
 // ---- terms
 
@@ -84,10 +83,10 @@ enum Taken {
     Nothing,
 }
 
-// The term at an index: a fresh variable of a head below H, which is at most 4,096, a name or a literal. The count of leading zeros tells which. Whether a
-// name is a global's is not asked in reading, so that it is taken as a variable.
-fn term_at(rule: &[u8], heads: u32, at: usize) -> Taken
-    ensures { λ r. ⌜ takenSays r at ≡ termAt (withHeads heads) (words (now (rule .entry))) at ⌝ }
+// The term at an index: a fresh variable of a head below H, which is at most 4,096, a name, which is a global's below G, or a literal. The count of leading
+// zeros tells which.
+fn term_at(rule: &[u8], heads: u32, globals: u32, at: usize) -> Taken
+    ensures { λ r. ⌜ takenSays r at ≡ termAt (withGlobals heads globals) (words (now (rule .entry))) at ⌝ }
 {
     if octets::count(rule) <= at {
         return Taken::Nothing;
@@ -98,21 +97,21 @@ fn term_at(rule: &[u8], heads: u32, at: usize) -> Taken
         0 => {
             let head = (w - FRESH_BASE) / LIMIT_16;
             if (head < heads) & (head < LIMIT_12) {
-                Taken::Term(Term::Var(w))
+                Taken::Term(words::term_of(w, globals))
             } else {
                 Taken::Nothing
             }
         }
         1 => {
             if w - NAME_BASE < LIMIT_12 {
-                Taken::Term(Term::Var(w))
+                Taken::Term(words::term_of(w, globals))
             } else {
                 Taken::Nothing
             }
         }
         2 => {
             if w - LITERAL_BASE < LIMIT_16 {
-                Taken::Term(Term::Literal(w))
+                Taken::Term(words::term_of(w, globals))
             } else {
                 Taken::Nothing
             }
@@ -122,10 +121,10 @@ fn term_at(rule: &[u8], heads: u32, at: usize) -> Taken
 }
 
 // A term: what may be bound, or a literal.
-fn term(rule: &[u8], heads: u32, at: usize) -> Walk
+fn term(rule: &[u8], heads: u32, globals: u32, at: usize) -> Walk
     ensures { λ r. ⌜ r ≡ walkOf (readTerm (withHeads heads) (words (now (rule .entry))) at) ⌝ }
 {
-    let taken = term_at(rule, heads, at);
+    let taken = term_at(rule, heads, globals, at);
     let Taken::Term(_) = taken else {
         return Walk { refused: UNFIT, at };
     };
@@ -136,13 +135,13 @@ fn term(rule: &[u8], heads: u32, at: usize) -> Walk
 }
 
 // `count` terms, one after the other, each of one word.
-fn terms(rule: &[u8], heads: u32, at: usize, count: u32) -> Walk
+fn terms(rule: &[u8], heads: u32, globals: u32, at: usize, count: u32) -> Walk
     ensures { λ r. ⌜ r ≡ walkOf (readRow (readTerm (withHeads heads) (words (now (rule .entry)))) count at) ⌝ }
 {
     let mut next = at;
     let mut left = count;
     while 0 < left {
-        let taken = term_at(rule, heads, next);
+        let taken = term_at(rule, heads, globals, next);
         let Taken::Term(_) = taken else {
             return Walk {
                 refused: UNFIT,
@@ -173,17 +172,15 @@ fn first_at(rule: &[u8], at: usize) -> First
         return First::Other;
     }
     let w = octets::get(rule, at);
-    if w < EQUALITY_BASE {
-        return First::Other;
+    let kind = u32::leading_zeros(w);
+    match kind {
+        3..=4 => First::Atom(words::atom_of(w, at)),
+        _ => First::Other,
     }
-    if LITERAL_BASE <= w {
-        return First::Other;
-    }
-    First::Atom(words::atom_of(w, at))
 }
 
 // An atom: a head below H with one term or more, or the equality of two. A word that does not fit is a 5, whatever its count.
-pub fn atom(rule: &[u8], heads: u32, at: usize) -> Walk
+pub fn atom(rule: &[u8], heads: u32, globals: u32, at: usize) -> Walk
     ensures { λ r. ⌜ r ≡ walkOf (readAtom (withHeads heads) (words (now (rule .entry))) at) ⌝ }
 {
     let first = first_at(rule, at);
@@ -195,7 +192,7 @@ pub fn atom(rule: &[u8], heads: u32, at: usize) -> Walk
     match head {
         HeadOrEq::Eq => {
             if count == 2 {
-                terms(rule, heads, atom.terms, count)
+                terms(rule, heads, globals, atom.terms, count)
             } else {
                 Walk {
                     refused: NOT_TWO,
@@ -213,22 +210,22 @@ pub fn atom(rule: &[u8], heads: u32, at: usize) -> Walk
                     at,
                 };
             }
-            terms(rule, heads, atom.terms, count)
+            terms(rule, heads, globals, atom.terms, count)
         }
     }
 }
 
 // `count` atoms, one after the other.
-pub fn atoms(rule: &[u8], heads: u32, at: usize, count: u32) -> Walk
+pub fn atoms(rule: &[u8], heads: u32, globals: u32, at: usize, count: u32) -> Walk
     ensures { λ r. ⌜ r ≡ walkOf (readRow (readAtom (withHeads heads) (words (now (rule .entry)))) count at) ⌝ }
 {
-    row(rule, heads, at, count, Item::Atom)
+    row(rule, heads, globals, at, count, Item::Atom)
 }
 
 // ---- actions
 
 // A kind 3 word and its terms.
-fn head_terms(rule: &[u8], heads: u32, at: usize) -> Walk
+fn head_terms(rule: &[u8], heads: u32, globals: u32, at: usize) -> Walk
     ensures { λ r. ⌜ r ≡ walkOf (readTerms (withHeads heads) (words (now (rule .entry))) at) ⌝ }
 {
     let w = word_at(rule, at);
@@ -236,47 +233,47 @@ fn head_terms(rule: &[u8], heads: u32, at: usize) -> Walk
         return Walk { refused: UNFIT, at };
     };
     if head < heads {
-        terms(rule, heads, at + 1, count)
+        terms(rule, heads, globals, at + 1, count)
     } else {
         Walk { refused: UNFIT, at }
     }
 }
 
 // What a let binds, and its term.
-fn let_action(rule: &[u8], heads: u32, at: usize) -> Walk
+fn let_action(rule: &[u8], heads: u32, globals: u32, at: usize) -> Walk
     ensures { λ r. ⌜ r ≡ walkOf (readBehind (withHeads heads) (words (now (rule .entry))) aLet at) ⌝ }
 {
     let bound = target(rule, heads, at);
     if bound.refused != 0 {
         return bound;
     }
-    term(rule, heads, bound.at)
+    term(rule, heads, globals, bound.at)
 }
 
 // A set's kind 3 word with its terms, and the value.
-fn set_action(rule: &[u8], heads: u32, at: usize) -> Walk
+fn set_action(rule: &[u8], heads: u32, globals: u32, at: usize) -> Walk
     ensures { λ r. ⌜ r ≡ walkOf (readBehind (withHeads heads) (words (now (rule .entry))) aSet at) ⌝ }
 {
-    let inputs = head_terms(rule, heads, at);
+    let inputs = head_terms(rule, heads, globals, at);
     if inputs.refused != 0 {
         return inputs;
     }
-    term(rule, heads, inputs.at)
+    term(rule, heads, globals, inputs.at)
 }
 
 // What a call's answer is bound to, and its kind 3 word with its terms.
-fn call_action(rule: &[u8], heads: u32, at: usize) -> Walk
+fn call_action(rule: &[u8], heads: u32, globals: u32, at: usize) -> Walk
     ensures { λ r. ⌜ r ≡ walkOf (readBehind (withHeads heads) (words (now (rule .entry))) aCall at) ⌝ }
 {
     let bound = target(rule, heads, at);
     if bound.refused != 0 {
         return bound;
     }
-    head_terms(rule, heads, bound.at)
+    head_terms(rule, heads, globals, bound.at)
 }
 
 // An action: its code, and what the code asks for. Action 8 is not flat.
-pub fn action(rule: &[u8], heads: u32, at: usize) -> Walk
+pub fn action(rule: &[u8], heads: u32, globals: u32, at: usize) -> Walk
     ensures { λ r. ⌜ r ≡ walkOf (readCoreAction (withHeads heads) (words (now (rule .entry))) at) ⌝ }
 {
     let w = word_at(rule, at);
@@ -285,12 +282,12 @@ pub fn action(rule: &[u8], heads: u32, at: usize) -> Walk
     };
     let next = at + 1;
     match code {
-        1 => let_action(rule, heads, next),
-        2 => set_action(rule, heads, next),
-        3..=4 => head_terms(rule, heads, next),
-        5 => terms(rule, heads, next, 2),
+        1 => let_action(rule, heads, globals, next),
+        2 => set_action(rule, heads, globals, next),
+        3..=4 => head_terms(rule, heads, globals, next),
+        5 => terms(rule, heads, globals, next, 2),
         6 => literal(rule, next),
-        7 => call_action(rule, heads, next),
+        7 => call_action(rule, heads, globals, next),
         _ => Walk { refused: UNFIT, at },
     }
 }
@@ -298,8 +295,8 @@ pub fn action(rule: &[u8], heads: u32, at: usize) -> Walk
 // ---- rules
 
 // A whole flat rule, with nothing behind it.
-pub fn flat(rule: &[u8], heads: u32) -> Walk
+pub fn flat(rule: &[u8], heads: u32, globals: u32) -> Walk
     ensures { λ r. ⌜ r ≡ wholeOf (words (now (rule .entry))) (readFlat (withHeads heads) (words (now (rule .entry)))) ⌝ }
 {
-    whole(rule, heads, Item::Atom, Item::CoreAction)
+    whole(rule, heads, globals, Item::Atom, Item::CoreAction)
 }

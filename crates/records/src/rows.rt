@@ -19,26 +19,26 @@ pub enum Item {
     CoreAction,
 }
 
-// One of them.
-fn one(rule: &[u8], heads: u32, at: usize, of: Item) -> Walk
+// One of them. G tells which terms are globals; an expression is read without that.
+fn one(rule: &[u8], heads: u32, globals: u32, at: usize, of: Item) -> Walk
     ensures { λ r. ⌜ r ≡ walkOf (readItem of (withHeads heads) (words (now (rule .entry))) at) ⌝ }
 {
     match of {
         Item::Fact => written::fact(rule, heads, at),
         Item::Action => written::action(rule, heads, at),
-        Item::Atom => flat::atom(rule, heads, at),
-        Item::CoreAction => flat::action(rule, heads, at),
+        Item::Atom => flat::atom(rule, heads, globals, at),
+        Item::CoreAction => flat::action(rule, heads, globals, at),
     }
 }
 
 // `count` of them, one after the other.
-pub fn row(rule: &[u8], heads: u32, at: usize, count: u32, of: Item) -> Walk
+pub fn row(rule: &[u8], heads: u32, globals: u32, at: usize, count: u32, of: Item) -> Walk
     ensures { λ r. ⌜ r ≡ walkOf (readRow (readItem of (withHeads heads) (words (now (rule .entry)))) count at) ⌝ }
 {
     let mut next = at;
     let mut left = count;
     while 0 < left {
-        let read = one(rule, heads, next, of);
+        let read = one(rule, heads, globals, next, of);
         if read.refused != 0 {
             return read;
         }
@@ -52,25 +52,25 @@ pub fn row(rule: &[u8], heads: u32, at: usize, count: u32, of: Item) -> Walk
 }
 
 // A rule that begins at an index, of a list that may go on behind it: its header, a row of what its body holds, and a row of its actions.
-fn rule_at(rule: &[u8], heads: u32, at: usize, body: Item, head: Item) -> Walk
+fn rule_at(rule: &[u8], heads: u32, globals: u32, at: usize, body: Item, head: Item) -> Walk
     ensures { λ r. ⌜ r ≡ walkOf (readHeaded body head (withHeads heads) (words (now (rule .entry))) at) ⌝ }
 {
     let w = word_at(rule, at);
     let Word::Header(some, more) = w else {
         return Walk { refused: UNFIT, at };
     };
-    let read = row(rule, heads, at + 1, some, body);
+    let read = row(rule, heads, globals, at + 1, some, body);
     if read.refused != 0 {
         return read;
     }
-    row(rule, heads, read.at, more, head)
+    row(rule, heads, globals, read.at, more, head)
 }
 
 // A whole rule, with nothing behind it.
-pub fn whole(rule: &[u8], heads: u32, body: Item, head: Item) -> Walk
+pub fn whole(rule: &[u8], heads: u32, globals: u32, body: Item, head: Item) -> Walk
     ensures { λ r. ⌜ r ≡ wholeOf (words (now (rule .entry))) (readWhole body head (withHeads heads) (words (now (rule .entry)))) ⌝ }
 {
-    let read = rule_at(rule, heads, 0, body, head);
+    let read = rule_at(rule, heads, globals, 0, body, head);
     if read.refused != 0 {
         return read;
     }

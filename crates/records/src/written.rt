@@ -20,7 +20,7 @@ ghost use Rattle.records.specs.Written.{withHeads, walkOf, wholeOf, leaf
 // The refusals' numbers.
 pub const UNFIT: usize = 5;
 
-pub const TOO_DEEP: usize = 6;
+const TOO_DEEP: usize = 6;
 
 // The first words that are no name and no literal any more.
 const NAME_END: u32 = NAME_BASE + LIMIT_12;
@@ -252,9 +252,9 @@ pub fn action(rule: &[u8], heads: u32, at: usize) -> Walk
     }
 }
 
-// A whole written rule, with nothing behind it.
+// A whole written rule, with nothing behind it. Which of its names are globals is not asked here, so any G would do.
 pub fn written(rule: &[u8], heads: u32) -> Walk
     ensures { λ r. ⌜ r ≡ wholeOf (words (now (rule .entry))) (readWritten (withHeads heads) (words (now (rule .entry)))) ⌝ }
 {
-    whole(rule, heads, Item::Fact, Item::Action)
+    whole(rule, heads, 0, Item::Fact, Item::Action)
 }

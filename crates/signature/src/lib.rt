@@ -13,7 +13,7 @@ ghost use Rattle.rules.specs.Words.{signatureBase, within};
 ghost use Rattle.signature.specs.Signature.{signOf, payloadSays, allKinds, firstBad, Begins};
 
 // The refusal's number.
-pub const BAD_SIGNATURE: usize = 1;
+const BAD_SIGNATURE: usize = 1;
 
 // G is at most 4,096, so one of so many numbers.
 const GLOBALS: u32 = LIMIT_12 + 1;
@@ -36,7 +36,7 @@ pub struct Signature {
 }
 
 // A payload of the signature's first words.
-pub enum Payload {
+enum Payload {
     Fits(u32),
     Unfit,
 }

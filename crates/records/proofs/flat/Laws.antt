@@ -26,7 +26,7 @@ use Rattle.meaning.proofs.Lists.{and-left}
 use Rattle.meaning.proofs.Results.{ok-inj}
 use Rattle.records.specs.Flat.{AtomNumbers, atomNumbers, numbersFrom, takenSays, isTermAt, termAt, firstSays, firstAt, readBehind}
 use Rattle.records.specs.declared.written.Walk.{Walk}
-use Rattle.records.specs.Written.{withHeads, walk, walkOf}
+use Rattle.records.specs.Written.{withHeads, withGlobals, walk, walkOf}
 use Rattle.records.proofs.WrittenWalk.{Went, stops, made, both, row, then-then}
 use Rattle.words.proofs.WordAt.{Here, There, NotKind}
 use Rattle.records.proofs.Expected.{word-fits, word-unfit, heads-with, heads-most, head-with, head-other, head-high, head-fits, head-count}
@@ -100,11 +100,11 @@ module _ (H w : ℕ) where
 pub no-word : (s : Sig) (ws : List ℕ) (p : ℕ) → length ws ≤ p → takenSays Taken.Nothing p ≡ termAt s ws p
 no-word s ws p l = rw (le-ltb p (length ws) l)
 
-module _ (H : ℕ) {ws : List ℕ} {p w : ℕ} (k : Here ws p w) where
-  pub term-fits : {t : Term} → isTerm (withHeads H) w ≡ true → TermSays t 0 w → takenSays (Taken.Term t) p ≡ termAt (withHeads H) ws p
+module _ (H G : ℕ) {ws : List ℕ} {p w : ℕ} (k : Here ws p w) where
+  pub term-fits : {t : Term} → isTerm (withHeads H) w ≡ true → TermSays t G w → takenSays (Taken.Term t) p ≡ termAt (withGlobals H G) ws p
   term-fits fits says = rw (← k .is, lt-ltb p (length ws) (k .inside), fits) (λ i. ok (record { numberIs = says .numberIs i; wordIs = says .wordIs i }))
 
-  pub term-none : isTerm (withHeads H) w ≡ false → takenSays Taken.Nothing p ≡ termAt (withHeads H) ws p
+  pub term-none : isTerm (withHeads H) w ≡ false → takenSays Taken.Nothing p ≡ termAt (withGlobals H G) ws p
   term-none none = rw (← k .is, lt-ltb p (length ws) (k .inside), none)
 
 -- and what that tells

@@ -2,7 +2,7 @@
 use native.Mathlib.Omega.{arith}
 use Rattle.octets.specs.Words.{words}
 use Rattle.octets.proofs.Words.{length-words}
-use Rattle.records.specs.Written.{withHeads}
+use Rattle.records.specs.Written.{withGlobals}
 use Rattle.records.proofs.flat.Laws.{term-inside, term-taken, term-refused}
 use borrow.Author.Needs.{needs}
 use Rattle.records.proofs.flat.term.Statement.{statement}
@@ -21,20 +21,20 @@ returns : tie.Need-returns
 returns c =
     let t = c .before .before in
     let a = t .before .before .args in
-    term-refused (withHeads (a .heads)) (words (a .rule .now)) (a .at) (t .term-at .ensures) (c .enum-told2 .given .1)
+    term-refused (withGlobals (a .heads) (a .globals)) (words (a .rule .now)) (a .at) (t .term-at .ensures) (c .enum-told2 .given .1)
 
-add-t5 : tie.Need-add-t5
-add-t5 c =
+add-t6 : tie.Need-add-t6
+add-t6 c =
     let t = c .before .before in
     let a = t .before .before .args in
-    let here = term-inside (withHeads (a .heads)) (words (a .rule .now)) (a .at) (t .term-at .ensures) (c .enum-told .given .1) in
+    let here = term-inside (withGlobals (a .heads) (a .globals)) (words (a .rule .now)) (a .at) (t .term-at .ensures) (c .enum-told .given .1) in
     omega (arith, length-words (a .rule .now))
 
 returns-2 : tie.Need-returns-2
 returns-2 c =
     let t = c .before .before in
     let a = t .before .before .args in
-    term-taken (withHeads (a .heads)) (words (a .rule .now)) (a .at) (t .term-at .ensures) (c .enum-told .given .1)
+    term-taken (withGlobals (a .heads) (a .globals)) (words (a .rule .now)) (a .at) (t .term-at .ensures) (c .enum-told .given .1)
 
 pub term-spec : {M : Type 1} → statement M
-term-spec = tie.close (tie.spec term-at-requires enum-told enum-told-2 returns add-t5 returns-2)
+term-spec = tie.close (tie.spec term-at-requires enum-told enum-told-2 returns add-t6 returns-2)

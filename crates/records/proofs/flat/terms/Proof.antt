@@ -6,7 +6,7 @@ use native.Mathlib.Omega.{arith}
 use Rattle.octets.specs.Words.{words}
 use Rattle.octets.proofs.Words.{length-words}
 use Rattle.rules.specs.Signature.{Sig}
-use Rattle.records.specs.Written.{withHeads}
+use Rattle.records.specs.Written.{withGlobals}
 use Rattle.records.proofs.WrittenWalk.{Left, left-start, left-stops, left-next, left-end}
 use Rattle.records.proofs.flat.Ends.{terms}
 use Rattle.records.proofs.flat.Laws.{term-inside, term-taken, term-refused}
@@ -15,10 +15,10 @@ use Rattle.records.proofs.flat.terms.Statement.{statement}
 use Rattle.records.proofs.flat.terms.Tie as tie
 
 abbrev Inv-loop : tie.InvT-loop
-Inv-loop rule heads at count next₀ left₀ next left = Left (terms (withHeads heads) (words rule)) count at left next
+Inv-loop rule heads globals at count next₀ left₀ next left = Left (terms (withGlobals heads globals) (words rule)) count at left next
 
 abbrev μ-loop : tie.MeasureT-loop
-μ-loop rule heads at count next₀ left₀ next left = left
+μ-loop rule heads globals at count next₀ left₀ next left = left
 
 loop-holds : tie.Need-loop-holds Inv-loop μ-loop
 loop-holds c = left-start
@@ -39,7 +39,7 @@ turn c = c .before .before
 
 module _ (c : tie.After-term-at Inv-loop μ-loop) where
   abbrev s : Sig
-  s = withHeads (turn c .before .before .args .heads)
+  s = let a = turn c .before .before .args in withGlobals (a .heads) (a .globals)
 
   abbrev ws : List ℕ
   ws = words (turn c .before .before .args .rule .now)

@@ -9,10 +9,10 @@ use Rattle.records.proofs.rows.row.Statement.{statement}
 use Rattle.records.proofs.rows.row.Tie as tie
 
 abbrev Inv-loop : tie.InvT-loop
-Inv-loop rule heads at count of next₀ left₀ next left = Left (items of (withHeads heads) (words rule)) count at left next
+Inv-loop rule heads globals at count of next₀ left₀ next left = Left (items of (withHeads heads) (words rule)) count at left next
 
 abbrev μ-loop : tie.MeasureT-loop
-μ-loop rule heads at count of next₀ left₀ next left = left
+μ-loop rule heads globals at count of next₀ left₀ next left = left
 
 abbrev turn : tie.After-one Inv-loop μ-loop → tie.At-loop Inv-loop μ-loop
 turn c = c .before .before
