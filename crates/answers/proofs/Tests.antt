@@ -16,10 +16,10 @@ use Rattle.rules.specs.Written.{Rule, readWritten}
 use Rattle.rules.specs.Flat.{FlatRule, readFlat}
 use Rattle.signature.specs.Signature.{signOf}
 use Rattle.signature.specs.declared.Signature.{Signature}
-use Rattle.records.specs.declared.written.Walk.{Walk}
-use Rattle.records.specs.Written.{withHeads, wholeOf}
+use Rattle.written.specs.declared.Walk.{Walk}
+use Rattle.written.specs.Written.{withHeads, wholeOf}
 use Rattle.records.proofs.WrittenWhole.{written-with}
-use Rattle.records.proofs.flat.Whole.{flat-with}
+use Rattle.records.proofs.FlatWhole.{flat-with}
 use Rattle.meaning.proofs.Lists.{and-right}
 use Rattle.meaning.proofs.Numbers.{Among, signature-among, flat-among, written-among}
 use Rattle.meaning.proofs.SignatureLaws.{signature-sound}

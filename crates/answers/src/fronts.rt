@@ -44,7 +44,7 @@ pub fn flat_front(signature: &[u8], rule: &[u8], scratch: usize) -> Signature
     if !records::length_fits(rule, records::MAX_FLAT) {
         return turned_back(BAD_LENGTH, 0);
     }
-    let read = records::flat::flat(rule, sign.heads, sign.globals);
+    let read = records::flat(rule, sign.heads, sign.globals);
     if read.refused != 0 {
         return turned_back(read.refused, read.at);
     }
@@ -68,7 +68,7 @@ pub fn written_front(signature: &[u8], rule: &[u8], counters: usize, scratch: us
     if !records::length_fits(rule, records::MAX_WRITTEN) {
         return turned_back(BAD_LENGTH, 0);
     }
-    let read = records::written::written(rule, sign.heads);
+    let read = records::written(rule, sign.heads);
     if read.refused != 0 {
         return turned_back(read.refused, read.at);
     }

@@ -4,7 +4,7 @@ use mathlib.Core.Path.{_≡_, refl}
 use mathlib.Core.Bool.{Bool, true, false}
 use mathlib.Core.List.{List}
 use Rattle.rules.specs.Refusals.{Res, _>>=_, demand, badLength}
-use Rattle.records.specs.Written.{walk, wholeOf}
+use Rattle.written.specs.Written.{walk, wholeOf}
 
 module _ {A : Type 0} (ws : List ℕ) (n : ℕ) (x : Res A) where
   -- a length that fits leaves the answer to the words

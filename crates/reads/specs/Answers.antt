@@ -12,9 +12,9 @@ use Rattle.rules.specs.Written.{Rule, readWritten}
 use Rattle.rules.specs.Flat.{FlatRule, readFlat}
 use Rattle.rules.specs.Calls.{lengthFits}
 use Rattle.signature.specs.declared.Signature.{Signature}
-use Rattle.records.specs.declared.written.Walk.{Walk}
+use Rattle.written.specs.declared.Walk.{Walk}
 use Rattle.signature.specs.Signature.{signOf}
-use Rattle.records.specs.Written.{withHeads, wholeOf}
+use Rattle.written.specs.Written.{withHeads, wholeOf}
 use Rattle.reads.specs.declared.Answer.{Answer}
 
 -- ---- rules by themselves, under a signature of H heads

@@ -4,7 +4,7 @@
 // A line is a letter for the reader, then the record's words, a space before each. A signature that reads well sets H for the rules
 // behind it. Empty lines and those that begin with `#` are copied, so that what is printed can be read beside what was read.
 use lines::reading::Line;
-use records::written::Walk;
+use written::Walk;
 ghost use mathlib.Core.Path.{_≡_};
 ghost use Prim.Native.Nat.{_+_, _<_, _≤_};
 ghost use lib.ListN.{length};
@@ -12,7 +12,7 @@ ghost use Rattle.io.specs.Counts.{Counts};
 ghost use Rattle.octets.specs.Words.{words};
 ghost use Rattle.rules.specs.Signature.{readSignature};
 ghost use Rattle.signature.specs.Signature.{signOf};
-ghost use Rattle.records.specs.Written.{wholeOf};
+ghost use Rattle.written.specs.Written.{wholeOf};
 ghost use Rattle.reads.specs.Answers.{writtenAlone, flatAlone, signatureAnswer, wholeRule, answerOf};
 
 // Where `io` prints.
@@ -102,7 +102,7 @@ fn written_rule(bytes: &[u8], heads: u32) -> Walk
     ensures { λ r. ⌜ r ≡ wholeOf (words (now (bytes .entry))) (writtenAlone heads (words (now (bytes .entry)))) ⌝ }
 {
     if records::length_fits(bytes, records::MAX_WRITTEN) {
-        return records::written::written(bytes, heads);
+        return records::written(bytes, heads);
     }
     Walk {
         refused: BAD_LENGTH,
@@ -115,7 +115,7 @@ fn flat_rule(bytes: &[u8], heads: u32) -> Walk
     ensures { λ r. ⌜ r ≡ wholeOf (words (now (bytes .entry))) (flatAlone heads (words (now (bytes .entry)))) ⌝ }
 {
     if records::length_fits(bytes, records::MAX_FLAT) {
-        return records::flat::flat(bytes, heads, 0);
+        return records::flat(bytes, heads, 0);
     }
     Walk {
         refused: BAD_LENGTH,

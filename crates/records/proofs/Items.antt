@@ -13,14 +13,14 @@ use Rattle.rules.specs.Written.{Reader, Rule, readWord, readRow}
 use Rattle.rules.specs.Written as Written
 use Rattle.rules.specs.Flat.{FlatRule}
 use Rattle.rules.specs.Flat as Flat
-use Rattle.records.specs.Written.{wholeOf}
+use Rattle.written.specs.Written.{wholeOf}
 use Rattle.records.specs.Rows.{readItem}
 use Rattle.records.specs.declared.rows.Item.{Item}
 use Rattle.records.specs.declared.rows.Item.the-variants.{Fact, Action, Atom, CoreAction}
-use Rattle.records.proofs.WrittenWalk.{Went, Several, row}
-use Rattle.records.proofs.WrittenEnds as Written-ends
-use Rattle.records.proofs.flat.Ends as Flat-ends
-use Rattle.records.proofs.Expected.{wholeHeaded}
+use Rattle.written.proofs.Walking.{Went, Several, row}
+use Rattle.written.proofs.Ends as Written-ends
+use Rattle.flat.proofs.Ends as Flat-ends
+use Rattle.written.proofs.Expected.{wholeHeaded}
 
 pub went : (i : Item) (s : Sig) (ws : List ℕ) (p : ℕ) → Went ws p 1 (readItem i s ws p)
 went Fact s ws p = Written-ends.went-fact s ws p

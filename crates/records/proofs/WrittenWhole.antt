@@ -12,9 +12,9 @@ use Rattle.rules.specs.Refusals.{Res, _>>=_}
 use Rattle.rules.specs.Signature.{Sig, heads}
 use Rattle.rules.specs.Written.{Fact, Read, Reader, Expr, shapeAt, readShape, readWord, readMany, readExpr, readTarget, readHolds, readFact}
 use Rattle.rules.specs.Written.{readCode, codeAt, readWritten}
-use Rattle.records.specs.Written.{withHeads}
-use Rattle.records.proofs.WrittenWalk.{then-same}
-use Rattle.records.proofs.Expected.{heads-with, wholeHeaded}
+use Rattle.written.specs.Written.{withHeads}
+use Rattle.written.proofs.Walking.{then-same}
+use Rattle.written.proofs.Expected.{heads-with, wholeHeaded}
 use Rattle.records.proofs.Items.{rule}
 
 -- ---- the signature: two of as many heads read alike

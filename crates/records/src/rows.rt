@@ -1,14 +1,12 @@
 // Rows: what a rule holds stands one after the other, written or flat. One loop reads them all, and a rule is two of them behind its header.
-use super::flat;
-use super::written;
-use super::written::UNFIT;
-use super::written::Walk;
 use words::Word;
 use words::word_at;
+use written::UNFIT;
+use written::Walk;
 ghost use mathlib.Core.Path.{_≡_};
 ghost use Rattle.octets.specs.Words.{words};
 ghost use Rattle.rules.specs.Written.{readRow};
-ghost use Rattle.records.specs.Written.{withHeads, walkOf, wholeOf};
+ghost use Rattle.written.specs.Written.{withHeads, walkOf, wholeOf};
 ghost use Rattle.records.specs.Rows.{readItem, readHeaded, readWhole};
 
 // What a row is of: facts and actions in a written rule, atoms and core actions in a flat one.

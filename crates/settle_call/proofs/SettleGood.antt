@@ -22,11 +22,11 @@ use Rattle.meaning.proofs.Results.{bind-ok, demand-ok}
 use Rattle.meaning.proofs.ReadSizes.{row-size, word-size}
 use Rattle.meaning.proofs.ReadFlatSizes.{total-words, atom-size, flat-size}
 use Rattle.meaning.proofs.ResultBounds.{settled-counts}
-use Rattle.records.specs.Written.{withHeads, walk, walkOf}
-use Rattle.records.specs.declared.written.Walk.{Walk}
+use Rattle.written.specs.Written.{withHeads, walk, walkOf}
+use Rattle.written.specs.declared.Walk.{Walk}
 use Rattle.signature.specs.declared.Signature.{Signature}
-use Rattle.records.proofs.flat.Words.{word-read, row-spelled, atom-spelled, action-spelled, flat-spelled}
-use Rattle.records.proofs.flat.Whole.{flat-with}
+use Rattle.records.proofs.FlatWords.{word-read, row-spelled, atom-spelled, action-spelled, flat-spelled}
+use Rattle.records.proofs.FlatWhole.{flat-with}
 use Rattle.bodies.specs.Terms.{GoodSign, Agrees}
 use Rattle.bodies.specs.Standing.{BodyAt}
 use Rattle.settling.specs.declared.Settled.{Settled}

@@ -39,7 +39,7 @@ fn settle_good(rule: &[u8], sign: Signature, output: &mut [u8], scratch: &mut [u
         → EndedWith s f r (now (output .entry)) (now (output .exit))) ⌝ }
 {
     let counts = octets::get(rule, 0) - HEADER;
-    let read = records::flat::atoms(rule, sign.heads, sign.globals, 1, counts / LIMIT_12);
+    let read = records::atoms(rule, sign.heads, sign.globals, 1, counts / LIMIT_12);
     let end = read.at;
     let n = end - 1;
     octets::regions::copy(scratch, 0, rule, 1, n);

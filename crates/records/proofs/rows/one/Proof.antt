@@ -2,10 +2,10 @@
 use mathlib.Core.Path.{_≡_, sym, ap, _∙_}
 use borrow.Author.Needs.{needs}
 use Rattle.octets.specs.Words.{words}
-use Rattle.records.specs.Written.{withHeads, walkOf}
+use Rattle.written.specs.Written.{withHeads, walkOf}
 use Rattle.records.specs.Rows.{readItem}
 use Rattle.records.specs.declared.rows.Item.{Item}
-use Rattle.records.specs.declared.written.Walk.{Walk}
+use Rattle.written.specs.declared.Walk.{Walk}
 use Rattle.records.proofs.rows.one.Statement.{statement}
 use Rattle.records.proofs.rows.one.Tie as tie
 

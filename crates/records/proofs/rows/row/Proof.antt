@@ -1,8 +1,8 @@
 -- What is left of the row answers as the whole does: one that is read leaves one less, and one that is refused is the whole answer. Assumes nothing.
 use native.Mathlib.Omega.{arith}
 use Rattle.octets.specs.Words.{words}
-use Rattle.records.specs.Written.{withHeads}
-use Rattle.records.proofs.WrittenWalk.{Left, left-start, left-stops, left-next, left-end}
+use Rattle.written.specs.Written.{withHeads}
+use Rattle.written.proofs.Walking.{Left, left-start, left-stops, left-next, left-end}
 use Rattle.records.proofs.Items.{items}
 use borrow.Author.Needs.{needs}
 use Rattle.records.proofs.rows.row.Statement.{statement}

@@ -6,13 +6,13 @@ use lib.Dec.{lit<}
 use Rattle.octets.specs.Words.{words}
 use Rattle.octets.proofs.Words.{length-words}
 use Rattle.words.specs.declared.Word.the-variants.{Header}
-use Rattle.records.specs.Written.{withHeads}
+use Rattle.written.specs.Written.{withHeads}
 use Rattle.rules.specs.Written.{Reader}
 use Rattle.records.specs.Rows.{Of, readItem}
 use Rattle.records.specs.declared.rows.Item.{Item}
-use Rattle.records.proofs.WrittenWalk.{Went}
+use Rattle.written.proofs.Walking.{Went}
 use Rattle.words.proofs.WordAt.{There, there, not-kind}
-use Rattle.records.proofs.Expected.{header-other, first-stops, then-second}
+use Rattle.written.proofs.Expected.{header-other, first-stops, then-second}
 use Rattle.records.proofs.Items.{went, pair}
 use borrow.Author.Needs.{needs}
 use Rattle.records.proofs.rows.rule_at.Statement.{statement}

@@ -1,11 +1,11 @@
 -- A whole rule is one that begins at index 0 and has nothing behind it: the walk's refusal stands, and else its end is tested. Assumes nothing.
 use native.Mathlib.Omega.{arith}
 use Rattle.octets.specs.Words.{words}
-use Rattle.records.specs.Written.{withHeads}
-use Rattle.records.proofs.WrittenWalk.{whole-stops, surplus, all-read}
+use Rattle.written.specs.Written.{withHeads}
+use Rattle.written.proofs.Walking.{whole-stops, surplus, all-read}
 use Rattle.records.specs.Rows.{readItem, readHeaded, readWhole}
-use Rattle.records.proofs.WrittenWalk.{Whole}
-use Rattle.records.proofs.Expected.{headed-whole}
+use Rattle.written.proofs.Walking.{Whole}
+use Rattle.written.proofs.Expected.{headed-whole}
 use Rattle.records.proofs.Items.{went, pair}
 use borrow.Author.Needs.{needs}
 use Rattle.records.proofs.rows.whole.Statement.{statement}
