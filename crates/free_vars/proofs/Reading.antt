@@ -3,7 +3,7 @@
 use Prim.Native.Nat.{ℕ, zero, suc, _+_, _*_, _≤_, _<_}
 use native.Mathlib.Omega.{arith}
 use mathlib.Core.Bool.{Bool, true, false, not, cond, _&&_, _||_, or-assoc}
-use mathlib.Core.List.{List, [], _∷_}
+use mathlib.Core.List.{List, _∷_}
 use mathlib.Core.Path.{_≡_, refl, sym, ap, ap₂, _∙_, subst}
 use lib.Dec.{leb, ltb, eqb}
 use lib.ListN.{length, getD, drop, drop-of-length-le}
@@ -18,14 +18,9 @@ use Rattle.rules.specs.Written.{Read, readWord, readRow}
 use Rattle.meaning.proofs.Lists.{and-left, and-right}
 use Rattle.meaning.proofs.Reading.{within-low, within-high}
 use Rattle.meaning.proofs.Results.{bind-ok, ok-inj, refuse-ok, demand-ok}
-use Rattle.free_vars.specs.First.{binds}
+use Rattle.free_vars.specs.First.{binds, freeFirst}
 use Rattle.free_vars.specs.Head.{Actions}
 use Rattle.free_vars.proofs.Free.{targetIs, used, freeIn}
-
--- the first word that is v is there, and is no target; `last` is the word before them all
-abbrev pub freeFirst : ℕ → (last : ℕ) → List ℕ → Bool
-freeFirst v last [] = false
-freeFirst v last (w ∷ ws) = cond (eqb v w) (not (binds last)) (freeFirst v w ws)
 
 -- ---- words
 

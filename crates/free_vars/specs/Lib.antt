@@ -3,3 +3,5 @@ pub mod Head
 pub mod First
 pub mod Targets
 pub mod Row
+pub mod Marks
+pub mod Spans
