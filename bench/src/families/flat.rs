@@ -3,7 +3,7 @@
 use super::{Call, F, FIRST, Family, SEED, largest, one};
 use crate::draw::Draw;
 use crate::records::joined;
-use crate::words::{CALL, EQUALITY, SET, UNION, action, call, literal, name};
+use crate::words::{CALL, EQUALITY, SET, UNION, action, call, fresh, literal, name};
 
 pub fn settled() -> Vec<Family> {
     vec![
@@ -39,6 +39,8 @@ pub fn freed() -> Vec<Family> {
     let ascending: Vec<u32> = (FIRST..).map(name).take(1_021).collect();
     let descending: Vec<u32> = ascending.iter().copied().rev().collect();
     let disordered = shuffled(ascending.clone());
+    let near = shuffled((0..1_021).map(|n| fresh(F, n)).collect());
+    let far = shuffled((0..1_021).map(|n| fresh(n % 4, n * 64)).collect());
     vec![
         Family {
             name: "free vars, largest signature",
@@ -52,6 +54,8 @@ pub fn freed() -> Vec<Family> {
         free("free vars up", "1,021 variables in a set, ascending", &set(ascending)),
         free("free vars down", "1,021 variables in a set, descending", &set(descending)),
         free("free vars any", "1,021 variables in a set, in no order", &set(disordered)),
+        free("free vars fresh", "1,021 fresh variables of one head, in no order", &set(near)),
+        free("free vars far", "1,021 fresh variables, all far apart, in no order", &set(far)),
     ]
 }
 
