@@ -94,7 +94,7 @@ fn term_at(rule: &[u8], heads: u32, globals: u32, at: usize) -> Taken
         0 => {
             let head = (w - FRESH_BASE) / LIMIT_16;
             if (head < heads) & (head < LIMIT_12) {
-                Taken::Term(words::term_of(w, globals))
+                Taken::Term(Term::Var(w))
             } else {
                 Taken::Nothing
             }
@@ -108,7 +108,7 @@ fn term_at(rule: &[u8], heads: u32, globals: u32, at: usize) -> Taken
         }
         2 => {
             if w - LITERAL_BASE < LIMIT_16 {
-                Taken::Term(words::term_of(w, globals))
+                Taken::Term(Term::Literal(w))
             } else {
                 Taken::Nothing
             }

@@ -1,5 +1,5 @@
 -- The count of leading zeros is a range of numbers: a fresh variable, a name or a literal is there, whose payload fits or not, or no term. Which term it is,
--- `term_of` tells. Assumes nothing.
+-- the kind tells, and of a name `term_of`. Assumes nothing.
 use mathlib.Core.Path.{_≡_, refl, sym, _∙_}
 use mathlib.Core.Bool.{false}
 use Prim.Native.Nat.{_≤_, _<_, zero-le}
@@ -12,6 +12,7 @@ use Rattle.words.proofs.Ranges.{kind-range, kind-from, past, false-below, false
 use Rattle.written.specs.Written.{withHeads, withGlobals}
 use Rattle.flat.specs.Flat.{takenSays, termAt}
 use Rattle.flat.specs.declared.Taken.the-variants as Taken
+use Rattle.words.proofs.AtomLaws.{term-fresh, term-literal}
 use Rattle.words.proofs.WordAt.{Here}
 use Rattle.flat.proofs.Laws.{no-word, term-fits, term-none, fresh-term, name-fits, literal-fits, none-fits}
 use Rattle.flat.proofs.term_at.Statement.{statement}
@@ -47,15 +48,13 @@ fresh-range c = kind-range 0 31 (c .before .get .result) refl (c .before .get .e
 sub-head : tie.Need-sub-head
 sub-head c = fresh-range c
 
-term-of-requires : tie.Need-term-of-requires
-term-of-requires c κs = search needs
-
 returns-2 : tie.Need-returns-2
 returns-2 c =
-    let t = c .before in
-    let g = t .before .before in
+    let g = c .before .before in
+    let w = g .get .result in
     let a = start g .args in
-    term-fits (a .heads) (a .globals) (at-get g) (sym (fresh-term (a .heads) (g .get .result) (fresh-range (t .before))) ∙ t .if2 .taken) (c .term-of .ensures)
+    let r = fresh-range (c .before) in
+    term-fits (a .heads) (a .globals) (at-get g) (sym (fresh-term (a .heads) w r) ∙ c .if2 .taken) (term-fresh (a .globals) w r)
 
 returns-3 : tie.Need-returns-3
 returns-3 c = let g = c .before .before in none-at g (sym (fresh-term (start g .args .heads) (g .get .result) (fresh-range (c .before))) ∙ c .if2 .left)
@@ -67,8 +66,8 @@ name-range c = kind-range 1 30 (c .before .get .result) refl (c .before .get .en
 sub-if3 : tie.Need-sub-if3
 sub-if3 c = name-range c .0
 
-term-of-requires-2 : tie.Need-term-of-requires-2
-term-of-requires-2 c κs = search needs
+term-of-requires : tie.Need-term-of-requires
+term-of-requires c κs = search needs
 
 returns-4 : tie.Need-returns-4
 returns-4 c =
@@ -76,7 +75,7 @@ returns-4 c =
     let g = t .before .before in
     let a = start g .args in
     let r = name-range (t .before) in
-    term-fits (a .heads) (a .globals) (at-get g) (name-fits (a .heads) (g .get .result) (r .0) (omega (arith, t .if3 .taken))) (c .term-of2 .ensures)
+    term-fits (a .heads) (a .globals) (at-get g) (name-fits (a .heads) (g .get .result) (r .0) (omega (arith, t .if3 .taken))) (c .term-of .ensures)
 
 returns-5 : tie.Need-returns-5
 returns-5 c =
@@ -92,16 +91,13 @@ literal-range c = kind-range 2 29 (c .before .get .result) refl (c .before .get 
 sub-if4 : tie.Need-sub-if4
 sub-if4 c = literal-range c .0
 
-term-of-requires-3 : tie.Need-term-of-requires-3
-term-of-requires-3 c κs = search needs
-
 returns-6 : tie.Need-returns-6
 returns-6 c =
-    let t = c .before in
-    let g = t .before .before in
+    let g = c .before .before in
+    let w = g .get .result in
     let a = start g .args in
-    let r = literal-range (t .before) in
-    term-fits (a .heads) (a .globals) (at-get g) (literal-fits (a .heads) (g .get .result) (r .0) (omega (arith, t .if4 .taken))) (c .term-of3 .ensures)
+    let r = literal-range (c .before) in
+    term-fits (a .heads) (a .globals) (at-get g) (literal-fits (a .heads) w (r .0) (omega arith)) (term-literal (a .globals) w (r .1))
 
 returns-7 : tie.Need-returns-7
 returns-7 c =
@@ -127,11 +123,9 @@ term-at-spec =
     returns
     get-requires
     sub-head
-    term-of-requires
     sub-if3
-    term-of-requires-2
+    term-of-requires
     sub-if4
-    term-of-requires-3
     returns-2
     returns-3
     returns-4
