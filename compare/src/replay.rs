@@ -1,4 +1,5 @@
-//! A fixed list of cases with the Rust's answers, for programs that can't run the Rust.
+//! A fixed list of cases with the Rust's answers, for programs that can't run the Rust. Behind it a few answers are
+//! made wrong, so that such a program shows that it sees them.
 
 use crate::case::{Call, Case};
 use crate::kinds::{Extent, IN_REPLAY, KINDS, Kind};
@@ -23,7 +24,10 @@ lists, about as many of each, so far as a kind has so many.
 /// What the head says about all that follows it.
 const FORMAT: &str = "\
 After this text of 2,048 bytes all is 32-bit words, four bytes a word, lowest byte first.
-First the number of cases. Then each case:
+First the number of cases, then each case as below. Behind them comes a second list like it:
+cases of the first, each with its answer made wrong in one thing, which a comparison must
+see. In their order: the number, the place, the words (one fewer), the replacements, the
+passes, a byte of the output, a byte of the counters.
 
   word 0      how many words of the case follow this one
   word 1      the call: 1 lower, 2 settle, 3 free variables
@@ -39,6 +43,32 @@ only lower and settle take scratch; what a call does not take is 0 bytes.
 Output past the words written must be as it was before the call.
 ";
 
+/// Makes one thing of an answer wrong, or says that it can't be done there.
+type Mistake = fn(&mut Outcome) -> bool;
+
+/// In the order that the head names.
+const MISTAKES: [Mistake; 7] = [
+    |outcome| outcome.answer.number > 0 && grown(&mut outcome.answer.number),
+    |outcome| outcome.answer.number > 0 && grown(&mut outcome.answer.place),
+    |outcome| outcome.answer.words.checked_sub(1).map(|fewer| outcome.answer.words = fewer).is_some(),
+    |outcome| outcome.answer.words > 0 && grown(&mut outcome.answer.replacements),
+    |outcome| outcome.answer.words > 0 && grown(&mut outcome.answer.passes),
+    |outcome| flipped(outcome.output[..4 * outcome.answer.words as usize].last_mut()),
+    |outcome| outcome.answer.words > 0 && flipped(outcome.counters.last_mut()),
+];
+
+fn grown(number: &mut u64) -> bool {
+    *number += 1;
+    true
+}
+
+fn flipped(byte: Option<&mut u8>) -> bool {
+    byte.map(|byte| *byte ^= 1).is_some()
+}
+
+/// A case, and what the Rust gave or what was made of it.
+type Answered<'a> = (&'a Case, Outcome);
+
 /// A case is large from this many words on; of those, one in so many is taken.
 const LARGE: usize = 1_200;
 const LARGE_ONES: u64 = 16;
@@ -52,11 +82,28 @@ pub fn write_replay(path: &Path, count: usize, seed: u64) -> io::Result<usize> {
 
 fn replay(cases: &[Case], count: usize, seed: u64) -> Vec<u8> {
     let bench = Bench::new();
-    let mut words = vec![cases.len() as u32];
-    for case in cases {
-        words.extend(case_words(case, &bench.expected(case)));
+    let answered: Vec<Answered> = cases.iter().map(|case| (case, bench.expected(case))).collect();
+    let lists = [list_words(&answered), list_words(&made_wrong(&answered))].concat();
+    [head(cases.len(), count, seed), bytes(&lists)].concat()
+}
+
+/// A case of lowering for each mistake, the first in which it can be made.
+fn made_wrong<'a>(answered: &[Answered<'a>]) -> Vec<Answered<'a>> {
+    let lowered = || answered.iter().filter(|(case, _)| case.call == Call::Lower).cloned();
+    MISTAKES
+        .iter()
+        .filter_map(|mistake| {
+            lowered().find_map(|(case, mut outcome)| mistake(&mut outcome).then_some((case, outcome)))
+        })
+        .collect()
+}
+
+fn list_words(answered: &[Answered]) -> Vec<u32> {
+    let mut words = vec![answered.len() as u32];
+    for (case, outcome) in answered {
+        words.extend(case_words(case, outcome));
     }
-    [head(cases.len(), count, seed), bytes(&words)].concat()
+    words
 }
 
 fn head(cases: usize, count: usize, seed: u64) -> Vec<u8> {
@@ -140,29 +187,36 @@ fn padded(bytes: &[u8]) -> Vec<u32> {
 
 #[cfg(test)]
 mod tests {
-    use super::{HEAD_BYTES, chosen, replay};
+    use super::{HEAD_BYTES, MISTAKES, chosen, replay};
     use crate::sides::{Archive, Side};
     use tulgarent::Answer;
 
-    /// Reads the list as its head says, and asks the archive.
+    /// Reads the lists as their head says, and asks the archive.
     #[test]
-    fn the_archive_gives_what_the_list_says() {
+    fn the_archive_gives_what_the_list_says_and_not_what_was_made_wrong() {
         let cases = chosen(300, 3);
         assert_eq!(cases.len(), 300);
         let list = replay(&cases, 300, 3);
         assert!(list[..HEAD_BYTES].is_ascii() && list[HEAD_BYTES - 1] == b'\n');
         let words: Vec<u32> = list[HEAD_BYTES..].as_chunks().0.iter().map(|word| u32::from_le_bytes(*word)).collect();
-        assert_eq!(words[0], 300);
-        let mut at = 1;
-        for _ in 0..300 {
-            let length = words[at] as usize;
-            replay_one(&words[at + 1..at + 1 + length]);
-            at += 1 + length;
-        }
-        assert_eq!(at, words.len());
+        let rest = replay_list(&words, 300, true);
+        let rest = replay_list(rest, MISTAKES.len(), false);
+        assert!(rest.is_empty());
     }
 
-    fn replay_one(case: &[u32]) {
+    fn replay_list(words: &[u32], count: usize, agrees: bool) -> &[u32] {
+        assert_eq!(words[0], count as u32);
+        let mut at = 1;
+        for _ in 0..count {
+            let length = words[at] as usize;
+            assert_eq!(replay_one(&words[at + 1..at + 1 + length]), agrees);
+            at += 1 + length;
+        }
+        &words[at..]
+    }
+
+    /// Whether the archive gives what the case has.
+    fn replay_one(case: &[u32]) -> bool {
         let [signature, rule, counters, output, scratch] = std::array::from_fn(|slice| case[1 + slice] as usize);
         let number = |at: usize| u64::from(case[6 + at]);
         let expected = Answer {
@@ -187,9 +241,9 @@ mod tests {
             2 => Archive.settle(&signature, &rule, &mut output, &mut scratch),
             _ => Archive.free_vars(&signature, &rule, &mut output),
         };
-        assert_eq!(answer, expected);
-        assert_eq!(output[..written.len()], written);
-        assert!(output[written.len()..].iter().all(|&byte| byte == 0xa5));
-        assert_eq!(counters, after);
+        answer == expected
+            && output[..written.len()] == written
+            && output[written.len()..].iter().all(|&byte| byte == 0xa5)
+            && counters == after
     }
 }

@@ -1,1 +1,2 @@
-pub mod Cases
+-- What the contracts of this program cite.
+pub mod Differences

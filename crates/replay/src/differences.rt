@@ -1,114 +1,93 @@
-// What differs between the answer that a case expects and what a call gave. Each function prints a line for what it finds, and answers how many lines.
+// What differs between the answer that a case has and what a call gave. A line is printed for each thing that differs, and the answer is how many they are.
 ghost use Prim.Native.Nat.{_≤_};
+ghost use mathlib.Core.Path.{_≡_};
 ghost use lib.ListN.{length};
+ghost use Rattle.replay.specs.Differences.{alike as Differences·alike, differ as Differences·differ, answersDiffer, callsDiffer};
 use answers::Answer;
 
 // Where `io` prints.
-const STANDARD_OUTPUT: i32 = 1;
+pub const STANDARD_OUTPUT: i32 = 1;
 
-// Prints which part of which case differs.
-fn print_case(case: usize, what: &[u8]) {
-    io::write_all(STANDARD_OUTPUT, b"case ");
-    io::print_decimal(STANDARD_OUTPUT, case as u64);
-    io::write_all(STANDARD_OUTPUT, b": ");
+// Prints a number behind what it is.
+pub fn say(what: &[u8], n: u64) {
     io::write_all(STANDARD_OUTPUT, what);
+    io::print_decimal(STANDARD_OUTPUT, n);
 }
 
-// One of an answer's numbers.
-fn numbers(case: usize, what: &[u8], expected: u64, found: u64) -> u64
-    ensures { λ r. ⌜ r ≤ 1 ⌝ }
+// Two numbers.
+fn differ(case: u64, what: &[u8], found: u64, expected: u64) -> u64
+    ensures { λ r. ⌜ (r ≡ Differences·differ found expected) × (r ≤ 1) ⌝ }
 {
-    if expected == found {
+    if found == expected {
         return 0;
     }
-    print_case(case, what);
-    io::write_all(STANDARD_OUTPUT, b" is ");
-    io::print_decimal(STANDARD_OUTPUT, found);
-    io::write_all(STANDARD_OUTPUT, b", the Rust's ");
-    io::print_decimal(STANDARD_OUTPUT, expected);
+    say(b"case ", case);
+    say(what, found);
+    say(b", expected ", expected);
     io::write_all(STANDARD_OUTPUT, b"\n");
     1
 }
 
-// Number, place and the three counts.
-pub fn answers(case: usize, expected: Answer, found: Answer) -> u64
-    ensures { λ r. ⌜ r ≤ 5 ⌝ }
+// How many bytes of two slices are alike, up to the first that is not.
+fn alike(found: &[u8], expected: &[u8]) -> usize
+    requires { ⌜ length (now found) ≤ length (now expected) ⌝ }
+    ensures { λ r. ⌜ r ≡ Differences·alike (now (found .entry)) (now (expected .entry)) ⌝ }
 {
-    let number = numbers(case, b"number", expected.number, found.number);
-    let place = numbers(case, b"place", expected.place, found.place);
-    let words = numbers(case, b"words", expected.words, found.words);
-    let replacements = numbers(
+    let mut i = 0;
+    while i < found.len() {
+        if found[i] != expected[i] {
+            return i;
+        }
+        i += 1;
+    }
+    i
+}
+
+// Number, place and the three counts.
+fn answers(case: u64, found: Answer, expected: Answer) -> u64
+    ensures { λ r. ⌜ (r ≡ answersDiffer found expected) × (r ≤ 5) ⌝ }
+{
+    let number = differ(case, b": number ", found.number, expected.number);
+    let place = differ(case, b": place ", found.place, expected.place);
+    let words = differ(case, b": words ", found.words, expected.words);
+    let replacements = differ(
         case,
-        b"replacements",
-        expected.replacements,
+        b": replacements ",
         found.replacements,
+        expected.replacements,
     );
-    let passes = numbers(case, b"passes", expected.passes, found.passes);
+    let passes = differ(case, b": passes ", found.passes, expected.passes);
     number + place + words + replacements + passes
 }
 
-// Where two slices differ first, or the end of the first one.
-fn first_unlike(a: &[u8], b: &[u8]) -> usize
-    requires { ⌜ length (now a) ≤ length (now b) ⌝ }
+// All that a call leaves. All of the output that was lent is looked at: past the words written it must be as it was before the call.
+pub fn compare(
+    case: u64,
+    found: Answer,
+    expected: Answer,
+    output: &[u8],
+    wanted: &[u8],
+    counters: &[u8],
+    after: &[u8],
+) -> u64
+    requires { ⌜ length (now output) ≤ length (now wanted) ⌝ }
+    requires { ⌜ length (now counters) ≤ length (now after) ⌝ }
+    ensures { λ r. ⌜ r ≡ callsDiffer found expected (now (output .entry)) (now (wanted .entry)) (now (counters .entry)) (now (after .entry)) ⌝ }
 {
-    let mut i = 0;
-    while i < a.len() {
-        if a[i] != b[i] {
-            return i;
-        }
-        i += 1;
-    }
-    i
-}
-
-// Where a slice first has another byte than `byte`, or its end.
-fn first_other(a: &[u8], byte: u8) -> usize {
-    let mut i = 0;
-    while i < a.len() {
-        if a[i] != byte {
-            return i;
-        }
-        i += 1;
-    }
-    i
-}
-
-// Prints at which byte of a slice of `end` bytes something differs, if it does.
-fn found_at(case: usize, what: &[u8], at: usize, end: usize) -> u64
-    ensures { λ r. ⌜ r ≤ 1 ⌝ }
-{
-    if at == end {
-        return 0;
-    }
-    print_case(case, what);
-    io::write_all(STANDARD_OUTPUT, b" from byte ");
-    io::print_decimal(STANDARD_OUTPUT, at as u64);
-    io::write_all(STANDARD_OUTPUT, b" on\n");
-    1
-}
-
-// The words written to the output.
-pub fn written(case: usize, found: &[u8], expected: &[u8]) -> u64
-    requires { ⌜ length (now found) ≤ length (now expected) ⌝ }
-    ensures { λ r. ⌜ r ≤ 1 ⌝ }
-{
-    let at = first_unlike(found, expected);
-    found_at(case, b"output words differ", at, found.len())
-}
-
-// The output past those words. On a refusal that is all of it.
-pub fn untouched(case: usize, rest: &[u8], dirt: u8) -> u64
-    ensures { λ r. ⌜ r ≤ 1 ⌝ }
-{
-    let at = first_other(rest, dirt);
-    found_at(case, b"the rest of the output is touched", at, rest.len())
-}
-
-// The counters after the call.
-pub fn counters(case: usize, found: &[u8], expected: &[u8]) -> u64
-    requires { ⌜ length (now found) ≤ length (now expected) ⌝ }
-    ensures { λ r. ⌜ r ≤ 1 ⌝ }
-{
-    let at = first_unlike(found, expected);
-    found_at(case, b"counters differ", at, found.len())
+    let numbers = answers(case, found, expected);
+    let same = alike(output, wanted);
+    let bytes = differ(
+        case,
+        b": bytes of output alike ",
+        same as u64,
+        output.len() as u64,
+    );
+    let also = alike(counters, after);
+    let counts = differ(
+        case,
+        b": bytes of counters alike ",
+        also as u64,
+        counters.len() as u64,
+    );
+    numbers + bytes + counts
 }

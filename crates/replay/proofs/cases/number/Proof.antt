@@ -7,13 +7,7 @@ use Rattle.replay.proofs.cases.number.Statement.{statement}
 use Rattle.replay.proofs.cases.number.Tie as tie
 
 get-requires : tie.Need-get-requires
-get-requires c κs = omega (arith, length-words (now (c .before .args .case)))
-
-cast-result : tie.Need-cast-result
-cast-result c = search needs
-
-returns : tie.Need-returns
-returns c = search needs
+get-requires c κs = omega (arith, length-words (now (c .before .args .bytes)))
 
 pub number-spec : {M : Type 1} → statement M
-number-spec = tie.close (tie.spec get-requires cast-result returns)
+number-spec = tie.close (tie.spec get-requires (λ c. search needs) (λ c. search needs))

@@ -1,0 +1,2 @@
+-- Laws of the comparison.
+pub mod Alike
