@@ -96,26 +96,44 @@ fn call_named(
     scratch: &mut [u8],
 ) -> Answer {
     if call == LOWER {
-        return tulgarent::tulgarent_lower(signature, rule, counters, output, scratch);
+        tulgarent::tulgarent_lower(signature, rule, counters, output, scratch)
+    } else if call == SETTLE {
+        tulgarent::tulgarent_settle(signature, rule, output, scratch)
+    } else {
+        tulgarent::tulgarent_free_vars(signature, rule, output)
     }
-    if call == SETTLE {
-        return tulgarent::tulgarent_settle(signature, rule, output, scratch);
-    }
-    tulgarent::tulgarent_free_vars(signature, rule, output)
 }
 
-// Runs a case that is read, and answers how many things differ. Output and scratch are filled with a byte that goes with the case, so that in time they hold every
-// byte, and words of every kind. The two bytes differ, so that scratch which is copied to the output is seen.
+// Reads what a case expects, and answers how many things differ from it. The output is expected to be filled as it was, but for the words read.
+fn compare_case(case: usize, front: &[u8; 48], found: Answer, output: &[u8], counters: &[u8]) -> u64
+    requires { ⌜ (length (now output) ≤ 66048) × (length (now counters) ≤ 65536) ⌝ }
+{
+    let mut wanted = filled((case % 256) as u8);
+    let mut after = io::large_buffer();
+    read_written(&mut wanted, front);
+    read_part(&mut after, front, 4);
+    let expected = cases::expected(front);
+    differences::compare(
+        case as u64,
+        found,
+        expected,
+        output,
+        &wanted,
+        counters,
+        &after,
+    )
+}
+
+// Runs a case on what is read of it. Output and scratch are filled with a byte that goes with the case, so that in time they hold every byte, and words of
+// every kind. The two bytes differ, so that scratch which is copied to the output is seen.
 fn run_case(
     case: usize,
     front: &[u8; 48],
     signature: &[u8],
     rule: &[u8],
     counters: &mut [u8],
-    wanted: &[u8],
-    after: &[u8],
 ) -> u64
-    requires { ⌜ (66048 ≤ length (now wanted)) × (length (now counters) ≤ length (now after)) ⌝ }
+    requires { ⌜ length (now counters) ≤ 65536 ⌝ }
 {
     let dirt = (case % 256) as u8;
     let room = cases::lent(front, 5, ROOM);
@@ -130,19 +148,10 @@ fn run_case(
         &mut output[..room],
         &mut scratch[..space],
     );
-    let expected = cases::expected(front);
-    differences::compare(
-        case as u64,
-        found,
-        expected,
-        &output[..room],
-        wanted,
-        counters,
-        after,
-    )
+    compare_case(case, front, found, &output[..room], counters)
 }
 
-// Reads a case and runs it. What the output should be is filled with the same byte before its words are read.
+// Reads what a case lends, and runs it.
 fn replay_case(case: usize) -> u64 {
     let front = read_front();
     if cases::number(&front, 1) == NO_CALL {
@@ -151,21 +160,15 @@ fn replay_case(case: usize) -> u64 {
     let mut signature = io::large_buffer();
     let mut rule = io::large_buffer();
     let mut counters = io::large_buffer();
-    let mut wanted = filled((case % 256) as u8);
-    let mut after = io::large_buffer();
     let s = read_part(&mut signature, &front, 2);
     let r = read_part(&mut rule, &front, 3);
     let c = read_part(&mut counters, &front, 4);
-    read_written(&mut wanted, &front);
-    read_part(&mut after, &front, 4);
     run_case(
         case,
         &front,
         &signature[..s],
         &rule[..r],
         &mut counters[..c],
-        &wanted,
-        &after,
     )
 }
 
@@ -191,14 +194,10 @@ fn replay_list(what: &[u8]) {
     io::write_all(STANDARD_OUTPUT, b" differ\n");
 }
 
-// The text is for people.
-fn read_text() {
-    let mut buffer = io::buffer();
-    read_padded(&mut buffer, TEXT);
-}
-
+// The text in front of the lists is for people.
 fn main() {
-    read_text();
+    let mut text = io::buffer();
+    read_padded(&mut text, TEXT);
     replay_list(b"the Rust's answers, of which none may differ: ");
     replay_list(b"answers made wrong, of which all must differ: ");
 }

@@ -1,4 +1,4 @@
--- What is lent of output and scratch lies in them, and what is compared with it is no shorter. Assumes nothing.
+-- What is lent of output and scratch lies in them, before the call and after it. Assumes nothing.
 use Prim.Native.Nat.{_≤_}
 use mathlib.Core.Path.{sym, _∙_}
 use mathlib.Core.List.{_++_}
@@ -25,12 +25,12 @@ slice-aggregate-call-named-2 c = sym (length-take-le _ _ (rooms (buffers (c .bef
 
 -- ---- behind the call
 
--- back from the call, and from what the case expects to it
+-- back from where the slices are back to the call, and from there to where the buffers are made
+abbrev called : tie.After-scratch2 → tie.After-call-named
+called c = c .before .before .before .before
+
 abbrev lending : tie.After-call-named → tie.After-filled2
 lending c = buffers (c .before .before .before .before)
-
-abbrev called : tie.After-expected → tie.After-call-named
-called c = c .before .before .before .before .before
 
 -- the call left the output as long as it was, at the front of its buffer
 stands : (c : tie.After-call-named)
@@ -43,15 +43,14 @@ stands c =
 array-share-prefix-output : tie.Need-array-share-prefix-output
 array-share-prefix-output c = stands (called c)
 
-slice-aggregate-compare : tie.Need-slice-aggregate-compare
-slice-aggregate-compare c = sym (length-take-le _ _ (stands (called (c .before))))
+slice-aggregate-compare-case : tie.Need-slice-aggregate-compare-case
+slice-aggregate-compare-case c = sym (length-take-le _ _ (stands (called (c .before))))
 
-compare-requires : tie.Need-compare-requires
-compare-requires c κs =
+compare-case-requires : tie.Need-compare-case-requires
+compare-case-requires c κs =
     let e = called (c .before .before) in
     let l = lending e .before .before .before in
-    let p = l .before .before .before .before .before .before .pre in
-    simp length-take (omega (arith, p .0, l .lent .ensures), omega (arith, p .1, e .call-named .kept .1 .1 .1 .0))
+    simp length-take (omega (arith, l .lent .ensures), omega (arith, l .before .before .before .before .pre, e .call-named .kept .1 .1 .1 .0))
 
 -- what has no name here follows from what the slices are asked
 
@@ -71,9 +70,8 @@ run-case-spec =
     (λ c. search needs)
     slice-aggregate-call-named-2
     (λ c κs. search needs)
-    (λ c κs. search needs)
     array-share-prefix-output
-    slice-aggregate-compare
-    compare-requires
+    slice-aggregate-compare-case
+    compare-case-requires
     (λ c. search needs)
     (λ c. search needs))
