@@ -5,8 +5,9 @@
 // room for the work, and writes the bytes that it is told of. Where a read fails it prints nothing, since the lines before it may be another rule than the
 // one that was meant, and says so on standard error; so it does where a write fails.
 use answers::Answer;
+use octets::order::least;
 ghost use mathlib.Core.Path.{_≡_};
-ghost use Prim.Native.Nat.{_*_, _≤_, min};
+ghost use Prim.Native.Nat.{_*_, _≤_};
 ghost use lib.ListN.{length};
 ghost use Rattle.io.specs.Counts.{Counts};
 ghost use Rattle.octets.specs.Words.{words};
@@ -51,13 +52,6 @@ fn text_room() -> [u8; 147522]
 }
 
 // ---- the program on bytes
-
-// The smaller of two.
-fn least(a: usize, b: usize) -> usize
-    ensures { λ r. ⌜ r ≡ min a b ⌝ }
-{
-    if a < b { a } else { b }
-}
 
 // Lowers the first `count` words. As many as the signature should have are the signature, or all of them if there are fewer; the rest is the rule. There is
 // a counter for each word that the signature should have, as in the definition, so that no head is without.
