@@ -17,6 +17,9 @@ use Rattle.rules.specs.Signature.{sameTerms}
 use Rattle.rules.specs.Words.{countOf, headBase, headOf, headWord, limit16, literalBase}
 use Rattle.meaning.proofs.Lists.{same-terms, terms-same}
 use Rattle.meaning.proofs.MergePass.{alike-same}
+use Rattle.words.proofs.AtomLaws.{atom-head}
+use Rattle.words.specs.Atom.{AtomSays}
+use Rattle.words.specs.declared.Atom.{Atom}
 use Rattle.bodies.specs.Standing.{TabAt, tabAt}
 
 -- ---- first words
@@ -27,6 +30,20 @@ whole-word w a b = omega arith
 
 count-low : (w : ℕ) → headBase ≤ w → countOf w ≡ w % limit16
 count-low w h = omega arith
+
+-- the atom of a head that was read at p
+pub record Read (l : List ℕ) (p : ℕ) (x : Atom) : Type 0 where
+  pub terms : x .terms ≡ p + 1
+  pub count : x .count ≡ countOf (getD l p 0)
+  pub next : x .next ≡ p + 1 + x .count
+  pub some : 1 ≤ x .count
+  pub within : x .next ≤ length l
+
+pub read : {l : List ℕ} {p : ℕ} {x : Atom} → TabAt l p → AtomSays x (getD l p 0) p → Read l p x
+read {l} {p} a s =
+    let n = atom-head s (a .low) .1 in
+    let c = count-low (getD l p 0) (a .low) in
+    record { terms = s .termsAt; count = n; next = s .nextAt; some = omega (arith, n, c, a .some); within = omega (arith, s .nextAt, n, c, a .within) }
 
 module _ {l : List ℕ} {p q : ℕ} (a : TabAt l p) (b : TabAt l q) where
   pub heads-differ : (getD l p 0 ≡ getD l q 0 → ⊥) → alike (tabAt l p) (tabAt l q) ≡ false
@@ -49,25 +66,22 @@ module _ {l : List ℕ} {p q : ℕ} (a : TabAt l p) (b : TabAt l q) where
           let m : getD l p 0 % limit16 ≡ getD l q 0 % limit16 = omega (arith, a .some, b .some, ca, cb, n) in
           absurd (k (whole-word (getD l p 0) (a .low) (a .high) ∙ ap₂ headWord (w .0) m ∙ sym (whole-word (getD l q 0) (b .low) (b .high))))
 
-  pub heads-same : {n : ℕ} → getD l p 0 ≡ getD l q 0 → n ≡ getD l p 0 % limit16 - 1
-      → sameTerms (part l (p + 1) n) (part l (q + 1) n) ≡ alike (tabAt l p) (tabAt l q)
+  pub heads-same : {x y : Atom} → Read l p x → Read l q y → getD l p 0 ≡ getD l q 0
+      → sameTerms (part l (x .terms) (x .count - 1)) (part l (y .terms) (x .count - 1)) ≡ alike (tabAt l p) (tabAt l q)
   unfolding tabAt
-  heads-same {n} e en =
-      let n₁ : n ≡ countOf (getD l p 0) - 1 = en ∙ ap (λ (k : ℕ). k - 1) (sym (count-low (getD l p 0) (a .low))) in
-      let n₂ : n ≡ countOf (getD l q 0) - 1 = n₁ ∙ ap (λ (w : ℕ). countOf w - 1) e in
+  heads-same {x} {y} rx ry e =
+      let n₁ : x .count - 1 ≡ countOf (getD l p 0) - 1 = ap (λ (k : ℕ). k - 1) (rx .count) in
+      let n₂ : x .count - 1 ≡ countOf (getD l q 0) - 1 = n₁ ∙ ap (λ (w : ℕ). countOf w - 1) e in
       let h : true ≡ eqb (headOf (getD l p 0)) (headOf (getD l q 0)) = sym (eq-eqb _ _ (ap headOf e)) in
-      λ i. h i && sameTerms (part l (p + 1) (n₁ i)) (part l (q + 1) (n₂ i))
+      λ i. h i && sameTerms (part l (rx .terms i) (n₁ i)) (part l (ry .terms i) (n₂ i))
 
 -- ---- the output
 
-pub out-at : {l : List ℕ} {p : ℕ} → TabAt l p → getD l (p + getD l p 0 % limit16) 0 ≡ tabAt l p .out
+pub out-at : {l : List ℕ} {p : ℕ} {x : Atom} → Read l p x → getD l (x .next - 1) 0 ≡ tabAt l p .out
 unfolding tabAt
-out-at {l} {p} a =
-    ap (λ (k : ℕ). getD l k 0) (sum p (getD l p 0 % limit16) (countOf (getD l p 0)) (a .some) (count-low (getD l p 0) (a .low)))
-    ∙ sym (getD-drop (p + 1) l (countOf (getD l p 0) - 1) 0)
-  where
-    sum : (p c d : ℕ) → 1 ≤ c → d ≡ c → p + c ≡ p + 1 + (d - 1)
-    sum p c d h e = omega arith
+out-at {l} {p} {x} r =
+    let place : x .next - 1 ≡ p + 1 + (countOf (getD l p 0) - 1) = omega (arith, r .next, r .some, r .count) in
+    ap (λ (k : ℕ). getD l k 0) place ∙ sym (getD-drop (p + 1) l (countOf (getD l p 0) - 1) 0)
 
 -- ---- terms compared one by one: of the n at p and the n at q, the first i are equal, each to each
 

@@ -13,12 +13,15 @@ use Rattle.octets.specs.Regions.{At, Only, part}
 use Rattle.rules.specs.Canonicalize.{Replacement, replaceAtom, resolve, resolveEq}
 use Rattle.rules.specs.Flat.{Atom, Tab, atomWords, eqn, tab, tabWords, wordsOf}
 use Rattle.rules.specs.Signature.{Sig, sameTerm}
-use Rattle.rules.specs.Words.{countOf, headWord, limit16}
+use Rattle.rules.specs.Words.{countOf, equalityWord, headBase, headWord, limit16}
 use Rattle.meaning.proofs.Lists.{all-append, length-words-append, words-append}
 use Rattle.meaning.proofs.ReadBack.{atoms-back, count-of, head-of, tabs-back, tabs-encodable, unplaced-encodable, unplaced-words}
 use Rattle.meaning.proofs.WordLaws.{length-tab, tabs-words, two-atom, two-tab}
 use Rattle.meaning.specs.Meaning.{All}
 use Rattle.meaning.specs.ReadBack.{Encodable, EncodableTab, atomsOf, tabFrom, tabsOf, unplaced, unplacedTab}
+use Rattle.words.proofs.AtomLaws.{good-next}
+use Rattle.words.specs.Atom.{AtomSays, BeginsGood}
+use Rattle.words.specs.declared.Atom as word
 use Rattle.bodies.specs.Standing.{AtomsAt, Bare, BareTab, BodyAt, TabAt, TabsAt, atomsIn, sizeAt, tabAt, tabsIn}
 
 -- ---- without places
@@ -190,6 +193,38 @@ unfolding sizeAt
 size-atom (eqn q a b) f l p s = ap (λ (w : ℕ). w % limit16 + 1) (at-first s)
 size-atom (tab t) f l p s = size-tab t f l p s
 
+-- an atom of a head that stands is read as one
+pub tab-there : (t : Tab) (l : List ℕ) (p : ℕ) → EncodableTab t → At (tabWords t) l p → TabAt l p
+tab-there t l p f s =
+    let w : getD l p 0 ≡ headWord (t .head) (suc (length (t .ins))) = at-first s in
+    let c : getD l p 0 % limit16 ≡ suc (length (t .ins)) = ap (λ (x : ℕ). x % limit16) w ∙ low-bits (t .head) (suc (length (t .ins))) (f .1) in
+    record {
+      low = omega (arith, w);
+      high = omega (arith, w, f .0, f .1);
+      some = omega (arith, c);
+      within = omega (arith, c, s .within, length-tab t);
+    }
+
+-- its first word is as reading lets it pass, and so is an equality's
+
+pub tab-begins : {l : List ℕ} {p : ℕ} → TabAt l p → BeginsGood l p
+tab-begins {l} {p} a = record { inside = omega (arith, a .within); first = record { high = a .high; two = high (getD l p 0) (a .low) } }
+  where
+    high : (w : ℕ) → headBase ≤ w → w < headBase → w ≡ equalityWord
+    high w h k = absurd (omega arith)
+
+pub equality-begins : {l : List ℕ} {p : ℕ} → p < length l → getD l p 0 ≡ equalityWord → BeginsGood l p
+equality-begins {l} {p} h e = record { inside = h; first = record { high = omega (arith, e); two = λ k. e } }
+
+pub begins-atom : (x : Atom) → Encodable x → {l : List ℕ} {p : ℕ} → At (atomWords x) l p → BeginsGood l p
+begins-atom (eqn q a b) f {l} {p} s = equality-begins (omega (arith, s .within)) (at-first s)
+begins-atom (tab t) f {l} {p} s = tab-begins (tab-there t l p f s)
+
+-- the next one begins behind its words
+pub next-at : {l : List ℕ} {p : ℕ} {r : word.Atom} → BeginsGood l p → AtomSays r (getD l p 0) p → r .next ≡ p + sizeAt l p
+unfolding sizeAt
+next-at b a = good-next (b .first) a
+
 -- ---- the first of the atoms in a region, and what is left
 
 pub record First (xs : List Atom) (l : List ℕ) (p n : ℕ) : Type 0 where
@@ -202,6 +237,7 @@ pub record First (xs : List Atom) (l : List ℕ) (p n : ℕ) : Type 0 where
   pub inside : length (atomWords atom) ≤ n
   pub some : 2 ≤ length (atomWords atom)
   pub size : sizeAt l p ≡ length (atomWords atom)
+  pub begins : BeginsGood l p
   pub after : (q m : ℕ) → q ≡ p + length (atomWords atom) → m ≡ n - length (atomWords atom) → AtomsAt rest l q m
 
 -- the words of a first thing, and of those behind it, in n words at p
@@ -244,6 +280,7 @@ first-atom (x ∷ xs) l p n s h =
       inside = k .inside;
       some = two-atom x;
       size = size-atom x (s .fits .0) l p (k .stands);
+      begins = begins-atom x (s .fits .0) (k .stands);
       after = λ q m eq em. record { fits = s .fits .1; bare = s .bare .1; size = k .left m em; at = k .behind q eq; within = k .within q m eq em };
     }
 
@@ -261,6 +298,7 @@ pub record FirstTab (ts : List Tab) (l : List ℕ) (p n : ℕ) : Type 0 where
   pub inside : length (tabWords atom) ≤ n
   pub some : 2 ≤ length (tabWords atom)
   pub size : sizeAt l p ≡ length (tabWords atom)
+  pub begins : BeginsGood l p
   pub after : (q m : ℕ) → q ≡ p + length (tabWords atom) → m ≡ n - length (tabWords atom) → TabsAt rest l q m
 
 pub first-tab : (ts : List Tab) (l : List ℕ) (p n : ℕ) → TabsAt ts l p n → 0 < n → FirstTab ts l p n
@@ -277,6 +315,7 @@ first-tab (x ∷ xs) l p n s h =
       inside = k .inside;
       some = two-tab x;
       size = size-tab x (s .fits .0) l p (k .stands);
+      begins = tab-begins (tab-there x l p (s .fits .0) (k .stands));
       after = λ q m eq em. record { fits = s .fits .1; bare = s .bare .1; size = k .left m em; at = k .behind q eq; within = k .within q m eq em };
     }
 
@@ -327,14 +366,3 @@ module _ (t : Tab) (l : List ℕ) (p : ℕ) (f : EncodableTab t) (s : At (tabWor
       let rest : List ℕ = drop n (drop p l) in
       let d : drop p l ≡ tabWords t ++ rest = sym (take-append-drop n (drop p l)) ∙ ap (λ (x : List ℕ). x ++ rest) (s .words) in
       ap₂ tabFrom (at-first s) (after-first l p (headWord (t .head) (suc (length (t .ins)))) ((t .ins ++ t .out ∷ []) ++ rest) d) ∙ tab-back t rest f b
-
-  pub tab-there : TabAt l p
-  tab-there =
-      let w : getD l p 0 ≡ headWord (t .head) (suc (length (t .ins))) = at-first s in
-      let c : getD l p 0 % limit16 ≡ suc (length (t .ins)) = ap (λ (x : ℕ). x % limit16) w ∙ low-bits (t .head) (suc (length (t .ins))) (f .1) in
-      record {
-        low = omega (arith, w);
-        high = omega (arith, w, f .0, f .1);
-        some = omega (arith, c);
-        within = omega (arith, c, s .within, length-tab t);
-      }

@@ -1,24 +1,23 @@
-// Atoms where they stand: a first word, its terms, and the output last.
+// Atoms where they stand. The last of an atom's terms is its output, those before it are its inputs.
 ghost use mathlib.Core.Path.{_≡_};
-ghost use Prim.Native.Nat.{_+_, _≤_, _<_};
+ghost use Prim.Native.Nat.{_+_, _≤_};
 ghost use lib.ListN.{length};
 ghost use Rattle.octets.specs.Words.{words};
 ghost use Rattle.octets.specs.Regions.{part};
 ghost use Rattle.rules.specs.Signature.{sameTerms};
 ghost use Rattle.rules.specs.RemoveDupVars.{alike};
+ghost use Rattle.words.specs.Atom.{BeginsGood};
 ghost use Rattle.bodies.specs.Standing.{sizeAt, tabAt, TabAt};
 use crate::terms::same_term;
+use words::good_atom_at;
 
-// The first word of an equality of two terms.
-pub const EQUALITY: u32 = 0x0800_0002;
-
-// How many words the atom at p has. An equality's count of two stands in the same bits as the count of a head's terms.
+// How many words the atom at p has.
 pub fn size(s: &[u8], p: usize) -> usize
-    requires { ⌜ p < length (words (now s)) ⌝ }
+    requires { ⌜ BeginsGood (words (now s)) p ⌝ }
     ensures { λ r. ⌜ r ≡ sizeAt (words (now (s .entry))) p ⌝ }
 {
-    let w = octets::get(s, p);
-    (w % 65536) as usize + 1
+    let atom = good_atom_at(s, p);
+    atom.next - p
 }
 
 // The output of the atom at p.
@@ -26,8 +25,8 @@ pub fn output(s: &[u8], p: usize) -> u32
     requires { ⌜ TabAt (words (now s)) p ⌝ }
     ensures { λ r. ⌜ r ≡ tabAt (words (now (s .entry))) p .out ⌝ }
 {
-    let w = octets::get(s, p);
-    octets::get(s, p + (w % 65536) as usize)
+    let atom = good_atom_at(s, p);
+    octets::get(s, atom.next - 1)
 }
 
 // Whether the n terms at p and those at q are equal, each to each.
@@ -45,15 +44,16 @@ fn same_terms(s: &[u8], p: usize, q: usize, n: usize) -> bool
     true
 }
 
-// Whether the atoms at p and at q are alike in head and inputs.
+// Whether the atoms at p and at q are alike in head and inputs: the first words tell of the heads, and that there are as many inputs.
 pub fn alike(s: &[u8], p: usize, q: usize) -> bool
     requires { ⌜ TabAt (words (now s)) p ⌝ }
     requires { ⌜ TabAt (words (now s)) q ⌝ }
     ensures { λ r. ⌜ r ≡ alike (tabAt (words (now (s .entry))) p) (tabAt (words (now (s .entry))) q) ⌝ }
 {
-    let w = octets::get(s, p);
-    if w != octets::get(s, q) {
+    if octets::get(s, p) != octets::get(s, q) {
         return false;
     }
-    same_terms(s, p + 1, q + 1, (w % 65536) as usize - 1)
+    let first = good_atom_at(s, p);
+    let later = good_atom_at(s, q);
+    same_terms(s, first.terms, later.terms, first.count as usize - 1)
 }

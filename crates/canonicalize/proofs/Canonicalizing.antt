@@ -50,13 +50,16 @@ module _ {l : List ℕ} {at n : ℕ} (c : AtomsAt (atomsIn l at n) l at n) where
         inside = omega arith;
       }
 
-  pub leading-next : {i : ℕ} → Leading l at n i → i < n → getD l (at + i) 0 ≡ equalityWord → Leading l at n (i + 3)
-  leading-next {i} w h e = go (t .atom) refl
+  pub leading-here : {i : ℕ} (w : Leading l at n i) → i < n → First (w .todo) l (at + i) (n - i)
+  leading-here {i} w h = first-atom (w .todo) l (at + i) (n - i) (w .others) (omega arith)
+
+  pub leading-next : {i j : ℕ} → Leading l at n i → i < n → getD l (at + i) 0 ≡ equalityWord → j ≡ i + 3 → Leading l at n j
+  leading-next {i} {j} w h e ej = go (t .atom) refl
     where
       t : First (w .todo) l (at + i) (n - i)
-      t = first-atom (w .todo) l (at + i) (n - i) (w .others) (omega arith)
+      t = leading-here w h
 
-      go : (x : Atom) → t .atom ≡ x → Leading l at n (i + 3)
+      go : (x : Atom) → t .atom ≡ x → Leading l at n j
       go (tab u) q = absurd (subst (λ (x : Atom). IsEqn x) q (eqn-met (t .atom) (t .stands) e))
       go (eqn p a b) q =
           let three : length (atomWords (t .atom)) ≡ 3 = ap (λ (x : Atom). length (atomWords x)) q in
@@ -72,8 +75,8 @@ module _ {l : List ℕ} {at n : ℕ} (c : AtomsAt (atomsIn l at n) l at n) where
             eqs = w .eqs ++ eqn p a b ∷ [];
             todo = t .rest;
             equalities = all-append IsEqn (w .eqs) (eqn p a b ∷ []) (w .equalities) (tt, tt);
-            passed = atoms-join (w .eqs) (eqn p a b ∷ []) l at i (at + i) 3 (w .passed) one refl;
-            others = t .after (at + (i + 3)) (n - (i + 3)) (omega arith) (omega arith);
+            passed = subst (λ (k : ℕ). AtomsAt (w .eqs ++ eqn p a b ∷ []) l at k) (sym ej) (atoms-join (w .eqs) (eqn p a b ∷ []) l at i (at + i) 3 (w .passed) one refl);
+            others = t .after (at + j) (n - j) (omega arith) (omega arith);
             whole = w .whole ∙ ap (λ (us : List Atom). w .eqs ++ us) (t .is ∙ ap (λ (x : Atom). x ∷ t .rest) q)
                 ∙ sym (append-assoc (w .eqs) (eqn p a b ∷ []) (t .rest));
             inside = omega (arith, t .inside, three);

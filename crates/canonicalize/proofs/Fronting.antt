@@ -22,14 +22,16 @@ use Rattle.meaning.proofs.Sweep.{asked-var}
 use Rattle.meaning.specs.Meaning.{All}
 use Rattle.meaning.proofs.Sweep.{asks}
 use Rattle.meaning.specs.Weight.{headsWeight, live, unlike, weight}
+use Rattle.words.specs.Atom.{BeginsGood}
+use Rattle.words.specs.declared.Atom as word
 use Rattle.bodies.specs.Standing.{AtomsAt, TabsAt, atomsIn}
-use Rattle.bodies.proofs.Standing.{atoms-before, atoms-join, no-tabs, tabs-before, tabs-join}
+use Rattle.bodies.proofs.Standing.{atoms-before, atoms-join, equality-begins, no-tabs, tabs-before, tabs-join}
 use Rattle.canonicalize.specs.declared.Canonical.{Canonical}
 use Rattle.canonicalize.specs.Canonicalize.{FrontAsks, FrontOne, FrontOneAsks, FrontStep, Fronted, ResolveOneAsks, StepAsks, Stepped}
 use Rattle.canonicalize.specs.Canonicalize.{askAt, bindingWords, placeAfter, resolveAt}
 use Rattle.canonicalize.specs.Spans.{Spanned}
 use Rattle.canonicalize.proofs.Fronts.{asked-same-terms, canonicalize-asked, canonicalize-still}
-use Rattle.canonicalize.proofs.Replacing.{ask-is, made}
+use Rattle.canonicalize.proofs.Replacing.{Equality, ask-is, made}
 use Rattle.canonicalize.proofs.Resolving.{resolve-atom, resolved-there}
 use Rattle.canonicalize.proofs.SpanLaws.{spanned-before, spanned-tail}
 use Rattle.rules.specs.Canonicalize as canon
@@ -40,12 +42,15 @@ module _ {s : Sig} {l : List ℕ} {p n to d table buckets : ℕ} (c : FrontOneAs
   pub equality-within : p + 3 ≤ length l
   equality-within = omega (arith, c .spanned .beyond, c .binds, c .top)
 
-  pub step-asks : StepAsks l (p + 3) (n - 3) p d table buckets
-  step-asks =
+  pub front-begins : BeginsGood l p
+  front-begins = equality-begins (omega (arith, equality-within)) (c .equality)
+
+  pub step-asks : {r : word.Atom} → Equality l p r → StepAsks l (r .next) (n - (r .next - p)) p d table buckets
+  step-asks {r} q =
       record {
-        here = omega (arith, equality-within);
+        begins = front-begins;
         whole = λ e. equality-within;
-        spanned = c .spanned;
+        spanned = spanned-tail (r .next) (n - (r .next - p)) (c .spanned) (omega (arith, q .next)) (omega (arith, q .next));
         room = c .binds;
         top = c .top;
       }
@@ -54,6 +59,16 @@ module _ {s : Sig} {l : List ℕ} {p n to d table buckets : ℕ} (c : FrontOneAs
 pub record Tried {s : Sig} {l : List ℕ} {p n to d table buckets : ℕ} (c : FrontOneAsks s l p n to d table buckets) (m : List ℕ) (e : ℕ) : Type 0 where
   pub place : e ≡ placeAfter (askAt s l p) d
   pub stepped : Stepped (askAt s l p) l m (p + 3) (n - 3) d table buckets
+
+pub tried : {s : Sig} {l : List ℕ} {p n to d table buckets : ℕ} (c : FrontOneAsks s l p n to d table buckets) {m : List ℕ} {e : ℕ} {r : word.Atom} → Equality l p r
+    → e ≡ placeAfter (askAt s l p) d → Stepped (askAt s l p) l m (r .next) (n - (r .next - p)) d table buckets → Tried c m e
+tried {s} {l} {p} {n} {to} {d} {table} {buckets} c {m} {e} {r} q place stepped =
+    let size : n - (r .next - p) ≡ n - 3 = omega (arith, q .next) in
+    record {
+      place = place;
+      stepped = subst (λ (x : ℕ). Stepped (askAt s l p) l m (p + 3) x d table buckets) size
+          (subst (λ (x : ℕ). Stepped (askAt s l p) l m x (n - (r .next - p)) d table buckets) (q .next) stepped);
+    }
 
 module _ {s : Sig} {l : List ℕ} {p n to d table buckets : ℕ} {c : FrontOneAsks s l p n to d table buckets} {m : List ℕ} {e : ℕ} (t : Tried c m e) where
   -- something was asked
@@ -74,7 +89,7 @@ module _ {s : Sig} {l : List ℕ} {p n to d table buckets : ℕ} {c : FrontOneAs
       go (some r) q x y = absurd (omega (arith, c .binds))
 
   pub resolve-asks : e ≡ d → ResolveOneAsks s m p to
-  resolve-asks k = subst (λ (x : List ℕ). ResolveOneAsks s x p to) (sym (still-same k .1)) (record { whole = equality-within c; room = c .room })
+  resolve-asks k = subst (λ (x : List ℕ). ResolveOneAsks s x p to) (sym (still-same k .1)) (record { equality = c .equality; whole = equality-within c; room = c .room })
 
   pub front-still : {m₂ : List ℕ} {w : ℕ} → e ≡ d → w ≡ length (resolveAt s m p) → m₂ ≡ splice m to (resolveAt s m p)
       → FrontOne s l m₂ p n to d table buckets (record { words = w; binds = d })
@@ -343,12 +358,14 @@ module _ {l : List ℕ} {at e k to d₀ table buckets : ℕ} (c : FrontAsks l at
         none-more j = omega arith
 
     -- a turn of the loop
-    pub fronting-next : s .valueEq < limit12 → {m₂ : List ℕ} {r : Canonical} → FrontOne s m m₂ (at + i) (e - i + k) (to + t .words) (t .binds) table buckets r
-        → Fronting s l m₂ at e k to d₀ table buckets (i + 3) (after r)
-    fronting-next v {m₂} {r} z =
-        go (asks s first) refl
+    -- the next one is at offset j
+    pub fronting-next : s .valueEq < limit12 → {m₂ : List ℕ} {r : Canonical} {j : ℕ}
+        → FrontOne s m m₂ (at + i) (e - i + k) (to + t .words) (t .binds) table buckets r → j ≡ i + 3 → Fronting s l m₂ at e k to d₀ table buckets j (after r)
+    fronting-next v {m₂} {r} {j} z ej =
+        subst (λ (x : ℕ). Fronting s l m₂ at e k to d₀ table buckets x (after r)) (sym ej)
+        (go (asks s first) refl
         (subst (λ (o : Option Replacement). FrontStep o s m m₂ (at + i) (e - i + k) (to + t .words) (t .binds) table buckets r)
-        (ask-is s first m (at + i) (next .stands)) (z .step))
+        (ask-is s first m (at + i) (next .stands)) (z .step)))
       where
         go : (o : Option Replacement) → asks s first ≡ o → FrontStep o s m m₂ (at + i) (e - i + k) (to + t .words) (t .binds) table buckets r
             → Fronting s l m₂ at e k to d₀ table buckets (i + 3) (after r)

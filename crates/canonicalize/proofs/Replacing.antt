@@ -22,8 +22,15 @@ use Rattle.meaning.proofs.WordLaws.{length-replaced, replace-words, two-atom}
 use Rattle.meaning.specs.Meaning.{All}
 use Rattle.meaning.specs.ReadBack.{Encodable}
 use Rattle.meaning.proofs.Sweep.{asks}
+use Rattle.words.proofs.AtomLaws.{atom-equality, isVarTerm, term-var, termed}
+use Rattle.words.specs.Atom.{AtomSays, BeginsGood, TermSays, termWord}
+use Rattle.words.specs.declared.Atom as word
+use Rattle.words.specs.declared.Term.{Term}
+use Rattle.words.specs.declared.Term.the-variants.{Var}
 use Rattle.bodies.specs.Standing.{AtomsAt, atomsIn, sizeAt}
-use Rattle.bodies.proofs.Standing.{bare-replaced, size-atom}
+use Rattle.bodies.specs.Terms.{sig}
+use Rattle.bodies.specs.declared.terms.Sign.{Sign}
+use Rattle.bodies.proofs.Standing.{bare-replaced, begins-atom, next-at, size-atom}
 use Rattle.canonicalize.specs.declared.Asked.{Asked}
 use Rattle.canonicalize.specs.Canonicalize.{ReplaceAsks, Replaced, StepAsks, Stepped, Swept, askAt, askFor, askedOf, bindingWords, placeAfter}
 use Rattle.canonicalize.specs.Spans.{Spanned}
@@ -62,9 +69,66 @@ pub eqn-met : (x : Atom) {l : List ℕ} {p : ℕ} → At (atomWords x) l p → g
 eqn-met (eqn r a b) s e = tt
 eqn-met (tab t) s e = absurd (no-equality (t .head) (suc (length (t .ins))) (sym (at-first s) ∙ e))
 
+pub eqn-word : (x : Atom) {l : List ℕ} {p : ℕ} → IsEqn x → At (atomWords x) l p → getD l p 0 ≡ equalityWord
+eqn-word (eqn r a b) h s = at-first s
+eqn-word (tab t) h s = absurd h
+
 pub eqn-size : (x : Atom) → IsEqn x → length (atomWords x) ≡ 3
 eqn-size (tab t) h = absurd h
 eqn-size (eqn p a b) h = refl
+
+-- ---- an equality that was read at a place: its terms stand behind its first word, and there are two of them
+
+pub record Equality (l : List ℕ) (p : ℕ) (r : word.Atom) : Type 0 where
+  pub word : getD l p 0 ≡ equalityWord
+  pub left : r .terms ≡ p + 1
+  pub right : r .terms + 1 ≡ p + 2
+  pub next : r .next ≡ p + 3
+
+pub equality-read : {l : List ℕ} {p : ℕ} {r : word.Atom} → getD l p 0 ≡ equalityWord → AtomSays r (getD l p 0) p → Equality l p r
+equality-read {l} {p} {r} e a =
+    let n = atom-equality a (omega (arith, e)) .1 in
+    record { word = e; left = a .termsAt; right = omega (arith, a .termsAt); next = omega (arith, a .nextAt, n, e) }
+
+-- ---- what two terms ask for
+
+-- what the definition says of them
+abbrev pub Asks : Sign → (a b : ℕ) → Asked → Type 0
+Asks q a b r = r ≡ askedOf (replacementOf (sameTerm a b) (isVar (sig q) a) (isVar (sig q) b) a b)
+
+pub asks-same : (q : Sign) (a b : ℕ) → true ≡ sameTerm a b → Asks q a b (record { yes = false; old = 0; new = 0 })
+asks-same q a b e = ap (λ (x : Bool). askedOf (replacementOf x (isVar (sig q) a) (isVar (sig q) b) a b)) e
+
+-- they are two, and the left one is read as the case t
+pub record Two (q : Sign) (a b : ℕ) (t : Term) : Type 0 where
+  pub apart : false ≡ sameTerm a b
+  pub left : TermSays t (q .globals) a
+
+told : (q : Sign) {w : ℕ} {t : Term} → TermSays t (q .globals) w → isVarTerm t ≡ isVar (sig q) w
+told q {w} says = ap isVarTerm (termed says) ∙ term-var (sig q) w
+
+module _ {q : Sign} {a b : ℕ} {t : Term} (k : Two q a b t) where
+  by-left : (x : Bool) → isVarTerm t ≡ x → Asks q a b (askedOf (replacementOf false x (isVar (sig q) b) a b))
+  by-left x e = let ea = sym e ∙ told q (k .left) in λ i. askedOf (replacementOf (k .apart i) (ea i) (isVar (sig q) b) a b)
+
+  -- it is a variable
+  pub asks-left : {v : ℕ} → t ≡ Var v → Asks q a b (record { yes = true; old = v; new = b })
+  asks-left {v} e =
+      let is : v ≡ a = ap termWord (sym e) ∙ k .left .wordIs in
+      subst (λ (x : ℕ). Asks q a b (record { yes = true; old = x; new = b })) (sym is) (by-left true (ap isVarTerm e))
+
+  -- it is none, and the right one is read as the case u
+  module _ (n : isVarTerm t ≡ false) {u : Term} (right : TermSays u (q .globals) b) where
+    by-right : (x : Bool) → isVarTerm u ≡ x → Asks q a b (askedOf (replacementOf false false x a b))
+    by-right x e = ap (λ (y : Bool). askedOf (replacementOf false false y a b)) (sym e ∙ told q right) ∙ by-left false n
+
+    pub asks-right : {v : ℕ} → u ≡ Var v → Asks q a b (record { yes = true; old = v; new = a })
+    asks-right {v} e =
+        let is : v ≡ b = ap termWord (sym e) ∙ right .wordIs in
+        subst (λ (x : ℕ). Asks q a b (record { yes = true; old = x; new = a })) (sym is) (by-right true (ap isVarTerm e))
+
+    pub asks-none : isVarTerm u ≡ false → Asks q a b (record { yes = false; old = 0; new = 0 })
+    asks-none e = by-right false e
 
 -- ---- one replacement
 
@@ -156,19 +220,15 @@ module _ (s : Sig) {r : Replacement} {xs : List Atom} (rs : List Replacement) {m
 abbrev pub StepAnswers : Sig → (l m : List ℕ) (at n p d table buckets r : ℕ) → Type 0
 StepAnswers s l m at n p d table buckets r = (r ≡ placeAfter (askAt s l p) d) × Stepped (askAt s l p) l m at n d table buckets
 
--- it is an equality
-pub record Equality (l : List ℕ) (p : ℕ) : Type 0 where
-  pub word : getD l p 0 ≡ equalityWord
-  pub within : p + 3 ≤ length l
-  pub fits : length l < 2 ^ 64
-
 -- its terms are a and b, and t says what they ask for
-pub asks-terms : (s : Sig) {l : List ℕ} {p a b : ℕ} {t : Asked} → Equality l p → a ≡ getD l (p + 1) 0 → b ≡ getD l (p + 2) 0
+pub asks-terms : (s : Sig) {l : List ℕ} {p a b : ℕ} {r : word.Atom} {t : Asked} → Equality l p r → a ≡ getD l (r .terms) 0 → b ≡ getD l (r .terms + 1) 0
     → t ≡ askedOf (replacementOf (sameTerm a b) (isVar s a) (isVar s b) a b) → t ≡ askedOf (askAt s l p)
 unfolding askAt
 asks-terms s {l} {p} q ea eb et =
     let c : true ≡ eqb (getD l p 0) equalityWord = sym (eq-eqb (getD l p 0) equalityWord (q .word)) in
-    et ∙ (λ i. askedOf (askFor (c i) s (ea i) (eb i)))
+    let x = ea ∙ ap (λ (k : ℕ). getD l k 0) (q .left) in
+    let y = eb ∙ ap (λ (k : ℕ). getD l k 0) (q .right) in
+    et ∙ (λ i. askedOf (askFor (c i) s (x i) (y i)))
 
 module _ (s : Sig) {l : List ℕ} {at n p d table buckets : ℕ} (c : StepAsks l at n p d table buckets) where
   asked-nothing : askAt s l p ≡ none → StepAnswers s l l at n p d table buckets d
@@ -229,6 +289,7 @@ pub record Next {s : Sig} {l m : List ℕ} {at n d₀ table buckets p d : ℕ} (
   pub size : sizeAt m p ≡ length (atomWords atom)
   pub inside : p + sizeAt m p ≤ at + n
   pub some : 1 ≤ sizeAt m p
+  pub next : {r : word.Atom} → AtomSays r (getD m p 0) p → r .next ≡ p + sizeAt m p
   pub asks : StepAsks m at n p d table buckets
 
 pub replacing-start : {s : Sig} {l : List ℕ} {at n d₀ table buckets : ℕ} → ReplaceAsks l at n d₀ table buckets → Replacing s l l at n d₀ table buckets at d₀
@@ -268,6 +329,7 @@ module _ {s : Sig} {l m : List ℕ} {at n d₀ table buckets p d : ℕ} (w : Rep
           let f : Encodable x = all-right Encodable (w .done) (x ∷ xs) (subst (λ (ys : List Atom). All Encodable (w .done ++ ys)) e (w .atoms .fits)) .0 in
           let k : At (atomWords x) m p = at-left (wordsOf atomWords xs) (subst (λ (ys : List Atom). At (wordsOf atomWords ys) m p) e tail) in
           let size : sizeAt m p ≡ length (atomWords x) = size-atom x f m p k in
+          let begins : BeginsGood m p = begins-atom x f k in
           let whole : getD m p 0 ≡ equalityWord → p + 3 ≤ length m = λ q. subst (λ (z : ℕ). p + z ≤ length m) (eqn-size x (eqn-met x k q)) (k .within) in
           record {
             atom = x;
@@ -277,8 +339,9 @@ module _ {s : Sig} {l m : List ℕ} {at n d₀ table buckets p d : ℕ} (w : Rep
             size = size;
             inside = omega (arith, left e, w .here, length-append (atomWords x) (wordsOf atomWords xs));
             some = omega (arith, two-atom x);
+            next = λ a. next-at begins a;
             asks = record {
-              here = omega (arith, w .atoms .within);
+              begins = begins;
               whole = whole;
               spanned = w .spanned;
               room = omega (arith, w .room);
@@ -293,7 +356,7 @@ module _ {s : Sig} {l m : List ℕ} {at n d₀ table buckets p d : ℕ} (w : Rep
       go [] e = refl
       go (x ∷ xs) e = absurd (omega (arith, left e, w .here, length-append (atomWords x) (wordsOf atomWords xs), two-atom x))
 
-  module _ (t : Next w) {z : ℕ} (ez : z ≡ sizeAt m p) where
+  module _ (t : Next w) {o : ℕ} (eo : o ≡ p + sizeAt m p) where
     abbrev x : Atom
     x = t .atom
 
@@ -306,13 +369,13 @@ module _ {s : Sig} {l m : List ℕ} {at n d₀ table buckets p d : ℕ} (w : Rep
     there : AtomsAt (w .done ++ x ∷ xs) m at n
     there = subst (λ (ys : List Atom). AtomsAt (w .done ++ ys) m at n) (t .is) (w .atoms)
 
-    done-size : length (wordsOf atomWords (w .done ++ x ∷ [])) ≡ length (wordsOf atomWords (w .done)) + z
+    done-size : length (wordsOf atomWords (w .done ++ x ∷ [])) ≡ length (wordsOf atomWords (w .done)) + sizeAt m p
     done-size =
         length-words-append atomWords (w .done) (x ∷ [])
         ∙ ap (λ (ws : List ℕ). length (wordsOf atomWords (w .done)) + length ws) (append-nil (atomWords x))
-        ∙ ap (λ (k : ℕ). length (wordsOf atomWords (w .done)) + k) (sym (ez ∙ t .size))
+        ∙ ap (λ (k : ℕ). length (wordsOf atomWords (w .done)) + k) (sym (t .size))
 
-    past : asks s x ≡ none → Replacing s l m at n d₀ table buckets (p + z) d
+    past : asks s x ≡ none → Replacing s l m at n d₀ table buckets o d
     past e =
         record {
           done = w .done ++ x ∷ [];
@@ -329,7 +392,7 @@ module _ {s : Sig} {l m : List ℕ} {at n d₀ table buckets p d : ℕ} (w : Rep
           sweep = sweep-past s (atomsIn l at n) [] (w .done) x xs (w .rs) swept e;
         }
 
-    replaced : {m₂ : List ℕ} {r : Replacement} → asks s x ≡ some r → Swept r m m₂ at n d table buckets → Replacing s l m₂ at n d₀ table buckets (p + z) (d - 3)
+    replaced : {m₂ : List ℕ} {r : Replacement} → asks s x ≡ some r → Swept r m m₂ at n d table buckets → Replacing s l m₂ at n d₀ table buckets o (d - 3)
     replaced {m₂} {r} e em =
         let room : table + 2 * buckets + 3 * suc (length xs) + 3 ≤ d = omega (arith, w .room, ap length (t .is)) in
         let k = made s (w .rs) (asked-var s x r e) there (w .binds) (omega arith) em in
@@ -352,18 +415,18 @@ module _ {s : Sig} {l m : List ℕ} {at n d₀ table buckets p d : ℕ} (w : Rep
 
     -- a turn of the loop
     pub replacing-next : {m₂ : List ℕ} {d₂ : ℕ} → d₂ ≡ placeAfter (askAt s m p) d → Stepped (askAt s m p) m m₂ at n d table buckets
-        → Replacing s l m₂ at n d₀ table buckets (p + z) d₂
+        → Replacing s l m₂ at n d₀ table buckets o d₂
     replacing-next {m₂} {d₂} ed em =
         let q = ask-is s x m p (t .stands) in
-        go (asks s x) refl (ed ∙ ap (λ (o : Option Replacement). placeAfter o d) q)
-        (subst (λ (o : Option Replacement). Stepped o m m₂ at n d table buckets) q em)
+        go (asks s x) refl (ed ∙ ap (λ (g : Option Replacement). placeAfter g d) q)
+        (subst (λ (g : Option Replacement). Stepped g m m₂ at n d table buckets) q em)
       where
-        go : (o : Option Replacement) → asks s x ≡ o → d₂ ≡ placeAfter o d → Stepped o m m₂ at n d table buckets
-            → Replacing s l m₂ at n d₀ table buckets (p + z) d₂
+        go : (g : Option Replacement) → asks s x ≡ g → d₂ ≡ placeAfter g d → Stepped g m m₂ at n d table buckets
+            → Replacing s l m₂ at n d₀ table buckets o d₂
         go none e e₁ e₂ =
-            subst (λ (v : List ℕ). Replacing s l v at n d₀ table buckets (p + z) d₂) (sym e₂)
-            (subst (λ (k : ℕ). Replacing s l m at n d₀ table buckets (p + z) k) (sym e₁) (past e))
-        go (some r) e e₁ e₂ = subst (λ (k : ℕ). Replacing s l m₂ at n d₀ table buckets (p + z) k) (sym e₁) (replaced e e₂)
+            subst (λ (v : List ℕ). Replacing s l v at n d₀ table buckets o d₂) (sym e₂)
+            (subst (λ (k : ℕ). Replacing s l m at n d₀ table buckets o k) (sym e₁) (past e))
+        go (some r) e e₁ e₂ = subst (λ (k : ℕ). Replacing s l m₂ at n d₀ table buckets o k) (sym e₁) (replaced e e₂)
 
   pub replacing-end : at + n ≤ p → Replaced s l m at n d₀ table buckets d
   replacing-end h =

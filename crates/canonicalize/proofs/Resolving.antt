@@ -15,10 +15,12 @@ use Rattle.meaning.proofs.Encodable.{resolve-encodable}
 use Rattle.meaning.proofs.Lists.{length-words-append}
 use Rattle.meaning.proofs.MergePass.{IsEqn}
 use Rattle.meaning.specs.ReadBack.{Encodable}
+use Rattle.words.specs.Atom.{BeginsGood}
+use Rattle.words.specs.declared.Atom as word
 use Rattle.bodies.specs.Standing.{AtomsAt, Bare, TabsAt, atomsIn}
 use Rattle.bodies.proofs.Standing.{First, atoms-ahead, atoms-before, atoms-is, atoms-read, bare-resolve, first-atom, no-tabs, none-left, tabs-before, tabs-join}
 use Rattle.canonicalize.specs.Canonicalize.{ResolveAsks, ResolveOneAsks, Resolved, othersIn, resolveAt, resolveTerms, untilEqn}
-use Rattle.canonicalize.proofs.Replacing.{eqn-size}
+use Rattle.canonicalize.proofs.Replacing.{Equality, eqn-size, eqn-word}
 use Rattle.canonicalize.proofs.Runs.{StartsEqn, from-starts, fromEqn, run-inside, run-rest, run-tabs, until-resolve}
 
 -- ---- one equality
@@ -26,6 +28,11 @@ use Rattle.canonicalize.proofs.Runs.{StartsEqn, from-starts, fromEqn, r
 pub resolve-pair : (s : Sig) (l : List ℕ) (p : ℕ) {a b : ℕ} → a ≡ getD l (p + 1) 0 → b ≡ getD l (p + 2) 0 → resolveTerms (sameTerm a b) s a b ≡ resolveAt s l p
 unfolding resolveAt
 resolve-pair s l p ea eb = λ i. resolveTerms (sameTerm (ea i) (eb i)) s (ea i) (eb i)
+
+-- as it was read
+pub resolve-read : (s : Sig) {l : List ℕ} {p a b : ℕ} {r : word.Atom} → Equality l p r → a ≡ getD l (r .terms) 0 → b ≡ getD l (r .terms + 1) 0
+    → resolveTerms (sameTerm a b) s a b ≡ resolveAt s l p
+resolve-read s {l} {p} q ea eb = resolve-pair s l p (ea ∙ ap (λ (k : ℕ). getD l k 0) (q .left)) (eb ∙ ap (λ (k : ℕ). getD l k 0) (q .right))
 
 pub resolve-atom : (s : Sig) (l : List ℕ) (p : ℕ) (x : Atom) → IsEqn x → At (atomWords x) l p → resolveAt s l p ≡ wordsOf tabWords (resolve s (x ∷ []))
 resolve-atom s l p (tab t) h k = absurd h
@@ -195,29 +202,37 @@ module _ {s : Sig} {l : List ℕ} {from n to : ℕ} (c : ResolveAsks s l from n 
         ∙ length-words-append tabWords (resolve s (next .atom ∷ [])) (resolve s (next .rest))
         ∙ ap (λ (ws : List ℕ). length ws + length (wordsOf tabWords (resolve s (next .rest)))) (sym wrote)
 
-    pub resolve-one-asks : ResolveOneAsks s m (from + i) (to + k)
-    resolve-one-asks = record { whole = omega (arith, equality-inside, w .atoms .within); room = omega (arith, w .room, sizes, c .room, w .only .size) }
+    pub equality-begins : BeginsGood m (from + i)
+    equality-begins = next .begins
 
-    -- z words are written for it
-    pub resolving-next : s .valueEq < limit12 → {m₂ : List ℕ} {z : ℕ} → z ≡ length (resolveAt s m (from + i))
-        → m₂ ≡ splice m (to + k) (resolveAt s m (from + i)) → Resolving s l m₂ from n to (i + 3) (k + z)
-    resolving-next v {m₂} {z} ez em =
+    pub resolve-one-asks : ResolveOneAsks s m (from + i) (to + k)
+    resolve-one-asks =
+        record {
+          equality = eqn-word (next .atom) is-eqn (next .stands);
+          whole = omega (arith, equality-inside, w .atoms .within);
+          room = omega (arith, w .room, sizes, c .room, w .only .size);
+        }
+
+    -- z words are written for it, and the next atom is at offset j
+    pub resolving-next : s .valueEq < limit12 → {m₂ : List ℕ} {z j : ℕ} → z ≡ length (resolveAt s m (from + i))
+        → m₂ ≡ splice m (to + k) (resolveAt s m (from + i)) → j ≡ i + 3 → Resolving s l m₂ from n to j (k + z)
+    resolving-next v {m₂} {z} {j} ez em ej =
         let new : List ℕ = resolveAt s m (from + i) in
         let one : List Tab = resolve s (next .atom ∷ []) in
         let m₁ : List ℕ = splice m (to + k) new in
         let o : Only m m₁ (to + k) (to + (k + z)) = only-splice m (to + k) new (to + (k + z)) (omega arith) (omega (arith, resolve-one-asks .room)) in
         let behind = resolved-there s (next .atom) (to + k) v is-eqn (next .fits) (next .bare) (next .stands) (resolve-one-asks .room) in
-        subst (λ (x : List ℕ). Resolving s l x from n to (i + 3) (k + z)) (sym em)
+        subst (λ (x : List ℕ). Resolving s l x from n to j (k + z)) (sym em)
         (record {
           written = w .written ++ one;
           todo = next .rest;
           same = w .same ∙ ap (λ (ts : List Tab). w .written ++ ts) split ∙ sym (append-assoc (w .written) one (resolve s (next .rest)));
-          atoms = atoms-before o (next .after (from + (i + 3)) (n - (i + 3)) (omega (arith, three)) (omega (arith, three)))
+          atoms = atoms-before o (next .after (from + j) (n - j) (omega (arith, three)) (omega (arith, three)))
               (omega (arith, equality-inside, c .clear));
           tabs = subst (λ (q : ℕ). TabsAt (w .written ++ one) m₁ to (k + q)) (sym ez)
               (tabs-join (w .written) one m₁ to k (to + k) (length new) (tabs-before o (w .tabs) (omega arith)) behind refl);
           only = only-then (only-wide to (to + (k + z)) (w .only) (omega arith) (omega arith)) (only-wide to (to + (k + z)) o (omega arith) (omega arith));
-          inside = equality-inside;
+          inside = omega (arith, equality-inside);
           room = omega (arith, w .room, sizes);
         })
 

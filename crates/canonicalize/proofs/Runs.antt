@@ -1,7 +1,7 @@
--- Runs of atoms that are no equalities: where one ends, and that it is resolved as it stands. Assumes nothing.
+-- Runs of atoms that are no equalities: where one ends, and that it is resolved as it stands; and how many equalities there are. Assumes nothing.
 use mathlib.Core.List.{List, [], _++_, _∷_, append-assoc}
 use mathlib.Core.Path.{_∙_, _≡_, ap, refl, subst, sym}
-use Prim.Native.Nat.{_+_, _-_, _<_, _≤_, ℕ}
+use Prim.Native.Nat.{_+_, _-_, _<_, _≤_, suc, ℕ}
 use native.Mathlib.Omega.{arith}
 use lib.ListN.{getD, length, length-append}
 use Rattle.octets.proofs.Places.{at-first, at-left, at-right}
@@ -16,6 +16,7 @@ use Rattle.meaning.specs.ReadBack.{Encodable, EncodableTab}
 use Rattle.bodies.specs.Standing.{AtomsAt, Bare, BareTab, TabsAt, atomsIn, sizeAt}
 use Rattle.bodies.proofs.Standing.{First, atoms-ahead, first-atom, none-left}
 use Rattle.canonicalize.specs.Canonicalize.{othersIn, untilEqn}
+use Rattle.canonicalize.specs.Spans.{equationsIn}
 use Rattle.canonicalize.proofs.Replacing.{eqn-met}
 
 -- ---- a run, and the atoms from the first equality on
@@ -131,11 +132,11 @@ module _ {l : List ℕ} {from n : ℕ} (c : AtomsAt (atomsIn l from n) l from n)
         let first = eqn-met (passing-here .atom) (passing-here .stands) e in
         omega (arith, w .size, until-eqn (w .todo) (subst (λ (xs : List Atom). StartsEqn xs) (sym (passing-here .is)) first))
 
-    -- another atom is met, of z words
-    pub passing-next : (getD l (from + i) 0 ≡ equalityWord → ⊥) → {z : ℕ} → z ≡ sizeAt l (from + i) → Passing l from n (i + z)
-    passing-next e {z} ez = go (passing-here .atom) refl
+    -- another atom is met, and the next one is at offset j
+    pub passing-next : (getD l (from + i) 0 ≡ equalityWord → ⊥) → {j : ℕ} → j ≡ i + sizeAt l (from + i) → Passing l from n j
+    passing-next e {j} ej = go (passing-here .atom) refl
       where
-        go : (x : Atom) → passing-here .atom ≡ x → Passing l from n (i + z)
+        go : (x : Atom) → passing-here .atom ≡ x → Passing l from n j
         go (eqn p a b) q = absurd (e (at-first (subst (λ (x : Atom). At (atomWords x) l (from + i)) q (passing-here .stands))))
         go (tab t) q =
             let size : sizeAt l (from + i) ≡ length (tabWords t) = passing-here .size ∙ ap (λ (x : Atom). length (atomWords x)) q in
@@ -144,7 +145,64 @@ module _ {l : List ℕ} {from n : ℕ} (c : AtomsAt (atomsIn l from n) l from n)
             ap (λ (xs : List Atom). length (wordsOf tabWords (untilEqn xs))) is ∙ until-tab t (passing-here .rest) in
             record {
               todo = passing-here .rest;
-              atoms = passing-here .after (from + (i + z)) (n - (i + z)) (omega (arith, passing-here .size)) (omega (arith, passing-here .size));
+              atoms = passing-here .after (from + j) (n - j) (omega (arith, passing-here .size)) (omega (arith, passing-here .size));
               size = omega (arith, w .size, run, size);
               inside = omega (arith, passing-here .size, passing-here .inside);
             }
+
+-- ---- the loop that counts equalities: i words are passed, and k were met
+
+pub record Counting (l : List ℕ) (at n i k : ℕ) : Type 0 where
+  pub todo : List Atom
+  pub atoms : AtomsAt todo l (at + i) (n - i)
+  pub count : equationsIn (atomsIn l at n) ≡ k + equationsIn todo
+  pub inside : i ≤ n
+  pub few : k ≤ i
+
+module _ {l : List ℕ} {at n : ℕ} (c : AtomsAt (atomsIn l at n) l at n) where
+  pub counting-start : Counting l at n 0 0
+  counting-start = record { todo = atomsIn l at n; atoms = atoms-ahead c; count = omega arith; inside = omega arith; few = omega arith }
+
+  pub counting-end : {i k : ℕ} → Counting l at n i k → n ≤ i → k ≡ equationsIn (atomsIn l at n)
+  unfolding equationsIn
+  counting-end {i} {k} w h =
+      let e = none-left (w .todo) l (at + i) (n - i) (w .atoms) (omega arith) in
+      omega (arith, w .count, ap equationsIn e)
+
+  module _ {i k : ℕ} (w : Counting l at n i k) (h : i < n) where
+    pub counting-here : First (w .todo) l (at + i) (n - i)
+    counting-here = first-atom (w .todo) l (at + i) (n - i) (w .atoms) (omega arith)
+
+    -- an atom is met that makes `met` of k, and the next one is at offset j
+    passed : {j met : ℕ} → j ≡ i + sizeAt l (at + i) → equationsIn (atomsIn l at n) ≡ met + equationsIn (counting-here .rest) → met ≤ k + 1 → Counting l at n j met
+    passed {j} ej em few =
+        let t = counting-here in
+        record {
+          todo = t .rest;
+          atoms = t .after (at + j) (n - j) (omega (arith, t .size)) (omega (arith, t .size));
+          count = em;
+          inside = omega (arith, t .size, t .inside);
+          few = omega (arith, t .size, t .some, w .few);
+        }
+
+    pub counting-met : {j : ℕ} → getD l (at + i) 0 ≡ equalityWord → j ≡ i + sizeAt l (at + i) → Counting l at n j (k + 1)
+    unfolding equationsIn
+    counting-met {j} e ej = go (counting-here .atom) refl (eqn-met (counting-here .atom) (counting-here .stands) e)
+      where
+        go : (x : Atom) → counting-here .atom ≡ x → IsEqn x → Counting l at n j (k + 1)
+        go (tab t) q m = absurd m
+        go (eqn p a b) q m =
+            let one : equationsIn (w .todo) ≡ suc (equationsIn (counting-here .rest)) =
+            ap equationsIn (counting-here .is ∙ ap (λ (x : Atom). x ∷ counting-here .rest) q) in
+            passed ej (omega (arith, w .count, one)) (omega arith)
+
+    pub counting-next : {j : ℕ} → (getD l (at + i) 0 ≡ equalityWord → ⊥) → j ≡ i + sizeAt l (at + i) → Counting l at n j k
+    unfolding equationsIn
+    counting-next {j} e ej = go (counting-here .atom) refl
+      where
+        go : (x : Atom) → counting-here .atom ≡ x → Counting l at n j k
+        go (eqn p a b) q = absurd (e (at-first (subst (λ (x : Atom). At (atomWords x) l (at + i)) q (counting-here .stands))))
+        go (tab t) q =
+            let same : equationsIn (w .todo) ≡ equationsIn (counting-here .rest) =
+            ap equationsIn (counting-here .is ∙ ap (λ (x : Atom). x ∷ counting-here .rest) q) in
+            passed ej (w .count ∙ ap (λ (x : ℕ). k + x) same) (omega arith)

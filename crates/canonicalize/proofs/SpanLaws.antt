@@ -14,42 +14,7 @@ use Rattle.octets.proofs.Splice.{length-part, splice-is}
 use Rattle.octets.specs.Regions.{Only, part, splice}
 use Rattle.bodies.specs.Buckets.{bucketOf}
 use Rattle.bodies.proofs.BucketLaws.{bucket-in}
-use Rattle.canonicalize.specs.Spans.{InSpan, Spanned, greater, lesser}
-
--- ---- the lesser and the greater of two
-
-pub lesser-is : (a b : ℕ) → a < b → a ≡ lesser a b
-lesser-is a b h = ap (λ (t : Bool). cond t a b) (sym (lt-ltb a b h))
-
-pub lesser-other : (a b : ℕ) → b ≤ a → b ≡ lesser a b
-lesser-other a b h = ap (λ (t : Bool). cond t a b) (sym (le-ltb a b h))
-
-pub greater-is : (a b : ℕ) → a < b → b ≡ greater a b
-greater-is a b h = ap (λ (t : Bool). cond t b a) (sym (lt-ltb a b h))
-
-pub greater-other : (a b : ℕ) → b ≤ a → a ≡ greater a b
-greater-other a b h = ap (λ (t : Bool). cond t b a) (sym (le-ltb a b h))
-
-pub lesser-least : (a b : ℕ) → (lesser a b ≤ a) × (lesser a b ≤ b)
-lesser-least a b = go (ltb a b) refl
-  where
-    go : (t : Bool) → ltb a b ≡ t → (cond t a b ≤ a) × (cond t a b ≤ b)
-    go true e = let h = ltb-true a b e in (omega arith, omega arith)
-    go false e = let h = ltb-false a b e in (omega arith, omega arith)
-
-pub greater-most : (a b : ℕ) → (a ≤ greater a b) × (b ≤ greater a b)
-greater-most a b = go (ltb a b) refl
-  where
-    go : (t : Bool) → ltb a b ≡ t → (a ≤ cond t b a) × (b ≤ cond t b a)
-    go true e = let h = ltb-true a b e in (omega arith, omega arith)
-    go false e = let h = ltb-false a b e in (omega arith, omega arith)
-
-pub greater-below : (a b c : ℕ) → a ≤ c → b ≤ c → greater a b ≤ c
-greater-below a b c h k = go (ltb a b)
-  where
-    go : (t : Bool) → cond t b a ≤ c
-    go true = k
-    go false = h
+use Rattle.canonicalize.specs.Spans.{InSpan, Spanned}
 
 -- ---- regions
 

@@ -2,7 +2,8 @@
 use mathlib.Core.Bool.{Bool, false, true}
 use mathlib.Core.List.{List, [], _∷_}
 use mathlib.Core.Path.{_∙_, _≡_, ap, refl, subst, sym}
-use Prim.Native.Nat.{ℕ, _*_, _+_, _^_, _<_, _≤_}
+use Prim.Native.Nat.{ℕ, _*_, _+_, _^_, _<_, _≤_, min}
+use native.Mathlib.Nat.{min-le-left, min-le-right}
 use native.Mathlib.Omega.{arith}
 use lib.Dec.{ltb}
 use lib.ListN.{getD, getD-replicate, length, length-replicate, replicate, set}
@@ -12,8 +13,8 @@ use Rattle.octets.proofs.Splice.{getD-splice-inside, length-part}
 use Rattle.octets.specs.Regions.{Only, part, splice}
 use Rattle.bodies.specs.Buckets.{bucketOf}
 use Rattle.bodies.proofs.BucketLaws.{bucket-in}
-use Rattle.canonicalize.specs.Spans.{Built, InSpan, SpanAsks, Spanned, WidenAsks, lesser, widened}
-use Rattle.canonicalize.proofs.SpanLaws.{OneSpan, high-here, in-span, lesser-least, low-here, only-spliced, wide, wide-end, wide-high, wide-low, wide-only}
+use Rattle.canonicalize.specs.Spans.{Built, InSpan, SpanAsks, Spanned, WidenAsks, widened}
+use Rattle.canonicalize.proofs.SpanLaws.{OneSpan, high-here, in-span, low-here, only-spliced, wide, wide-end, wide-high, wide-low, wide-only}
 
 -- ---- a table that is built is all that changed
 
@@ -78,13 +79,13 @@ pub fallen : {l : List ℕ} {p table count w b : ℕ} → WidenAsks l p table co
     → w ≡ getD l p 0 → (b ≡ bucketOf count w) × (b < count) → Fallen l p table count b
 fallen {count = count} c fits ew eb = record { is = eb .0 ∙ ap (bucketOf count) ew; span = record { inside = eb .1; room = c .room }; fits = fits }
 
-pub widen-is : {l m₁ m₂ : List ℕ} {p table count b first v : ℕ} → Fallen l p table count b → first ≡ getD l (table + b) 0 → v ≡ lesser first p
+pub widen-is : {l m₁ m₂ : List ℕ} {p table count b first v : ℕ} → Fallen l p table count b → first ≡ getD l (table + b) 0 → v ≡ min first p
     → m₁ ≡ set l (table + b) v → m₂ ≡ set m₁ (table + b + count) (p + 1) → m₂ ≡ widened l p table count
 unfolding widened
 widen-is {l} {m₁} {m₂} {p} {table} {count} {b} {first} {v} f ef ev e₁ e₂ =
-    let is : v ≡ lesser (getD l (table + b) 0) p = ev ∙ ap (λ (w : ℕ). lesser w p) ef in
+    let is : v ≡ min (getD l (table + b) 0) p = ev ∙ ap (λ (w : ℕ). min w p) ef in
     e₂ ∙ ap (λ (z : List ℕ). set z (table + b + count) (p + 1)) (e₁ ∙ ap (set l (table + b)) is)
-    ∙ ap (λ (k : ℕ). set (set l (table + k) (lesser (getD l (table + k) 0) p)) (table + k + count) (p + 1)) (f .is)
+    ∙ ap (λ (k : ℕ). set (set l (table + k) (min (getD l (table + k) 0) p)) (table + k + count) (p + 1)) (f .is)
 
 -- ---- many buckets: the words before p are met
 
@@ -140,7 +141,7 @@ module _ {l : List ℕ} {at n table : ℕ} (c : SpanAsks l at n table) where
     b₀ = bucketOf n (getD m p 0)
 
     abbrev u : ℕ
-    u = lesser (getD m (table + b₀) 0) p
+    u = min (getD m (table + b₀) 0) p
 
     span : OneSpan m table n b₀
     span = record { inside = bucket-in n (getD m p 0) (widen-asks .some); room = widen-asks .room }
@@ -175,7 +176,7 @@ module _ {l : List ℕ} {at n table : ℕ} (c : SpanAsks l at n table) where
         old i x y =
             let b : ℕ = bucketOf n (getD m i 0) in
             let bn : b < n = bucket-in n (getD m i 0) (widen-asks .some) in
-            let lower = wide-low span u (p + 1) (lesser-least (getD m (table + b₀) 0) p .0) b bn in
+            let lower = wide-low span u (p + 1) (min-le-left (getD m (table + b₀) 0) p) b bn in
             let up : getD m (table + n + b₀) 0 ≤ p + 1 = omega (arith, w .ends b₀ (span .inside)) in
             let higher = wide-high span u (p + 1) up b bn in
             in-span (getD m i 0) (same i (omega (arith, c .beyond))) (omega (arith, lower, w .covers i x y .low)) (omega (arith, higher, w .covers i x y .high))
@@ -183,7 +184,7 @@ module _ {l : List ℕ} {at n table : ℕ} (c : SpanAsks l at n table) where
         new : InSpan k table n p
         new =
             in-span (getD m p 0) (same p (widen-asks .beyond))
-            (omega (arith, low-here span u (p + 1), lesser-least (getD m (table + b₀) 0) p .1)) (omega (arith, high-here span u (p + 1)))
+            (omega (arith, low-here span u (p + 1), min-le-right (getD m (table + b₀) 0) p)) (omega (arith, high-here span u (p + 1)))
 
         inside : (i : ℕ) → at ≤ i → i < p + 1 → InSpan k table n i
         inside i x y = go (ltb i p) refl

@@ -4,7 +4,8 @@ use mathlib.Core.Bool.{Bool, cond, false, true}
 use mathlib.Core.List.{List, [], _∷_, map}
 use mathlib.Core.Logic.{_⊎_, inl, inr}
 use mathlib.Core.Path.{_∙_, _≡_, ap, refl, subst, sym}
-use Prim.Native.Nat.{ℕ, suc, zero, _*_, _+_, _-_, _^_, _<_, _≤_}
+use Prim.Native.Nat.{ℕ, suc, zero, _*_, _+_, _-_, _^_, _<_, _≤_, max, min}
+use native.Mathlib.Nat.{le-max-left, le-max-right, max-le, min-le-left, min-le-right}
 use native.Mathlib.Omega.{arith}
 use lib.Dec.{eqb, ltb}
 use lib.ListN.{getD, length, length-map, set}
@@ -15,8 +16,8 @@ use Rattle.octets.proofs.Splice.{getD-part, getD-splice-after, getD-splice-befo
 use Rattle.octets.specs.Regions.{Only, part, splice, swap}
 use Rattle.bodies.specs.Buckets.{bucketOf}
 use Rattle.bodies.proofs.BucketLaws.{bucket-in}
-use Rattle.canonicalize.specs.Spans.{InSpan, Replacing, Spanned, greater, lesser}
-use Rattle.canonicalize.proofs.SpanLaws.{OneSpan, greater-below, greater-most, in-span, lesser-least, only-spliced}
+use Rattle.canonicalize.specs.Spans.{InSpan, Replacing, Spanned}
+use Rattle.canonicalize.proofs.SpanLaws.{OneSpan, in-span, only-spliced}
 use Rattle.canonicalize.proofs.SpanLaws.{high-here, low-here, wide-end, wide-high, wide-low, wide-only}
 
 -- ---- words of which each becomes another
@@ -84,7 +85,7 @@ module _ {l : List ℕ} {at n table count : ℕ} (c : Spanned l at n table count
   highest = getD l (table + count + oldIn) 0
 
   abbrev start : ℕ
-  start = greater at lowest
+  start = max at lowest
 
   in-all : Within l at n
   in-all = record { end = omega (arith, c .beyond, c .room) }
@@ -96,7 +97,7 @@ module _ {l : List ℕ} {at n table count : ℕ} (c : Spanned l at n table count
   outside : (i : ℕ) → at ≤ i → i < at + n → (i < start) ⊎ (highest ≤ i) → getD l i 0 ≡ x → ⊥
   outside i a b (inl h) e =
       let k : lowest ≤ i = subst (λ (w : ℕ). getD l (table + bucketOf count w) 0 ≤ i) e (c .covers i a b .low) in
-      omega (arith, greater-below at lowest i a k)
+      omega arith
   outside i a b (inr h) e = omega (arith, subst (λ (w : ℕ). i < getD l (table + count + bucketOf count w) 0) e (c .covers i a b .high))
 
   abbrev everywhere : List ℕ
@@ -197,11 +198,11 @@ module _ {l : List ℕ} {at n table count : ℕ} (c : Spanned l at n table count
                   let a = ltb-false i start f in
                   let b = ltb-true i highest g in
                   mapped-inside (swap x y) r i a (omega arith)
-                  ∙ sym (mapped-inside (swap x y) in-all i (omega (arith, greater-most at lowest .0)) (omega (arith, highest-end)))
+                  ∙ sym (mapped-inside (swap x y) in-all i (omega arith) (omega (arith, highest-end)))
 
   -- the span of bucket b takes in the places low and high
   abbrev taken : List ℕ → (b low high : ℕ) → List ℕ
-  taken m b low high = set (set m (table + b) (lesser (getD m (table + b) 0) low)) (table + b + count) (greater (getD m (table + b + count) 0) high)
+  taken m b low high = set (set m (table + b) (min (getD m (table + b) 0) low)) (table + b + count) (max (getD m (table + b + count) 0) high)
 
   -- the span of y takes in that of x
   taken-good : Replacing l (taken everywhere newIn lowest highest) at n x y table count
@@ -221,10 +222,10 @@ module _ {l : List ℕ} {at n table count : ℕ} (c : Spanned l at n table count
       }
     where
       u : ℕ
-      u = lesser (getD everywhere (table + newIn) 0) lowest
+      u = min (getD everywhere (table + newIn) 0) lowest
 
       v : ℕ
-      v = greater (getD everywhere (table + newIn + count) 0) highest
+      v = max (getD everywhere (table + newIn + count) 0) highest
 
       wider : List ℕ
       wider = taken everywhere newIn lowest highest
@@ -239,11 +240,11 @@ module _ {l : List ℕ} {at n table count : ℕ} (c : Spanned l at n table count
       turned = omega arith
 
       up : getD everywhere (table + count + newIn) 0 ≤ v
-      up = subst (λ (j : ℕ). getD everywhere j 0 ≤ v) turned (greater-most (getD everywhere (table + newIn + count) 0) highest .0)
+      up = subst (λ (j : ℕ). getD everywhere j 0 ≤ v) turned (le-max-left (getD everywhere (table + newIn + count) 0) highest)
 
       top : v ≤ at + n
       top =
-          greater-below (getD everywhere (table + newIn + count) 0) highest (at + n)
+          max-le
           (subst (λ (j : ℕ). getD everywhere j 0 ≤ at + n) (sym turned) (table-end newIn (span .inside))) highest-end
 
       inside : (i : ℕ) → at ≤ i → i < at + n → InSpan wider table count i
@@ -258,12 +259,12 @@ module _ {l : List ℕ} {at n table count : ℕ} (c : Spanned l at n table count
               let z₁ : lowest ≤ i = subst (λ (k : ℕ). getD l (table + bucketOf count k) 0 ≤ i) w (c .covers i a b .low) in
               let z₂ : i < highest = subst (λ (k : ℕ). i < getD l (table + count + bucketOf count k) 0) w (c .covers i a b .high) in
               in-span y (now ∙ swap-same x y (getD l i 0) w)
-              (omega (arith, low-here span u v, lesser-least (getD everywhere (table + newIn) 0) lowest .1))
-              (omega (arith, high-here span u v, greater-most (getD everywhere (table + newIn + count) 0) highest .1))
+              (omega (arith, low-here span u v, min-le-right (getD everywhere (table + newIn) 0) lowest))
+              (omega (arith, high-here span u v, le-max-right (getD everywhere (table + newIn + count) 0) highest))
           go false e =
               let k : ℕ = bucketOf count (getD l i 0) in
               let k-in : k < count = bucket-in count (getD l i 0) (c .some) in
-              let lower = wide-low span u v (lesser-least (getD everywhere (table + newIn) 0) lowest .0) k k-in in
+              let lower = wide-low span u v (min-le-left (getD everywhere (table + newIn) 0) lowest) k k-in in
               let higher = wide-high span u v up k k-in in
               let e₃ = table-word (table + k) (omega arith) in
               let e₄ = table-word (table + count + k) (omega arith) in
@@ -306,10 +307,10 @@ pub record Passed {l : List ℕ} {at n table count : ℕ} {c : Spanned l at n ta
   pub fits : length m < 2 ^ 64
 
 pub passed : {l : List ℕ} {at n table count : ℕ} {c : Spanned l at n table count} {x y b₁ b₂ : ℕ} {f : Found c x y b₁ b₂} {low high : ℕ}
-    (g : Seen f low high) {from : ℕ} {m : List ℕ} → from ≡ greater at low → m ≡ splice l from (map (swap x y) (part l from (high - from))) → Passed g m
+    (g : Seen f low high) {from : ℕ} {m : List ℕ} → from ≡ max at low → m ≡ splice l from (map (swap x y) (part l from (high - from))) → Passed g m
 passed {l} {at} {c = c} {x = x} {y = y} {f = f} {high = high} g {m = m} ef em =
     let is : m ≡ everywhere c x y =
-    em ∙ ap (λ (j : ℕ). along c x y j high) ef ∙ (λ i. along c x y (greater at (g .lowIs i)) (g .highIs i)) ∙ over-span c x y in
+    em ∙ ap (λ (j : ℕ). along c x y j high) ef ∙ (λ i. along c x y (max at (g .lowIs i)) (g .highIs i)) ∙ over-span c x y in
     let size : length m ≡ length l = ap length is ∙ everywhere-only c x y .size in
     record { all = is; inside = omega (arith, f); fits = omega (arith, f .fits) }
 
@@ -317,15 +318,15 @@ module _ {l : List ℕ} {at n table count : ℕ} {c : Spanned l at n table count
     {g : Seen f low high} {m : List ℕ} (k : Passed g m) where
   -- the words at both ends of y's span are put anew
   pub replaced : {m₂ m₃ : List ℕ} {first last u v : ℕ} → first ≡ getD m (table + b₂) 0 → last ≡ getD m (table + b₂ + count) 0
-      → u ≡ lesser first low → v ≡ greater last high → m₂ ≡ set m (table + b₂) u → m₃ ≡ set m₂ (table + b₂ + count) v → Replacing l m₃ at n x y table count
+      → u ≡ min first low → v ≡ max last high → m₂ ≡ set m (table + b₂) u → m₃ ≡ set m₂ (table + b₂ + count) v → Replacing l m₃ at n x y table count
   replaced {m₂} {m₃} {first} {last} {u} {v} ef el eu ev em₂ em₃ =
       subst (λ (z : List ℕ). Replacing l z at n x y table count) (sym is) (taken-good c x y)
     where
-      low-value : u ≡ lesser (getD m (table + b₂) 0) low
-      low-value = eu ∙ ap (λ (w : ℕ). lesser w low) ef
+      low-value : u ≡ min (getD m (table + b₂) 0) low
+      low-value = eu ∙ ap (λ (w : ℕ). min w low) ef
 
-      high-value : v ≡ greater (getD m (table + b₂ + count) 0) high
-      high-value = ev ∙ ap (λ (w : ℕ). greater w high) el
+      high-value : v ≡ max (getD m (table + b₂ + count) 0) high
+      high-value = ev ∙ ap (λ (w : ℕ). max w high) el
 
       is : m₃ ≡ taken c x y (everywhere c x y) (newIn c x y) (lowest c x y) (highest c x y)
       is =

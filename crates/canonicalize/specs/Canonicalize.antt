@@ -14,6 +14,7 @@ use Rattle.rules.specs.Words.{equalityWord, headWord, unit}
 use Rattle.meaning.proofs.MergePass.{IsEqn}
 use Rattle.meaning.specs.Meaning.{All}
 use Rattle.meaning.specs.Weight.{weight}
+use Rattle.words.specs.Atom.{BeginsGood}
 use Rattle.bodies.specs.Standing.{AtomsAt, TabsAt, atomsIn}
 use Rattle.canonicalize.specs.declared.Asked.{Asked}
 use Rattle.canonicalize.specs.declared.Canonical.{Canonical}
@@ -56,7 +57,7 @@ Stepped none l m at n d table buckets = m ≡ l
 Stepped (some r) l m at n d table buckets = Swept r l m at n d table buckets
 
 pub record StepAsks (l : List ℕ) (at n p d table buckets : ℕ) : Type 0 where
-  pub here : p < length l
+  pub begins : BeginsGood l p
   pub whole : getD l p 0 ≡ equalityWord → p + 3 ≤ length l
   pub spanned : Spanned l at n table buckets
   pub room : table + 2 * buckets + 3 ≤ d
@@ -90,6 +91,7 @@ unfoldable pub resolveAt : Sig → List ℕ → ℕ → List ℕ
 resolveAt s l p = resolveTerms (sameTerm (getD l (p + 1) 0) (getD l (p + 2) 0)) s (getD l (p + 1) 0) (getD l (p + 2) 0)
 
 pub record ResolveOneAsks (s : Sig) (l : List ℕ) (p to : ℕ) : Type 0 where
+  pub equality : getD l p 0 ≡ equalityWord
   pub whole : p + 3 ≤ length l
   pub room : to + length (resolveAt s l p) ≤ length l
 

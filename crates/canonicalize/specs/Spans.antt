@@ -1,18 +1,11 @@
 -- Where in a body the words of a bucket may stand. Assumes nothing: these are definitions.
 use mathlib.Core.Path.{_≡_}
-use mathlib.Core.Bool.{cond}
-use mathlib.Core.List.{List, map}
-use Prim.Native.Nat.{ℕ, _+_, _*_, _<_, _≤_}
-use lib.Dec.{ltb}
+use mathlib.Core.List.{List, [], _∷_, map}
+use Prim.Native.Nat.{ℕ, suc, _+_, _*_, _<_, _≤_, min}
 use lib.ListN.{length, getD, set}
 use Rattle.octets.specs.Regions.{part, splice, swap}
+use Rattle.rules.specs.Flat.{Atom, eqn, tab}
 use Rattle.bodies.specs.Buckets.{bucketOf}
-
-abbrev pub lesser : ℕ → ℕ → ℕ
-lesser a b = cond (ltb a b) a b
-
-abbrev pub greater : ℕ → ℕ → ℕ
-greater a b = cond (ltb a b) b a
 
 -- the word at place i stands in the span of its bucket; the spans of `count` buckets stand at `table`
 pub record InSpan (l : List ℕ) (table count i : ℕ) : Type 0 where
@@ -29,6 +22,12 @@ pub record Spanned (l : List ℕ) (at n table count : ℕ) : Type 0 where
   pub ends : (b : ℕ) → b < count → getD l (table + count + b) 0 ≤ at + n
 
 -- ---- building
+
+-- how many of some atoms are equalities: a table is built only where there are many
+unfoldable pub equationsIn : List Atom → ℕ
+equationsIn [] = 0
+equationsIn (eqn p a b ∷ xs) = suc (equationsIn xs)
+equationsIn (tab t ∷ xs) = equationsIn xs
 
 pub record SpanAsks (l : List ℕ) (at n table : ℕ) : Type 0 where
   pub some : 1 ≤ n
@@ -55,7 +54,7 @@ pub record WidenAsks (l : List ℕ) (p table count : ℕ) : Type 0 where
 unfoldable pub widened : List ℕ → (p table count : ℕ) → List ℕ
 widened l p table count =
     let low = table + bucketOf count (getD l p 0) in
-    set (set l low (lesser (getD l low 0) p)) (low + count) (p + 1)
+    set (set l low (min (getD l low 0) p)) (low + count) (p + 1)
 
 -- ---- replacing
 

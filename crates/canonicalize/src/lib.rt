@@ -18,18 +18,16 @@ ghost use Rattle.canonicalize.specs.Canonicalize.{FrontOneAsks, FrontOne
 
 pub mod spans; // spans.rt: where in a body a term may stand
 
-use bodies::atoms::EQUALITY;
-use bodies::atoms::size;
 use bodies::terms::Sign;
-use bodies::terms::is_var;
 use bodies::terms::same_term;
-
-// Action 1, the head word of a call of head 0 with three terms, and Unit.
-pub const LET: u32 = 0x0200_0001;
-
-const HEAD_OF_THREE: u32 = 0x1000_0003;
-
-const UNIT: u32 = 0x2000_0000;
+use words::HEAD_BASE;
+use words::HeadOrEq;
+use words::LET;
+use words::LIMIT_16;
+use words::Term;
+use words::UNIT;
+use words::good_atom_at;
+use words::good_term_of;
 
 // Where a table of spans stands, and how many buckets it has.
 struct Table {
@@ -56,19 +54,27 @@ pub fn replacement_of(q: Sign, a: u32, b: u32) -> Asked
             new: 0,
         };
     }
-    if is_var(q, a) {
-        return Asked {
-            yes: true,
-            old: a,
-            new: b,
-        };
+    let left = good_term_of(a, q.globals);
+    match left {
+        Term::Var(old) => {
+            return Asked {
+                yes: true,
+                old,
+                new: b,
+            };
+        }
+        _ => {}
     }
-    if is_var(q, b) {
-        return Asked {
-            yes: true,
-            old: b,
-            new: a,
-        };
+    let right = good_term_of(b, q.globals);
+    match right {
+        Term::Var(old) => {
+            return Asked {
+                yes: true,
+                old,
+                new: a,
+            };
+        }
+        _ => {}
     }
     Asked {
         yes: false,
@@ -85,11 +91,13 @@ fn replace_step(s: &mut [u8], at: usize, n: usize, p: usize, d: usize, t: Table,
     ensures { λ r. ⌜ (r ≡ placeAfter (askAt (sig q) (words (now (s .entry))) p) d)
         × Stepped (askAt (sig q) (words (now (s .entry))) p) (words (now (s .entry))) (words (now (s .exit))) at n d (t .at) (t .count) ⌝ }
 {
-    if octets::get(s, p) != EQUALITY {
+    let atom = good_atom_at(s, p);
+    let head = atom.head;
+    let HeadOrEq::Eq = head else {
         return d;
-    }
-    let a = octets::get(s, p + 1);
-    let b = octets::get(s, p + 2);
+    };
+    let a = octets::get(s, atom.terms);
+    let b = octets::get(s, atom.terms + 1);
     let asked = replacement_of(q, a, b);
     if !asked.yes {
         return d;
@@ -110,9 +118,9 @@ fn replace_all(s: &mut [u8], at: usize, n: usize, d: usize, t: Table, q: Sign) -
     let mut p = at;
     let mut e = d;
     while p < end {
-        let k = size(s, p);
+        let atom = good_atom_at(s, p);
         e = replace_step(s, at, n, p, e, t, q);
-        p += k;
+        p = atom.next;
     }
     e
 }
@@ -128,7 +136,7 @@ pub fn resolve_terms(s: &mut [u8], to: usize, a: u32, b: u32, q: Sign) -> usize
     if same_term(a, b) {
         return 0;
     }
-    octets::rows::put_four(s, to, HEAD_OF_THREE + q.equals * 65536, a, b, UNIT);
+    octets::rows::put_four(s, to, HEAD_BASE + q.equals * LIMIT_16 + 3, a, b, UNIT);
     4
 }
 
@@ -139,8 +147,9 @@ fn resolve_one(s: &mut [u8], p: usize, to: usize, q: Sign) -> usize
     ensures { λ r. ⌜ (r ≡ length (resolveAt (sig q) (words (now (s .entry))) p))
         × (words (now (s .exit)) ≡ splice (words (now (s .entry))) to (resolveAt (sig q) (words (now (s .entry))) p)) ⌝ }
 {
-    let a = octets::get(s, p + 1);
-    let b = octets::get(s, p + 2);
+    let atom = good_atom_at(s, p);
+    let a = octets::get(s, atom.terms);
+    let b = octets::get(s, atom.terms + 1);
     resolve_terms(s, to, a, b, q)
 }
 
@@ -151,10 +160,12 @@ fn others(s: &[u8], from: usize, n: usize) -> usize
 {
     let mut i = 0;
     while i < n {
-        if octets::get(s, from + i) == EQUALITY {
+        let atom = good_atom_at(s, from + i);
+        let head = atom.head;
+        let HeadOrEq::Head(_) = head else {
             return i;
-        }
-        i += size(s, from + i);
+        };
+        i = atom.next - from;
     }
     i
 }
@@ -176,8 +187,9 @@ fn resolve(s: &mut [u8], from: usize, n: usize, to: usize, q: Sign) -> usize
         if i == n {
             return k;
         }
+        let atom = good_atom_at(s, from + i);
         k += resolve_one(s, from + i, to + k, q);
-        i += 3;
+        i = atom.next - from;
     }
     k
 }
@@ -195,7 +207,9 @@ fn front_one(s: &mut [u8], p: usize, n: usize, to: usize, d: usize, t: Table, q:
     requires { ⌜ FrontOneAsks (sig q) (words (now s)) p n to d (t .at) (t .count) ⌝ }
     ensures { λ r. ⌜ FrontOne (sig q) (words (now (s .entry))) (words (now (s .exit))) p n to d (t .at) (t .count) r ⌝ }
 {
-    let e = replace_step(s, p + 3, n - 3, p, d, t, q);
+    let atom = good_atom_at(s, p);
+    let size = atom.next - p;
+    let e = replace_step(s, atom.next, n - size, p, d, t, q);
     if e != d {
         return Canonical { words: 0, binds: e };
     }
@@ -223,12 +237,13 @@ fn canonicalize_front(
     let mut i = 0;
     let mut t = Canonical { words: 0, binds: d };
     while i < e {
+        let atom = good_atom_at(s, at + i);
         let one = front_one(s, at + i, e - i + k, to + t.words, t.binds, spans, q);
         t = Canonical {
             words: t.words + one.words,
             binds: one.binds,
         };
-        i += 3;
+        i = atom.next - at;
     }
     t
 }
@@ -240,10 +255,12 @@ fn leading(s: &[u8], at: usize, n: usize) -> usize
 {
     let mut i = 0;
     while i < n {
-        if octets::get(s, at + i) != EQUALITY {
+        let atom = good_atom_at(s, at + i);
+        let head = atom.head;
+        let HeadOrEq::Eq = head else {
             return i;
-        }
-        i += 3;
+        };
+        i = atom.next - at;
     }
     i
 }

@@ -9,54 +9,41 @@ ghost use Prim.Native.Nat.{_+_, _-_, _≤_};
 ghost use lib.ListN.{length};
 ghost use Rattle.octets.specs.Words.{words};
 ghost use Rattle.octets.specs.Regions.{part, splice, swap};
-ghost use Rattle.canonicalize.specs.Spans.{lesser, greater, Spanned, SpanAsks, Built, WidenAsks, widened, Replacing};
-use bodies::atoms::EQUALITY;
-use bodies::atoms::size;
+ghost use Rattle.bodies.specs.Standing.{atomsIn, AtomsAt};
+ghost use Rattle.canonicalize.specs.Spans.{equationsIn, Spanned, SpanAsks, Built, WidenAsks, widened, Replacing};
 use bodies::buckets::bucket;
 use bodies::buckets::fill;
+use octets::order::greatest;
+use octets::order::least;
+use words::HeadOrEq;
+use words::good_atom_at;
 
 // A body has more words than this, and more equalities, before a table pays.
 const LONG: usize = 128;
 
 const MANY: usize = 16;
 
-fn least(a: u32, b: u32) -> u32
-    ensures { λ r. ⌜ r ≡ lesser a b ⌝ }
-{
-    if a < b { a } else { b }
-}
-
-fn greatest(a: u32, b: u32) -> u32
-    ensures { λ r. ⌜ r ≡ greater a b ⌝ }
-{
-    if a < b { b } else { a }
-}
-
-// The later of two places.
-fn later(a: usize, b: usize) -> usize
-    ensures { λ r. ⌜ r ≡ greater a b ⌝ }
-{
-    if a < b { b } else { a }
-}
-
-// How many equalities are met among the n words at `at`, read as atoms.
+// How many equalities there are among the atoms in the n words at `at`.
 fn equalities(s: &[u8], at: usize, n: usize) -> usize
-    requires { ⌜ at + n ≤ length (words (now s)) ⌝ }
-    ensures { λ r. ⌜ r ≤ n ⌝ }
+    requires { ⌜ AtomsAt (atomsIn (words (now s)) at n) (words (now s)) at n ⌝ }
+    ensures { λ r. ⌜ r ≡ equationsIn (atomsIn (words (now (s .entry))) at n) ⌝ }
 {
     let mut i = 0;
     let mut k = 0;
     while i < n {
-        if octets::get(s, at + i) == EQUALITY {
-            k += 1;
+        let atom = good_atom_at(s, at + i);
+        i = atom.next - at;
+        let head = atom.head;
+        match head {
+            HeadOrEq::Eq => k += 1,
+            HeadOrEq::Head(_) => {}
         }
-        i += size(s, at + i);
     }
     k
 }
 
 // One bucket, whose span is the n words at `at`.
-fn whole(s: &mut [u8], at: usize, n: usize, table: usize) -> usize
+fn one_bucket(s: &mut [u8], at: usize, n: usize, table: usize) -> usize
     requires { ⌜ SpanAsks (words (now s)) at n table ⌝ }
     ensures { λ r. ⌜ Built (words (now (s .entry))) (words (now (s .exit))) at n table r ⌝ }
 {
@@ -70,8 +57,8 @@ fn widen(s: &mut [u8], p: usize, table: usize, count: usize)
     ensures { λ _. ⌜ words (now (s .exit)) ≡ widened (words (now (s .entry))) p table count ⌝ }
 {
     let low = table + bucket(octets::get(s, p), count);
-    let first = octets::get(s, low);
-    octets::put(s, low, least(first, p as u32));
+    let first = octets::get(s, low) as usize;
+    octets::put(s, low, least(first, p) as u32);
     octets::put(s, low + count, (p + 1) as u32);
 }
 
@@ -92,14 +79,15 @@ fn narrow(s: &mut [u8], at: usize, n: usize, table: usize) -> usize
 
 // Builds the table of the n words at `at`. Returns how many buckets it has.
 pub fn build(s: &mut [u8], at: usize, n: usize, table: usize) -> usize
+    requires { ⌜ AtomsAt (atomsIn (words (now s)) at n) (words (now s)) at n ⌝ }
     requires { ⌜ SpanAsks (words (now s)) at n table ⌝ }
     ensures { λ r. ⌜ Built (words (now (s .entry))) (words (now (s .exit))) at n table r ⌝ }
 {
     if n < LONG {
-        return whole(s, at, n, table);
+        return one_bucket(s, at, n, table);
     }
     if equalities(s, at, n) < MANY {
-        return whole(s, at, n, table);
+        return one_bucket(s, at, n, table);
     }
     narrow(s, at, n, table)
 }
@@ -127,11 +115,11 @@ pub fn replace(s: &mut [u8], at: usize, n: usize, x: u32, y: u32, table: usize, 
     }
     let from = table + bucket(x, count);
     let to = table + bucket(y, count);
-    let low = octets::get(s, from);
-    let high = octets::get(s, from + count);
-    replace_between(s, later(at, low as usize), high as usize, x, y);
-    let first = octets::get(s, to);
-    let end = octets::get(s, to + count);
-    octets::put(s, to, least(first, low));
-    octets::put(s, to + count, greatest(end, high));
+    let low = octets::get(s, from) as usize;
+    let high = octets::get(s, from + count) as usize;
+    replace_between(s, greatest(at, low), high, x, y);
+    let first = octets::get(s, to) as usize;
+    let end = octets::get(s, to + count) as usize;
+    octets::put(s, to, least(first, low) as u32);
+    octets::put(s, to + count, greatest(end, high) as u32);
 }

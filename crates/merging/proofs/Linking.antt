@@ -98,7 +98,7 @@ told {l} {from} {i} {links} {table} {count} asks {z} {key} {b} {old} ez ek eb eo
       bucket = e;
       last = eo;
       before = omega (arith, asks .last);
-      links-in = omega (arith, asks .below, asks .here);
+      links-in = omega (arith, asks .below, asks .begins .inside);
       beyond = omega (arith, asks .below, asks .beyond);
       in-table = in-table;
       table-in = omega (arith, asks .room);
@@ -291,7 +291,7 @@ module _ {l m : List ℕ} {from n links table count i : ℕ} (g : Linking l m fr
   linking-asks =
       let a = g .asks in
       record {
-        here = omega (arith, g .only .size, a .beyond, a .room);
+        begins = first .begins;
         output = linking-size .0;
         whole = omega (arith, g .only .size, linking-size, a .beyond, a .room);
         some = a .some;

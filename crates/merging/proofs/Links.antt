@@ -17,8 +17,9 @@ use Rattle.meaning.proofs.WordLaws.{two-tab}
 use Rattle.meaning.specs.Meaning.{All}
 use Rattle.meaning.specs.ReadBack.{EncodableTab}
 use Rattle.bodies.specs.Buckets.{bucketIn}
+use Rattle.words.specs.Atom.{BeginsGood}
 use Rattle.bodies.specs.Standing.{BareTab, TabsAt, sizeAt, tabAt}
-use Rattle.bodies.proofs.Standing.{size-tab}
+use Rattle.bodies.proofs.Standing.{size-tab, tab-begins, tab-there}
 use Rattle.merging.specs.Chains.{LinksAt, nextIn}
 use Rattle.merging.specs.RemoveDupVars.{LinksKept, behind}
 
@@ -29,6 +30,7 @@ pub record Here (l : List ℕ) (from n i : ℕ) : Type 0 where
   pub bare : BareTab (tabAt l (from + i))
   pub stands : At (tabWords (tabAt l (from + i))) l (from + i)
   pub size : sizeAt l (from + i) ≡ length (tabWords (tabAt l (from + i)))
+  pub begins : BeginsGood l (from + i)
   pub two : 2 ≤ sizeAt l (from + i)
   pub inside : i + sizeAt l (from + i) + length (wordsOf tabWords (behind l from n i)) ≤ n
   pub top : from + n ≤ length l
@@ -42,6 +44,7 @@ here {l} {from} {n} {i} s h =
       bare = s .bare .0;
       stands = stands;
       size = size;
+      begins = tab-begins (tab-there (tabAt l (from + i)) l (from + i) (s .fits .0) stands);
       two = omega (arith, size, two-tab (tabAt l (from + i)));
       inside = omega (arith, size, s .size, length-append (tabWords (tabAt l (from + i))) (wordsOf tabWords (behind l from n i)));
       top = omega (arith, s .within);

@@ -11,6 +11,7 @@ use Rattle.rules.specs.Flat.{Tab, tabWords, wordsOf}
 use Rattle.rules.specs.RemoveDupVars.{keep, seen}
 use Rattle.meaning.proofs.Lists.{length-words, length-words-append, words-append}
 use Rattle.meaning.proofs.WordLaws.{two-tab}
+use Rattle.words.specs.Atom.{BeginsGood}
 use Rattle.bodies.specs.Standing.{TabsAt, sizeAt, tabAt, tabsIn}
 use Rattle.bodies.proofs.Standing.{FirstTab, first-tab, no-tab-left, no-tabs, none-passed, tab-is, tabs-after, tabs-is, tabs-join, tabs-read}
 use Rattle.merging.specs.declared.Merged.{Merged}
@@ -116,7 +117,7 @@ module _ {l m : List ℕ} {from n eqs links i : ℕ} {t : Merging} (w : MergingA
     pub rest-is : behind m from n i ≡ first .rest
     pub some : 0 < sizeAt m (from + i)
     pub inside : i + sizeAt m (from + i) ≤ n
-    pub here : from + i < length m
+    pub begins : BeginsGood m (from + i)
     pub fits : length m < 2 ^ 64
 
   pub going : i < n → Going
@@ -131,7 +132,7 @@ module _ {l m : List ℕ} {from n eqs links i : ℕ} {t : Merging} (w : MergingA
         rest-is = tabs-is m (from + i + sizeAt m (from + i)) (n - i - sizeAt m (from + i)) (f .rest) rest;
         some = omega (arith, z, f .some);
         inside = omega (arith, z, f .inside);
-        here = omega (arith, w .asks .tabs .within, w .only .size);
+        begins = f .begins;
         fits = omega (arith, w .fits, w .only .size);
       }
 

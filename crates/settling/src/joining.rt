@@ -14,9 +14,9 @@ ghost use Rattle.merging.specs.RemoveDupVars.{Group, allEqns, GroupsAt};
 ghost use Rattle.settling.specs.Joining.{JoinOneAsks, JoinedOne, JoinGroupAsks, JoinedGroup, JoinedAll, AgainAsks};
 use bodies::terms::Sign;
 use canonicalize::Canonical;
-use canonicalize::LET;
 use canonicalize::replacement_of;
 use canonicalize::resolve_terms;
+use words::LET;
 
 // Where joining works, apart from the groups: the k words of atoms stand at `body`, what becomes of equalities is written at `to`, and a replacement is
 // bound before d.

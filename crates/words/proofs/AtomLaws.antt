@@ -1,14 +1,14 @@
 -- What a term and an atom are is told by the range of their word: the cases that code answers with, against the numbers that the definitions give.
 -- Assumes nothing.
-use mathlib.Core.Path.{_≡_, refl, sym, _∙_}
+use mathlib.Core.Path.{_≡_, refl, sym, ap, ap₂, subst, _∙_}
 use mathlib.Core.Bool.{Bool, true, false, _||_, cond}
-use Prim.Native.Nat.{ℕ, _+_, _-_, _≤_, _<_}
+use Prim.Native.Nat.{ℕ, _+_, _-_, _%_, _≤_, _<_}
 use native.Mathlib.Omega.{arith}
 use lib.Dec.{leb, eqb}
-use borrow.Author.Tests.{le-leb, lt-leb}
-use Rattle.rules.specs.Words.{freshBase, nameBase, headBase, equalityBase, headOf, countOf}
+use borrow.Author.Tests.{le-leb, lt-leb, leb-true, leb-false}
+use Rattle.rules.specs.Words.{limit16, freshBase, nameBase, headBase, equalityBase, equalityWord, headOf, countOf}
 use Rattle.rules.specs.Signature.{Sig, isFresh, isVar}
-use Rattle.words.specs.Atom.{termNumber, termNumberOf, termWord, TermSays, headKind, headNumber, AtomSays}
+use Rattle.words.specs.Atom.{termNumber, termNumberOf, termWord, TermSays, headKind, headNumber, headSign, laidOut, AtomSays, FirstWord}
 use Rattle.words.specs.declared.Term.{Term}
 use Rattle.words.specs.declared.Term.the-variants.{Var, Global, Literal}
 use Rattle.words.specs.declared.HeadOrEq.{HeadOrEq}
@@ -40,6 +40,13 @@ module _ (G w : ℕ) where
   pub term-name : w < freshBase → nameBase + G ≤ w → TermSays (Var w) G w
   unfolding termNumberOf
   term-name h k = record { numberIs = simp (lt-leb freshBase w h, le-leb (nameBase + G) w k); wordIs = refl }
+
+  pub term-above : nameBase + G ≤ w → TermSays (Var w) G w
+  term-above k = go (leb freshBase w) refl
+    where
+      go : (b : Bool) → leb freshBase w ≡ b → TermSays (Var w) G w
+      go true e = term-fresh (leb-true freshBase w e)
+      go false e = term-name (leb-false freshBase w e) k
 
   pub term-global : w < freshBase → nameBase ≤ w → w < nameBase + G → TermSays (Global w) G w
   unfolding termNumberOf
@@ -113,14 +120,57 @@ module _ {r : Atom} {w at : ℕ} (a : AtomSays r w at) where
 
 -- what code answers with meets it
 
-pub says-head : (w at : ℕ) → headBase ≤ w
-    → AtomSays (record { head = Head (headOf w); count = countOf w; terms = at + 1; next = at + 1 + countOf w }) w at
-says-head w at h =
+pub says-head : {r : Atom} {w at : ℕ} → headBase ≤ w → r ≡ laidOut (Head (headOf w)) (countOf w) at → AtomSays r w at
+says-head {r} {w} {at} h e =
     let b = le-leb headBase w h in
-    record { kindIs = rw b; numberIs = rw b; countIs = rw b; termsAt = refl; nextAt = refl }
+    subst (λ (x : Atom). AtomSays x w at) (sym e) (record { kindIs = rw b; numberIs = rw b; countIs = rw b; termsAt = refl; nextAt = refl })
 
-pub says-equality : (w at : ℕ) → w < headBase
-    → AtomSays (record { head = Eq; count = w - equalityBase; terms = at + 1; next = at + 1 + (w - equalityBase) }) w at
-says-equality w at h =
+pub says-equality : {r : Atom} {w at : ℕ} → w < headBase → r ≡ laidOut Eq (w - equalityBase) at → AtomSays r w at
+says-equality {r} {w} {at} h e =
     let b = lt-leb headBase w h in
-    record { kindIs = rw b; numberIs = rw b; countIs = rw b; termsAt = refl; nextAt = refl }
+    subst (λ (x : Atom). AtomSays x w at) (sym e) (record { kindIs = rw b; numberIs = rw b; countIs = rw b; termsAt = refl; nextAt = refl })
+
+-- ---- atoms of a good body
+
+-- the count stands in the low bits, whatever the kind is
+pub says-good : {r : Atom} {h : HeadOrEq} {w at : ℕ} → FirstWord w → h ≡ headSign w → r ≡ laidOut h (w % limit16) at → AtomSays r w at
+says-good {r} {h} {w} {at} f eh er = go (leb headBase w) refl
+  where
+    go : (b : Bool) → leb headBase w ≡ b → AtomSays r w at
+    go true e =
+        let lo = leb-true headBase w e in
+        let n : w % limit16 ≡ countOf w = omega arith in
+        let g : h ≡ Head (headOf w) = eh ∙ rw e in
+        says-head lo (er ∙ ap₂ (λ (x : HeadOrEq) (k : ℕ). laidOut x k at) g n)
+    go false e =
+        let hi = leb-false headBase w e in
+        let n : w % limit16 ≡ w - equalityBase = omega (arith, f .two hi) in
+        let g : h ≡ Eq = eh ∙ rw e in
+        says-equality hi (er ∙ ap₂ (λ (x : HeadOrEq) (k : ℕ). laidOut x k at) g n)
+
+module _ {r : Atom} {w at : ℕ} (f : FirstWord w) (a : AtomSays r w at) where
+  -- so the next one may begin behind as many words
+  pub good-next : r .next ≡ at + (w % limit16 + 1)
+  good-next = go (leb headBase w) refl
+    where
+      go : (b : Bool) → leb headBase w ≡ b → r .next ≡ at + (w % limit16 + 1)
+      go true e = let lo = leb-true headBase w e in omega (arith, a .nextAt, atom-head a lo .1)
+      go false e = let hi = leb-false headBase w e in omega (arith, a .nextAt, atom-equality a hi .1, f .two hi)
+
+  -- the equality sign is said by one word
+  pub sign-word : r .head ≡ Eq → w ≡ equalityWord
+  sign-word e = go (leb headBase w) refl
+    where
+      go : (b : Bool) → leb headBase w ≡ b → w ≡ equalityWord
+      go true k =
+          let four : headKind (r .head) ≡ 4 = ap headKind e in
+          let three : headKind (r .head) ≡ 3 = a .kindIs ∙ rw k in
+          absurd (omega arith)
+      go false k = f .two (leb-false headBase w k)
+
+  -- and a head by others
+  pub head-other : {h : ℕ} → r .head ≡ Head h → w ≡ equalityWord → ⊥
+  head-other e k =
+      let three : headKind (r .head) ≡ 3 = ap headKind e in
+      let four : headKind (r .head) ≡ 4 = ap headKind (atom-equality a (omega arith) .0) in
+      omega arith

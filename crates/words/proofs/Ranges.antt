@@ -46,7 +46,7 @@ kind-from k j w e h z =
     let t = leading-length 32 w h in
     lt-of-lt-of-le (t .2) (pow-mono {i = t .0} {j = j} (omega (arith, t .1)))
 
--- fewer: a kind below k
+-- fewer than k zeros: a kind below k
 pub kind-below : (k j w : ℕ) → k + j ≡ 32 → w < 2 ^ 32 → leadingZeros 32 w < k → 2 ^ j ≤ w
 kind-below k j w e h z = ⊎-elim none some (eq-zero-or-pos w)
   where

@@ -7,7 +7,7 @@ use mathlib.Core.Bool.{_||_, cond}
 use mathlib.Core.List.{List}
 use lib.Dec.{leb}
 use lib.ListN.{length, getD}
-use Rattle.rules.specs.Words.{nameBase, literalBase, headBase, equalityBase, headOf, countOf}
+use Rattle.rules.specs.Words.{nameBase, literalBase, headBase, equalityBase, equalityWord, headOf, countOf}
 use Rattle.rules.specs.Signature.{isFresh}
 use Rattle.words.specs.declared.Term.{Term}
 use Rattle.words.specs.declared.Term.the-variants.{Var, Global, Literal}
@@ -46,9 +46,17 @@ abbrev pub headNumber : HeadOrEq → ℕ
 headNumber (Head h) = h
 headNumber Eq = 0
 
+-- the head that a first word says
+abbrev pub headSign : ℕ → HeadOrEq
+headSign w = cond (leb headBase w) (Head (headOf w)) Eq
+
 -- how many terms an atom has, by its first word
 abbrev pub countIn : ℕ → ℕ
 countIn w = cond (leb headBase w) (countOf w) (w - equalityBase)
+
+-- an atom of a head with so many terms, whose first word stands at `at`: the terms follow, and behind them the next atom may begin
+abbrev pub laidOut : HeadOrEq → (count at : ℕ) → Atom
+laidOut h n at = record { head = h; count = n; terms = at + 1; next = at + 1 + n }
 
 -- the atom that begins at `at` with w: its terms stand behind w, the output last
 pub record AtomSays (r : Atom) (w at : ℕ) : Type 0 where
@@ -63,3 +71,13 @@ pub record BeginsAtom (ws : List ℕ) (at : ℕ) : Type 0 where
   pub inside : at < length ws
   pub low : equalityBase ≤ getD ws at 0
   pub high : getD ws at 0 < literalBase
+
+-- a first word as reading lets it pass: of kind 3, or the equality of two
+pub record FirstWord (w : ℕ) : Type 0 where
+  pub high : w < literalBase
+  pub two : w < headBase → w ≡ equalityWord
+
+-- such a word stands at an index
+pub record BeginsGood (ws : List ℕ) (at : ℕ) : Type 0 where
+  pub inside : at < length ws
+  pub first : FirstWord (getD ws at 0)

@@ -3,9 +3,9 @@ ghost use mathlib.Core.Path.{_≡_};
 ghost use Prim.Native.Nat.{_^_, _≤_, _<_};
 ghost use lib.ListN.{getD};
 ghost use Rattle.octets.specs.Words.{words};
-ghost use Rattle.rules.specs.Words.{equalityBase, literalBase};
+ghost use Rattle.rules.specs.Words.{limit12, equalityBase, literalBase};
 ghost use Rattle.words.specs.Word.{numbers, numbersOf, WordSays};
-ghost use Rattle.words.specs.Atom.{TermSays, AtomSays, BeginsAtom};
+ghost use Rattle.words.specs.Atom.{TermSays, headSign, laidOut, AtomSays, BeginsAtom, BeginsGood};
 
 // Heads, names, facts, atoms and actions are numbered below LIMIT_12, counts and literals below LIMIT_16.
 pub const LIMIT_12: u32 = 4096;
@@ -158,6 +158,21 @@ pub fn term_of(w: u32, globals: u32) -> Term
     }
 }
 
+// The same under a good signature. There are at most 4,096 globals then, so that every variable, fresh or named, lies above them, and one comparison tells.
+pub fn good_term_of(w: u32, globals: u32) -> Term
+    requires { ⌜ globals ≤ limit12 ⌝ }
+    ensures { λ r. ⌜ TermSays r globals w ⌝ }
+{
+    if NAME_BASE + globals <= w {
+        return Term::Var(w);
+    }
+    let kind = u32::leading_zeros(w);
+    match kind {
+        1 => Term::Global(w),
+        _ => Term::Literal(w),
+    }
+}
+
 // What an atom's table is: a head's, or the equality of its two terms.
 pub enum HeadOrEq {
     Head(u32),
@@ -173,7 +188,32 @@ pub struct Atom {
     pub next: usize,
 }
 
-// The atom that begins at `at` with w, a word of kind 3 or 4. This is the one place that knows how an atom is laid out; rows of `octets` write it.
+// An atom of a head with so many terms, whose first word stands at `at`. This is the one place that knows how an atom is laid out; rows of `octets` write it.
+fn laid_out(head: HeadOrEq, count: u32, at: usize) -> Atom
+    requires { ⌜ at < 2 ^ 62 ⌝ }
+    ensures { λ r. ⌜ r ≡ laidOut head count at ⌝ }
+{
+    Atom {
+        head,
+        count,
+        terms: at + 1,
+        next: at + 1 + count as usize,
+    }
+}
+
+// The head that a first word says, a word of kind 3 or 4. Which of the two it is takes one comparison of the word, since the kinds are ranges.
+fn head_of(w: u32) -> HeadOrEq
+    requires { ⌜ w < literalBase ⌝ }
+    ensures { λ r. ⌜ r ≡ headSign w ⌝ }
+{
+    let kind = u32::leading_zeros(w);
+    if kind < 4 {
+        return HeadOrEq::Head((w - HEAD_BASE) / LIMIT_16);
+    }
+    HeadOrEq::Eq
+}
+
+// The atom that begins at `at` with w, a word of kind 3 or 4.
 pub fn atom_of(w: u32, at: usize) -> Atom
     requires { ⌜ (equalityBase ≤ w) × (w < literalBase) × (at < 2 ^ 62) ⌝ }
     ensures { λ r. ⌜ AtomSays r w at ⌝ }
@@ -182,31 +222,28 @@ pub fn atom_of(w: u32, at: usize) -> Atom
     match kind {
         3 => {
             let p = w - HEAD_BASE;
-            let count = p % LIMIT_16;
-            Atom {
-                head: HeadOrEq::Head(p / LIMIT_16),
-                count,
-                terms: at + 1,
-                next: at + 1 + count as usize,
-            }
+            laid_out(HeadOrEq::Head(p / LIMIT_16), p % LIMIT_16, at)
         }
-        _ => {
-            let count = w - EQUALITY_BASE;
-            Atom {
-                head: HeadOrEq::Eq,
-                count,
-                terms: at + 1,
-                next: at + 1 + count as usize,
-            }
-        }
+        _ => laid_out(HeadOrEq::Eq, w - EQUALITY_BASE, at),
     }
 }
 
-// The atom at `at` of a rule, or of a body in a scratch.
+// The atom at `at` of a rule.
 pub fn atom_at(rule: &[u8], at: usize) -> Atom
     requires { ⌜ BeginsAtom (words (now rule)) at ⌝ }
     ensures { λ r. ⌜ AtomSays r (getD (words (now (rule .entry))) at 0) at ⌝ }
 {
     let w = octets::get(rule, at);
     atom_of(w, at)
+}
+
+// The atom at `at` of a body that is known to be good. There an equality has two terms, so that the count stands in the low bits of the first word whatever
+// its kind is, and where the next atom begins does not wait for a test of the kind.
+pub fn good_atom_at(s: &[u8], at: usize) -> Atom
+    requires { ⌜ BeginsGood (words (now s)) at ⌝ }
+    ensures { λ r. ⌜ AtomSays r (getD (words (now (s .entry))) at 0) at ⌝ }
+{
+    let w = octets::get(s, at);
+    let head = head_of(w);
+    laid_out(head, w % LIMIT_16, at)
 }

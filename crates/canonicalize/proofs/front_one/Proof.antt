@@ -2,27 +2,36 @@
 -- The bindings begin elsewhere just in the first case. Assumes nothing.
 use native.Mathlib.Omega.{arith}
 use borrow.Author.Needs.{needs}
-use Rattle.octets.proofs.Words.{length-words}
 use Rattle.octets.specs.Words.{words}
-use Rattle.canonicalize.proofs.Fronting.{Tried, equality-within, front-asked, front-still, resolve-asks, step-asks}
+use Rattle.canonicalize.proofs.Fronting.{Tried, front-asked, front-begins, front-still, resolve-asks, step-asks, tried}
+use Rattle.canonicalize.proofs.Replacing.{Equality, equality-read}
 use Rattle.canonicalize.proofs.front_one.Statement.{statement}
 use Rattle.canonicalize.proofs.front_one.Tie as tie
 
-abbrev start : tie.After-replace-step → tie.Start
+abbrev start : tie.After-good-atom-at → tie.Start
 start c = c .before .before .before
 
--- the replacement is tried
-at-step : (c : tie.After-replace-step) → Tried (start c .pre .1) (words (c .replace-step .last .0)) (c .replace-step .result)
-at-step c = record { place = c .replace-step .ensures .0; stepped = c .replace-step .ensures .1 }
+good-atom-at-requires : tie.Need-good-atom-at-requires
+good-atom-at-requires c κs = front-begins (c .before .before .pre .1)
 
-add-replace-step : tie.Need-add-replace-step
-add-replace-step c = let e = c .before .before in omega (arith, equality-within (e .pre .1), length-words (e .args .s .now))
+at-atom : (c : tie.After-good-atom-at) → let a = start c .args in Equality (words (a .s .now)) (a .p) (c .good-atom-at .result)
+at-atom c = equality-read (start c .pre .1 .equality) (c .good-atom-at .ensures)
+
+sub-size : tie.Need-sub-size
+sub-size c = search needs
 
 sub-replace-step : tie.Need-sub-replace-step
-sub-replace-step c = c .before .before .pre .1 .whole
+sub-replace-step c = let g = c .before .before in omega (arith, at-atom g .next, start g .pre .1 .whole)
 
 replace-step-requires : tie.Need-replace-step-requires
-replace-step-requires c κs = let e = c .before .before in (e .pre .0, step-asks (e .pre .1))
+replace-step-requires c κs = let g = c .before .before in (start g .pre .0, step-asks (start g .pre .1) (at-atom g))
+
+-- the replacement is tried
+abbrev atom : tie.After-replace-step → tie.After-good-atom-at
+atom c = c .before .before .before
+
+at-step : (c : tie.After-replace-step) → Tried (start (atom c) .pre .1) (words (c .replace-step .last .0)) (c .replace-step .result)
+at-step c = tried (start (atom c) .pre .1) (at-atom (atom c)) (c .replace-step .ensures .0) (c .replace-step .ensures .1)
 
 -- ---- it was asked
 
@@ -37,7 +46,7 @@ returns c = front-asked (at-step (c .before .before .before)) (c .if1 .taken)
 resolve-one-requires : tie.Need-resolve-one-requires
 resolve-one-requires c κs =
     let r = c .before .before .before .before in
-    (start r .pre .0, resolve-asks (at-step r) (c .before .if1 .left))
+    (start (atom r) .pre .0, resolve-asks (at-step r) (c .before .if1 .left))
 
 same-length-2 : tie.Need-same-length-2
 same-length-2 c = search needs
@@ -52,7 +61,8 @@ pub front-one-spec : {M : Type 1} → statement M
 front-one-spec =
     tie.close
     (tie.spec
-    add-replace-step
+    good-atom-at-requires
+    sub-size
     sub-replace-step
     replace-step-requires
     same-length

@@ -7,6 +7,7 @@ use lib.ListN.{length}
 use borrow.Author.Needs.{needs}
 use Rattle.octets.proofs.Words.{length-words}
 use Rattle.octets.specs.Words.{words}
+use Rattle.bodies.specs.Standing.{sizeAt}
 use Rattle.bodies.specs.Terms.{sig}
 use Rattle.canonicalize.proofs.Replacing.{Next, Replacing, next-atom, replacing-end, replacing-next, replacing-start}
 use Rattle.canonicalize.proofs.replace_all.Statement.{statement}
@@ -35,8 +36,8 @@ loop-holds c = (refl, replacing-start (c .before .pre .1))
 at-next : (c : In) → Next (c .before .loop .inv .1)
 at-next c = next-atom (c .before .loop .inv .1) (c .loop-test .taken)
 
-size-requires : tie.Need-size-requires Inv-loop μ-loop
-size-requires c κs = at-next (c .before) .asks .here
+good-atom-at-requires : tie.Need-good-atom-at-requires Inv-loop μ-loop
+good-atom-at-requires c κs = at-next (c .before) .asks .begins
 
 replace-step-requires : tie.Need-replace-step-requires Inv-loop μ-loop
 replace-step-requires c κs = let t = c .before .before .before in (start t .pre .0, at-next t .asks)
@@ -46,23 +47,21 @@ replace-step-requires c κs = let t = c .before .before .before in (start t .pre
 abbrev turn : tie.After-replace-step Inv-loop μ-loop → In
 turn c = c .before .before .before .before
 
-add-p : tie.Need-add-p Inv-loop μ-loop
-add-p c =
-    let r = c .before .before in
-    let e = start (turn r) in
-    omega (arith, at-next (turn r) .inside, r .before .before .size .ensures, length-words (e .args .s .now), e .pre .1 .atoms .within, e .good)
+at-place : (c : tie.After-replace-step Inv-loop μ-loop)
+    → let w = turn c .before .loop in c .before .before .good-atom-at .result .next ≡ w .p + sizeAt (words (w .s)) (w .p)
+at-place c = at-next (turn c) .next (c .before .before .good-atom-at .ensures)
 
 loop-less : tie.Need-loop-less Inv-loop μ-loop
 loop-less c =
     let r = c .before .before in
-    omega (arith, at-next (turn r) .inside, at-next (turn r) .some, r .before .before .size .ensures)
+    omega (arith, at-next (turn r) .inside, at-next (turn r) .some, at-place r)
 
 loop-again : tie.Need-loop-again Inv-loop μ-loop
 loop-again c =
     let r = c .before .before in
     let w = turn r .before .loop .inv in
     let k = r .replace-step .ensures in
-    (r .replace-step .kept .0 ∙ w .0, replacing-next (w .1) (at-next (turn r)) (r .before .before .size .ensures) (k .0) (k .1))
+    (r .replace-step .kept .0 ∙ w .0, replacing-next (w .1) (at-next (turn r)) (at-place r) (k .0) (k .1))
 
 -- ---- none is left
 
@@ -80,9 +79,8 @@ replace-all-spec =
     μ-loop
     add-end
     loop-holds
-    size-requires
+    good-atom-at-requires
     replace-step-requires
-    add-p
     loop-less
     loop-again
     same-length

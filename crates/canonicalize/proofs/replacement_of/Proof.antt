@@ -1,12 +1,11 @@
--- The three tests, in the order of the definition, settle what it comes to: terms that are one ask for nothing, else a variable on the left is replaced, else
--- one on the right. Assumes nothing.
-use mathlib.Core.Bool.{Bool, false}
-use mathlib.Core.Path.{_∙_, _≡_, ap, sym}
+-- The definition asks first whether the terms are one, then whether the left one is a variable, then the right one: the test and the cases of the two terms
+-- tell the same. Assumes nothing.
+use mathlib.Core.Bool.{false}
+use mathlib.Core.Path.{_∙_, _≡_, sym}
 use borrow.Author.Needs.{needs}
-use Rattle.rules.specs.Canonicalize.{replacementOf}
-use Rattle.rules.specs.Signature.{isVar, sameTerm}
-use Rattle.bodies.specs.Terms.{sig}
-use Rattle.canonicalize.specs.Canonicalize.{askedOf}
+use Rattle.words.proofs.AtomLaws.{isVarTerm}
+use Rattle.words.proofs.Tags.{no-variable}
+use Rattle.canonicalize.proofs.Replacing.{Two, asks-left, asks-none, asks-right, asks-same}
 use Rattle.canonicalize.proofs.replacement_of.Statement.{statement}
 use Rattle.canonicalize.proofs.replacement_of.Tie as tie
 
@@ -18,49 +17,49 @@ same-term-requires c κs = search needs
 returns : tie.Need-returns
 returns c =
     let a = c .before .before .args in
-    let same = sym (c .if1 .taken) ∙ c .before .same-term .ensures in
-    ap (λ (x : Bool). askedOf (replacementOf x (isVar (sig (a .q)) (a .a)) (isVar (sig (a .q)) (a .b)) (a .a) (a .b))) same
+    asks-same (a .q) (a .a) (a .b) (sym (c .if1 .taken) ∙ c .before .same-term .ensures)
 
--- ---- they are two, and the left one is a variable
+-- ---- they are two, and the left one is read
 
 abbrev start : tie.Else1 → tie.Start
 start c = c .before .before
 
-at-two : (c : tie.Else1) → let a = start c .args in false ≡ sameTerm (a .a) (a .b)
-at-two c = sym (c .if1 .left) ∙ c .before .same-term .ensures
+good-term-of-requires : tie.Need-good-term-of-requires
+good-term-of-requires c κs = search needs
 
-is-var-requires : tie.Need-is-var-requires
-is-var-requires c κs = search needs
+at-two : (c : tie.After-good-term-of) → let a = start (c .before) .args in Two (a .q) (a .a) (a .b) (c .good-term-of .result)
+at-two c =
+    let e = c .before in
+    record { apart = sym (e .if1 .left) ∙ e .before .same-term .ensures; left = c .good-term-of .ensures }
 
+enum-known-left : tie.Need-enum-known-left
+enum-known-left c = search needs
+
+-- it is a variable
 returns-2 : tie.Need-returns-2
-returns-2 c =
-    let t = c .before .before in
-    let a = start t .args in
-    let left = sym (c .if2 .taken) ∙ c .before .is-var .ensures in
-    λ i. askedOf (replacementOf (at-two t i) (left i) (isVar (sig (a .q)) (a .b)) (a .a) (a .b))
+returns-2 c = asks-left (at-two (c .before .before .before)) (c .before .left .given .1)
 
--- ---- it is none, and the right one is a variable, or none either
+-- ---- it is none, and the right one is read
 
-at-fixed : (c : tie.Else2) → let a = start (c .before .before) .args in false ≡ isVar (sig (a .q)) (a .a)
-at-fixed c = sym (c .if2 .left) ∙ c .before .is-var .ensures
+good-term-of-requires-2 : tie.Need-good-term-of-requires-2
+good-term-of-requires-2 c κs = search needs
 
-is-var-requires-2 : tie.Need-is-var-requires-2
-is-var-requires-2 c κs = search needs
+at-fixed : (c : tie.At-match-keys2) → isVarTerm (c .before .good-term-of .result) ≡ false
+at-fixed c = no-variable (c .before .good-term-of .result) (c .match .keys2)
 
-at-right : (c : tie.After-is-var2) (x : Bool) → c .is-var2 .result ≡ x → let a = start (c .before .before .before) .args in
-    askedOf (replacementOf false false x (a .a) (a .b))
-    ≡ askedOf (replacementOf (sameTerm (a .a) (a .b)) (isVar (sig (a .q)) (a .a)) (isVar (sig (a .q)) (a .b)) (a .a) (a .b))
-at-right c x e =
-    let t = c .before in
-    let a = start (t .before .before) .args in
-    let right = sym e ∙ c .is-var2 .ensures in
-    λ i. askedOf (replacementOf (at-two (t .before .before) i) (at-fixed t i) (right i) (a .a) (a .b))
+enum-known-right : tie.Need-enum-known-right
+enum-known-right c = search needs
 
+-- it is a variable, or none either
 returns-3 : tie.Need-returns-3
-returns-3 c = at-right (c .before) _ (c .if3 .taken)
+returns-3 c =
+    let r = c .before .before .before in
+    asks-right (at-two (r .before .before)) (at-fixed (r .before)) (r .good-term-of2 .ensures) (c .before .right .given .1)
 
 returns-4 : tie.Need-returns-4
-returns-4 c = at-right (c .before) _ (c .if3 .left)
+returns-4 c =
+    let r = c .before in
+    asks-none (at-two (r .before .before)) (at-fixed (r .before)) (r .good-term-of2 .ensures) (no-variable (r .good-term-of2 .result) (c .match2 .keys2))
 
 pub replacement-of-spec : {M : Type 1} → statement M
 replacement-of-spec =
@@ -68,8 +67,10 @@ replacement-of-spec =
     (tie.spec
     same-term-requires
     returns
-    is-var-requires
+    good-term-of-requires
+    enum-known-left
     returns-2
-    is-var-requires-2
+    good-term-of-requires-2
+    enum-known-right
     returns-3
     returns-4)

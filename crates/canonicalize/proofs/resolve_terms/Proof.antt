@@ -1,9 +1,7 @@
 -- What becomes of an equality that asks for nothing is written as the definition has it: no words if its terms are one, else the four of value-eq.
 -- Assumes nothing.
 use mathlib.Core.Bool.{Bool}
-use mathlib.Core.List.{[], _∷_}
 use mathlib.Core.Path.{_∙_, _≡_, ap, sym}
-use Prim.Native.Nat.{_*_, _+_, ℕ}
 use native.Mathlib.Omega.{arith}
 use lib.ListN.{length}
 use borrow.Author.Needs.{needs}
@@ -11,7 +9,6 @@ use Rattle.octets.proofs.Splice.{splice-nil}
 use Rattle.octets.specs.Regions.{splice}
 use Rattle.octets.specs.Words.{words}
 use Rattle.rules.specs.Signature.{sameTerm}
-use Rattle.rules.specs.Words.{headWord, unit}
 use Rattle.bodies.specs.Terms.{sig}
 use Rattle.canonicalize.specs.Canonicalize.{resolveTerms}
 use Rattle.canonicalize.proofs.resolve_terms.Statement.{statement}
@@ -44,6 +41,9 @@ mul-put-four c = omega (arith, start (c .before .before .before) .pre .0 .equals
 add-put-four : tie.Need-add-put-four
 add-put-four c = omega (arith, start (c .before .before .before) .pre .0 .equals)
 
+add-put-four-2 : tie.Need-add-put-four-2
+add-put-four-2 c = omega (arith, start (c .before .before .before) .pre .0 .equals)
+
 put-four-requires : tie.Need-put-four-requires
 put-four-requires c κs =
     let t = c .before .before in
@@ -58,8 +58,7 @@ returns-2 c =
     let a = start (t .before) .args in
     let l = words (a .s .now) in
     let f = at-same (t .before) _ (t .if1 .left) in
-    let h : 0x1000_0003 + a .q .equals * 65536 ≡ headWord (a .q .equals) 3 = omega arith in
-    (ap length f, c .before .before .put-four .ensures .1 ∙ ap (λ (x : ℕ). splice l (a .to) (x ∷ a .a ∷ a .b ∷ unit ∷ [])) h ∙ ap (splice l (a .to)) f)
+    (ap length f, c .before .before .put-four .ensures .1 ∙ ap (splice l (a .to)) f)
 
 pub resolve-terms-spec : {M : Type 1} → statement M
 resolve-terms-spec =
@@ -69,6 +68,7 @@ resolve-terms-spec =
     returns
     mul-put-four
     add-put-four
+    add-put-four-2
     put-four-requires
     same-length
     returns-2)

@@ -28,7 +28,7 @@ add-size : tie.Need-add-size Inv-loop μ-loop
 add-size c = omega (arith, at-in (c .before))
 
 size-requires : tie.Need-size-requires Inv-loop μ-loop
-size-requires c κs = at-in (c .before) .here
+size-requires c κs = at-in (c .before) .begins
 
 merge-one-requires : tie.Need-merge-one-requires Inv-loop μ-loop
 merge-one-requires c κs = one-asks (at-in (c .before .before .before))

@@ -28,7 +28,7 @@ add-size : tie.Need-add-size
 add-size c = omega (arith, at-start (get-start (c .before .before)))
 
 size-requires : tie.Need-size-requires
-size-requires c κs = omega (arith, at-start (get-start (c .before .before)))
+size-requires c κs = at-start (get-start (c .before .before)) .first .begins
 
 abbrev size-get : tie.After-size → tie.After-get
 size-get c = c .before .before .before

@@ -9,56 +9,34 @@ use Rattle.words.proofs.atom_of.Tie as tie
 sub-p : tie.Need-sub-p
 sub-p c = kind-range 3 28 (c .before .args .w) refl (c .before .fits .w .fits) (c .match .keys1) .0
 
-add-t10 : tie.Need-add-t10
-add-t10 c = search needs
+laid-out-requires : tie.Need-laid-out-requires
+laid-out-requires c κs = search needs
 
-add-t11 : tie.Need-add-t11
-add-t11 c = search needs
+sub-laid-out : tie.Need-sub-laid-out
+sub-laid-out c = search needs
 
-cast-t12 : tie.Need-cast-t12
-cast-t12 c = search needs
-
-add-t13 : tie.Need-add-t13
-add-t13 c = search needs
-
-sub-count : tie.Need-sub-count
-sub-count c = search needs
-
-add-t15 : tie.Need-add-t15
-add-t15 c = search needs
-
-add-t16 : tie.Need-add-t16
-add-t16 c = search needs
-
-cast-t17 : tie.Need-cast-t17
-cast-t17 c = search needs
-
-add-t18 : tie.Need-add-t18
-add-t18 c = search needs
+laid-out-requires-2 : tie.Need-laid-out-requires-2
+laid-out-requires-2 c κs = search needs
 
 returns : tie.Need-returns
 returns c =
-    let s = c .before in
-    says-head (s .args .w) (s .args .at) (kind-range 3 28 (s .args .w) refl (s .fits .w .fits) (c .match .keys1) .0)
+    let m = c .before in
+    let s = m .before in
+    says-head (kind-range 3 28 (s .args .w) refl (s .fits .w .fits) (m .match .keys1) .0) (c .laid-out .ensures)
 
 returns-2 : tie.Need-returns-2
 returns-2 c =
-    let s = c .before in
-    says-equality (s .args .w) (s .args .at) (not-kind 3 28 (s .args .w) refl (c .match .rest .1) (s .pre .1))
+    let m = c .before in
+    let s = m .before in
+    says-equality (not-kind 3 28 (s .args .w) refl (m .match .rest .1) (s .pre .1)) (c .laid-out2 .ensures)
 
 pub atom-of-spec : {M : Type 1} → statement M
 atom-of-spec =
     tie.close
     (tie.spec
     sub-p
-    add-t10
-    add-t11
-    cast-t12
-    add-t13
-    sub-count
-    add-t15
-    add-t16
-    cast-t17
-    add-t18
+    laid-out-requires
+    sub-laid-out
+    laid-out-requires-2
     returns
     returns-2)

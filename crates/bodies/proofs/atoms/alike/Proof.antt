@@ -1,12 +1,11 @@
 -- A first word tells an atom's head and how many terms it has: where those of two atoms differ the atoms are not alike, and else their inputs decide.
 -- Assumes nothing.
-use mathlib.Core.Path.{_∙_, ap, sym}
-use Prim.Native.Nat.{_%_, _-_, ℕ}
+use mathlib.Core.Path.{_∙_, _≡_, sym}
 use native.Mathlib.Omega.{arith}
+use lib.ListN.{getD}
 use borrow.Author.Needs.{needs}
-use Rattle.octets.proofs.Words.{length-words}
-use Rattle.rules.specs.Words.{limit16}
-use Rattle.bodies.proofs.Alike.{heads-differ, heads-same}
+use Rattle.octets.specs.Words.{words}
+use Rattle.bodies.proofs.Alike.{Read, heads-differ, heads-same, read}
 use Rattle.bodies.proofs.atoms.alike.Statement.{statement}
 use Rattle.bodies.proofs.atoms.alike.Tie as tie
 
@@ -29,27 +28,39 @@ returns c =
 
 -- ---- they are one
 
-add-same-terms : tie.Need-add-same-terms
-add-same-terms c = let e = start (c .before) in omega (arith, length-words (e .args .s .now), e .pre .0 .within)
+good-atom-at-requires : tie.Need-good-atom-at-requires
+good-atom-at-requires c κs = search needs
 
-add-same-terms-2 : tie.Need-add-same-terms-2
-add-same-terms-2 c = let e = start (c .before) in omega (arith, length-words (e .args .s .now), e .pre .1 .within)
+good-atom-at-requires-2 : tie.Need-good-atom-at-requires-2
+good-atom-at-requires-2 c κs = search needs
+
+abbrev same-words : tie.After-good-atom-at2 → tie.Else1
+same-words c = c .before .before
+
+at-first : (c : tie.After-good-atom-at2) → let a = start (same-words c .before) .args in Read (words (a .s .now)) (a .p) (c .before .good-atom-at .result)
+at-first c = read (start (same-words c .before) .pre .0) (c .before .good-atom-at .ensures)
+
+at-later : (c : tie.After-good-atom-at2) → let a = start (same-words c .before) .args in Read (words (a .s .now)) (a .q) (c .good-atom-at2 .result)
+at-later c = read (start (same-words c .before) .pre .1) (c .good-atom-at2 .ensures)
+
+at-one-word : (c : tie.After-good-atom-at2)
+    → let a = start (same-words c .before) .args in let l = words (a .s .now) in getD l (a .p) 0 ≡ getD l (a .q) 0
+at-one-word c = let g = same-words c .before in sym (g .before .get .ensures .is) ∙ same-words c .if1 .left ∙ g .get2 .ensures .is
 
 cast-same-terms : tie.Need-cast-same-terms
 cast-same-terms c = search needs
 
 sub-same-terms : tie.Need-sub-same-terms
-sub-same-terms c = search needs
+sub-same-terms c = omega (arith, at-first (c .before))
 
 same-terms-requires : tie.Need-same-terms-requires
-same-terms-requires c κs = search needs
+same-terms-requires c κs = let y = c .before in (omega (arith, at-first y), omega (arith, at-first y, at-later y, at-one-word y))
 
 returns-2 : tie.Need-returns-2
 returns-2 c =
-    let g = c .before .before in
-    let k = start g .pre in
-    let x = g .before .get .ensures .is in
-    c .same-terms .ensures ∙ heads-same (k .0) (k .1) (sym x ∙ c .before .if1 .left ∙ g .get2 .ensures .is) (ap (λ (w : ℕ). w % limit16 - 1) x)
+    let y = c .before .before in
+    let k = start (same-words y .before) .pre in
+    c .same-terms .ensures ∙ heads-same (k .0) (k .1) (at-first y) (at-later y) (at-one-word y)
 
 pub alike-spec : {M : Type 1} → statement M
 alike-spec =
@@ -58,8 +69,8 @@ alike-spec =
     get-requires
     get-requires-2
     returns
-    add-same-terms
-    add-same-terms-2
+    good-atom-at-requires
+    good-atom-at-requires-2
     cast-same-terms
     sub-same-terms
     same-terms-requires

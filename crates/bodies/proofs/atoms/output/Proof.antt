@@ -1,33 +1,29 @@
--- An atom's output is the last of its words, as many behind the first as that one says. Assumes nothing.
-use mathlib.Core.Path.{_∙_, ap}
-use Prim.Native.Nat.{_%_, _+_, ℕ}
+-- An atom's output is the last of its terms: it stands right before the place where the next atom may begin. Assumes nothing.
+use mathlib.Core.Path.{_∙_}
 use native.Mathlib.Omega.{arith}
-use lib.ListN.{getD}
 use borrow.Author.Needs.{needs}
-use Rattle.octets.proofs.Words.{length-words}
 use Rattle.octets.specs.Words.{words}
-use Rattle.rules.specs.Words.{limit16}
-use Rattle.bodies.proofs.Alike.{out-at}
+use Rattle.bodies.proofs.Alike.{Read, out-at, read}
 use Rattle.bodies.proofs.atoms.output.Statement.{statement}
 use Rattle.bodies.proofs.atoms.output.Tie as tie
 
+abbrev start : tie.After-good-atom-at → tie.Start
+start c = c .before .before
+
+good-atom-at-requires : tie.Need-good-atom-at-requires
+good-atom-at-requires c κs = search needs
+
+at-atom : (c : tie.After-good-atom-at) → let a = start c .args in Read (words (a .s .now)) (a .p) (c .good-atom-at .result)
+at-atom c = read (start c .pre) (c .good-atom-at .ensures)
+
+sub-get : tie.Need-sub-get
+sub-get c = search needs
+
 get-requires : tie.Need-get-requires
-get-requires c κs = search needs
-
-cast-get : tie.Need-cast-get
-cast-get c = search needs
-
-add-get : tie.Need-add-get
-add-get c = let e = c .before .before in omega (arith, length-words (e .args .s .now), e .pre .within, c .get .ensures .is)
-
-get-requires-2 : tie.Need-get-requires-2
-get-requires-2 c κs = omega (arith, c .before .before .pre .within, c .get .ensures .is)
+get-requires c κs = omega (arith, at-atom (c .before))
 
 returns : tie.Need-returns
-returns c =
-    let e = c .before .before .before in
-    let a = e .args in
-    c .get2 .ensures .is ∙ ap (λ (w : ℕ). getD (words (a .s .now)) (a .p + w % limit16) 0) (c .before .get .ensures .is) ∙ out-at (e .pre)
+returns c = c .get .ensures .is ∙ out-at (at-atom (c .before .before))
 
 pub output-spec : {M : Type 1} → statement M
-output-spec = tie.close (tie.spec get-requires cast-get add-get get-requires-2 returns)
+output-spec = tie.close (tie.spec good-atom-at-requires sub-get get-requires returns)

@@ -31,11 +31,14 @@ add-low c = omega (arith, at-bucket c)
 get-requires-2 : tie.Need-get-requires-2
 get-requires-2 c κs = search needs
 
-cast-least : tie.Need-cast-least
-cast-least c = search needs
+cast-first : tie.Need-cast-first
+cast-first c = search needs
 
 least-requires : tie.Need-least-requires
 least-requires c κs = search needs
+
+cast-put : tie.Need-cast-put
+cast-put c = search needs
 
 put-requires : tie.Need-put-requires
 put-requires c κs = search needs
@@ -46,8 +49,8 @@ add-put c = omega (arith, at-bucket (put-bucket (c .before .before .before)))
 add-put-2 : tie.Need-add-put-2
 add-put-2 c = search needs
 
-cast-put : tie.Need-cast-put
-cast-put c = search needs
+cast-put-2 : tie.Need-cast-put-2
+cast-put-2 c = search needs
 
 put-requires-2 : tie.Need-put-requires-2
 put-requires-2 c κs =
@@ -71,12 +74,13 @@ widen-spec =
     bucket-requires
     add-low
     get-requires-2
-    cast-least
+    cast-first
     least-requires
+    cast-put
     put-requires
     add-put
     add-put-2
-    cast-put
+    cast-put-2
     put-requires-2
     same-length
     returns)

@@ -13,7 +13,7 @@ add-size : tie.Need-add-size
 add-size c = search needs
 
 size-requires : tie.Need-size-requires
-size-requires c κs = search needs
+size-requires c κs = c .before .before .pre .begins
 
 add-key : tie.Need-add-key
 add-key c = search needs
