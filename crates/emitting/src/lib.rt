@@ -1,5 +1,7 @@
 // Writing a settled rule to the output: header, atoms, bindings, and the actions as they stood. It is written last, and only if there is room for all of it.
 use settling::Settled;
+use words::HEADER_BASE;
+use words::LIMIT_12;
 ghost use mathlib.Core.Path.{_≡_};
 ghost use mathlib.Core.List.{List, _++_};
 ghost use lib.ListN.{length};
@@ -10,11 +12,6 @@ ghost use Rattle.rules.specs.Canonicalize.{bindings};
 ghost use Rattle.rules.specs.RemoveDupVars as rules;
 ghost use Rattle.free_vars.specs.Head.{WroteIfRoom};
 ghost use Rattle.emitting.specs.Emit.{Fits, emitted, Parts, Stand};
-
-// The first word of a header, and its facts' unit.
-const HEADER: usize = 0x0400_0000;
-
-const LIMIT_12: usize = 4096;
 
 // Copies the three runs behind the header.
 fn emit(
@@ -60,7 +57,15 @@ pub fn finish(
     if octets::count(output) < needed {
         return needed;
     }
-    let header = HEADER + body.atoms * LIMIT_12 + body.replacements + actions;
-    emit(output, header as u32, scratch, body, source, from, rest);
+    let counts = body.atoms * LIMIT_12 as usize + body.replacements + actions;
+    emit(
+        output,
+        HEADER_BASE + counts as u32,
+        scratch,
+        body,
+        source,
+        from,
+        rest,
+    );
     needed
 }

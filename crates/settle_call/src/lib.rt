@@ -7,6 +7,8 @@ use answers::fronts::flat_front;
 use answers::refused;
 use answers::whole;
 use signature::Signature;
+use words::HEADER_BASE;
+use words::LIMIT_12;
 ghost use Prim.Native.Nat.{_*_, _≤_};
 ghost use lib.ListN.{length};
 ghost use Rattle.octets.specs.Words.{words};
@@ -15,11 +17,6 @@ ghost use Rattle.rules.specs.Flat.{FlatRule};
 ghost use Rattle.rules.specs.Calls.{settled};
 ghost use Rattle.answers.specs.Answers.{Gives, scratchFlat, Beyond};
 ghost use Rattle.settle_call.specs.Settle.{FlatUnder, SomeFlat, EndedWith};
-
-// The first word of a header, and its facts' unit.
-const HEADER: u32 = 0x0400_0000;
-
-const LIMIT_12: u32 = 4096;
 
 // The bytes of scratch that are lent on for each word of the rule: 16 words.
 const LENT: usize = 64;
@@ -38,7 +35,7 @@ fn settle_good(rule: &[u8], sign: Signature, output: &mut [u8], scratch: &mut [u
     ensures { λ r. ⌜ ((s : Sig) (f : FlatRule) → FlatUnder (words (now (rule .entry))) sign s f
         → EndedWith s f r (now (output .entry)) (now (output .exit))) ⌝ }
 {
-    let counts = octets::get(rule, 0) - HEADER;
+    let counts = octets::get(rule, 0) - HEADER_BASE;
     let read = records::atoms(rule, sign.heads, sign.globals, 1, counts / LIMIT_12);
     let end = read.at;
     let n = end - 1;

@@ -51,20 +51,23 @@ returns c b xs p = let n = c .before in no-room p (now (known (count-known n) .a
 abbrev else-known : tie.Else1 → tie.After-struct-known
 else-known c = count-known (c .before)
 
-mul-header : tie.Need-mul-header
-mul-header c = search needs
+cast-counts : tie.Need-cast-counts
+cast-counts c = search needs
 
-add-header : tie.Need-add-header
-add-header c = search needs
+mul-counts : tie.Need-mul-counts
+mul-counts c = search needs
 
-add-header-2 : tie.Need-add-header-2
-add-header-2 c = search needs
+add-counts : tie.Need-add-counts
+add-counts c = search needs
 
-add-header-3 : tie.Need-add-header-3
-add-header-3 c = omega (arith, at-known (else-known (c .before .before)))
+add-counts-2 : tie.Need-add-counts-2
+add-counts-2 c = omega (arith, at-known (else-known (c .before .before)))
 
 cast-emit : tie.Need-cast-emit
 cast-emit c = omega (arith, at-known (else-known (c .before .before .before)))
+
+add-emit : tie.Need-add-emit
+add-emit c = omega (arith, at-known (else-known (c .before .before .before)))
 
 emit-requires : tie.Need-emit-requires
 emit-requires c κs =
@@ -92,11 +95,12 @@ finish-spec =
     count-requires
     same-length
     returns
-    mul-header
-    add-header
-    add-header-2
-    add-header-3
+    cast-counts
+    mul-counts
+    add-counts
+    add-counts-2
     cast-emit
+    add-emit
     emit-requires
     same-length-2
     returns-2)
