@@ -10,16 +10,16 @@ use Rattle.rules.specs.Refusals.{Res, ok, refuse, _>>=_}
 use Rattle.rules.specs.Signature.{Sig}
 use Rattle.rules.specs.Written.{panic′, expr′}
 use Rattle.rules.specs.ToCoreActions.{Done, lowerAction}
-use Rattle.walks.specs.Steps.{Piece, nothing, Kept, Walked, InAnswer, ExprAt}
+use Rattle.walks.specs.Steps.{Piece, reachedAt, nothing, Kept, Walked, InAnswer, ExprAt}
 use Rattle.walks.specs.declared.Walk.{Walk}
 use Rattle.walks.proofs.Frames.{kept-wide}
-use Rattle.walks.proofs.Steps.{went, stop, none-walked, written}
+use Rattle.walks.proofs.Steps.{high, went, stop, none-walked, written}
 use Rattle.head_exprs.specs.Scopes.{Scoped, ScopeRoom, grown}
 use Rattle.head_exprs.specs.Lowered.{lowered}
 use Rattle.head_exprs.specs.declared.scope.Scope.{Scope}
 use Rattle.head_exprs.proofs.Scopes.{scoped-kept}
 use Rattle.head_exprs.proofs.Sites.{Site, RoomAt, ScopeRoomAt, Every, WalkedAt, Begun}
-use Rattle.core_actions.specs.Acts.{donePiece, refusedAction, Gave, Quiet, Acts}
+use Rattle.core_actions.specs.Acts.{donePiece, actedAt, refusedAction, Gave, Quiet, Acts}
 use Rattle.core_actions.specs.declared.actions.Acted.{Acted}
 use Rattle.core_actions.proofs.Pieces.{silent, done-expression, SameBound, same-expression}
 use Rattle.core_actions.proofs.Does.{Does, second}
@@ -27,11 +27,11 @@ use Rattle.core_actions.proofs.Does.{Does, second}
 -- ---- from a walk to what an action leaves
 
 -- a refused action
-pub acts-stop : {sig : Sig} {c : Scope} {k at to sp lg : ℕ} {s cs s′ cs′ : List ℕ} {r : Acted} (x : Res Done)
+pub acts-stop : {sig : Sig} {bound : List ℕ} {c : Scope} {k at to sp lg : ℕ} {s cs s′ cs′ : List ℕ} {r : Acted} (x : Res Done)
     → Walked 0 (Gave r) (donePiece x) k at to sp lg s cs s′ cs′ (r .walk) → (r .walk .refused ≡ 0 → ⊥) → Quiet r
-    → Acts x sig c k at to sp lg s cs s′ cs′ r
+    → Acts x sig bound c k at to sp lg s cs s′ cs′ r
 acts-stop (ok d) w bad quiet = absurd (bad (w .ended .0 .fine))
-acts-stop (refuse n p) w bad quiet = record { piece = w; after = (quiet .0, quiet .1 (omega (arith, w .ended .number, w .ended .some))) }
+acts-stop (refuse n p) w bad quiet = record { piece = w; after = (quiet .0, quiet .1 (high (w .ended))) }
 
 -- the scope of a part that binds nothing
 pub scope-after : {at to sp lg log : ℕ} {c : Scope} {sig : Sig} {bound s cs s′ cs′ : List ℕ} (n k : ℕ) → ScopeRoom n at to sp c → at + k ≤ n
@@ -41,14 +41,15 @@ scope-after n k r h kp x = scoped-kept kp (r .body) (omega (arith, r .names)) (r
 -- an action that binds nothing
 pub acts-same : {k at to sp lg : ℕ} {s cs s′ cs′ : List ℕ} {r : Acted} (sig : Sig) (bound : List ℕ) (c : Scope) (n : ℕ) (x : Res Done)
     → SameBound sig bound x → Quiet r → ScopeRoom n at to sp c → at + k ≤ n → Scoped sig bound s c
-    → Walked 0 (Gave r) (donePiece x) k at to sp lg s cs s′ cs′ (r .walk) → Acts x sig c k at to sp lg s cs s′ cs′ r
+    → Walked 0 (Gave r) (donePiece x) k at to sp lg s cs s′ cs′ (r .walk) → Acts x sig bound c k at to sp lg s cs s′ cs′ r
 acts-same sig bound c n (refuse i p) same quiet sr h sc w =
-    record { piece = w; after = (quiet .0, quiet .1 (omega (arith, w .ended .number, w .ended .some))) }
+    record { piece = w; after = (quiet .0, quiet .1 (high (w .ended))) }
 acts-same {k = k} {s′ = s′} {r = r} sig bound c n (ok d) same quiet sr h sc w =
     let e : c .names ≡ c .names + r .names = omega (arith, quiet .0) in
     let now = scope-after n k sr h (w .kept) sc in
     let big = subst (λ (t : ℕ). Scoped sig bound s′ (record { globals = c .globals; body = c .body; first = c .first; names = t })) e now in
-    record { piece = w; after = (omega (arith, quiet .0), subst (λ (b : List ℕ). Scoped sig b s′ (grown c (r .names))) (sym same) big) }
+    let more : r .names + length bound ≡ length (d .bound) = omega (arith, quiet .0, ap length same) in
+    record { piece = w; after = (omega (arith, quiet .0), more, subst (λ (b : List ℕ). Scoped sig b s′ (grown c (r .names))) (sym same) big) }
 
 -- ---- an expression
 
@@ -88,40 +89,39 @@ module _ {k : Site} (g : Begun k (λ sig. ExprAt sig (k .ws) maxDepth (k .at + 1
   pub expression-logged : k .lg ≤ e .log
   expression-logged = let t = g .tree in omega (arith, l .walk (t .sig) (t .it) (t .bound) (t .counted) (t .scoped) .kept .upTo)
 
-  -- the walk of its calls is the action's own, with any count that is so where it is fine
+  -- the walk of its calls is the action's own, but for the term
   abbrev Answers : Acted → Type 0
   Answers r =
-      Every k (λ sig. ExprAt sig (k .ws) maxDepth (k .at + 1)) (λ sig x bound. Does k sig (lowerAction sig bound (expr′ (x .value)) (k .cs)) (1 + x .size) s1 cs1 r)
+      Every k (λ sig. ExprAt sig (k .ws) maxDepth (k .at + 1)) (λ sig x bound. Does k sig bound (lowerAction sig bound (expr′ (x .value)) (k .cs)) (1 + x .size) s1 cs1 r)
 
-  abbrev with : ℕ → Acted
-  with count = record { walk = e; names = 0; count = count }
-
-  ends : (count : ℕ) → Quiet (with count) → (e .refused ≡ 0 → count ≡ e .log - k .lg) → Answers (with count)
-  ends count quiet gives sig x bound n sc =
+  -- so it is of any answer r to the action whose walk is so
+  ends : (r : Acted) → Quiet r → ((y : Res Piece) (n : ℕ) → WalkedAt k 1 (InAnswer (k .lg) e) y n (k .at + 1) s1 cs1 e
+      → WalkedAt k 0 (Gave r) (_>>=_ y (λ p. ok (silent p))) (1 + n) (k .at) s1 cs1 (r .walk)) → Answers r
+  ends r quiet wide sig x bound n sc =
       let i = x .inside in
       acts-same sig bound (k .scope) (length (k .ws)) (lowerAction sig bound (expr′ (x .value)) (k .cs)) (same-expression sig bound (x .value) (k .cs)) quiet
-      (g .scopeRoom) (omega arith) sc (rw (done-expression sig bound (x .value) (k .cs)) (wide (lowered sig bound (x .value) (k .cs)) (l .walk sig x bound n sc)))
+      (g .scopeRoom) (omega arith) sc (rw (done-expression sig bound (x .value) (k .cs)) (wide (lowered sig bound (x .value) (k .cs)) (x .size) (l .walk sig x bound n sc)))
+
+  pub expression-refused : (e .refused ≡ 0 → ⊥) → Answers (refusedAction e)
+  expression-refused bad = ends (refusedAction e) (refl, λ some. refl) (λ y n w. stop (1 + n) (k .at) y (λ p. ok (silent p)) w bad (omega arith))
+
+  pub expression-done : e .refused ≡ 0 → Answers (actedAt (e .next) (e .to) (e .log) 0 (e .log - k .lg))
+  expression-done fine = ends (actedAt (e .next) (e .to) (e .log) 0 (e .log - k .lg)) (refl, λ bad. absurd (omega arith)) wide
     where
-      wide : (y : Res Piece) → WalkedAt k 1 (InAnswer (k .lg) e) y (x .size) (k .at + 1) s1 cs1 e
-          → WalkedAt k 0 (λ p. p .count ≡ count) (_>>=_ y (λ p. ok (silent p))) (1 + x .size) (k .at) s1 cs1 e
-      wide (refuse n p) w = stop (1 + x .size) (k .at) (refuse n p) (λ p. ok (silent p)) w (λ z. omega (arith, w .ended .number, w .ended .some)) (omega arith)
-      wide (ok p) w =
+      wide : (y : Res Piece) (n : ℕ) → WalkedAt k 1 (InAnswer (k .lg) e) y n (k .at + 1) s1 cs1 e
+          → WalkedAt k 0 (Gave (actedAt (e .next) (e .to) (e .log) 0 (e .log - k .lg))) (_>>=_ y (λ p. ok (silent p))) (1 + n) (k .at) s1 cs1 (reachedAt (e .next) (e .to) (e .log) 0)
+      wide (refuse i p) n w = absurd (omega (arith, high (w .ended)))
+      wide (ok p) n w =
           let o = w .ended .0 in
-          let m : ℕ = 1 + x .size in
+          let m : ℕ = 1 + n in
           record {
             kept =
                 kept-wide (k .to) (k .to + 4 * m) (k .sp) (k .sp + m) (k .lg + m) (w .kept) (omega arith) (omega arith) (omega arith) (omega arith) (omega arith);
             ended = (
-              record { fine = o .fine; next = omega (arith, o .next); to = o .to; counters = o .counters; written = o .written; fits = omega (arith, o .fits) },
-              omega (arith, w .ended .1 .uses, gives (o .fine)),
+              record { fine = refl; next = omega (arith, o .next); to = o .to; counters = o .counters; written = o .written; fits = omega (arith, o .fits) },
+              (omega (arith, w .ended .1 .uses), refl),
             );
           }
-
-  pub expression-refused : (e .refused ≡ 0 → ⊥) → Answers (refusedAction e)
-  expression-refused bad = ends 0 (refl, λ some. refl) (λ fine. absurd (bad fine))
-
-  pub expression-done : e .refused ≡ 0 → Answers (record { walk = e; names = 0; count = e .log - k .lg })
-  expression-done fine = ends (e .log - k .lg) (refl, λ bad. absurd (omega (arith, fine))) (λ z. refl)
 
 -- ---- a panic
 
@@ -135,22 +135,22 @@ pub record Panics (k : Site) (l : ℕ) : Type 0 where
 
 module _ {k : Site} {l : ℕ} (h : Panics k l) where
   abbrev standing : Walk
-  standing = record { next = k .at + 2; to = k .to; log = k .lg; term = 0; refused = 0 }
+  standing = reachedAt (k .at + 2) (k .to) (k .lg) 0
 
   pub panic-done : {s1 : List ℕ} {e : ℕ} → (e ≡ k .to + 2) × (s1 ≡ splice (k .s) (k .to) (actionWord 6 ∷ l ∷ []))
       → (sig : Sig) (bound : List ℕ) → Scoped sig bound (k .s) (k .scope)
-      → Does k sig (lowerAction sig bound (panic′ (second k)) (k .cs)) 2 s1 (k .cs)
-      (record { walk = record { next = k .at + 2; to = e; log = k .lg; term = 0; refused = 0 }; names = 0; count = 1 })
+      → Does k sig bound (lowerAction sig bound (panic′ (second k)) (k .cs)) 2 s1 (k .cs)
+      (actedAt (k .at + 2) e (k .lg) 0 1)
   panic-done {s1} {e} put sig bound sc =
       let i = h .inside in
       let r = h .room in
       acts-same sig bound (k .scope) (length (k .ws)) (lowerAction sig bound (panic′ (second k)) (k .cs)) refl (refl, λ bad. absurd (omega arith)) (h .scopeRoom) (omega arith) sc
-      (written 0 (λ p. p .count ≡ 1) 0 2 (k .at + 2) (k .at) (k .to) (k .sp) (k .lg) (k .s) (k .cs) (k .s) (k .cs) s1 (actionWord 6 ∷ l ∷ []) standing e 0
+      (written 0 (Gave (actedAt (k .at + 2) e (k .lg) 0 1)) 0 2 (k .at + 2) (k .at) (k .to) (k .sp) (k .lg) (k .s) (k .cs) (k .s) (k .cs) s1 (actionWord 6 ∷ l ∷ []) standing e 0
       (ok (nothing (k .cs))) (λ p. record { terms = []; words = actionWord 6 ∷ second k ∷ []; count = 1; next = k .cs })
       (omega (arith, r .words)) (omega (arith, r .stack)) (omega (arith, r .log)) (omega arith) (omega arith) (omega arith)
       (none-walked {T = λ p. p ≡ nothing (k .cs)} (k .sp) (k .s) (k .cs) standing refl refl) refl (put .1) (omega (arith, put .0))
       (λ p u. record {
         words = λ i. sym (ap (λ (z : Piece). z .words) u) i ++ (actionWord 6 ∷ sym (h .is) i ∷ []);
         counters = sym (ap (λ (z : Piece). z .next) u);
-        terms = refl;
+        terms = (refl, refl);
       }))

@@ -24,7 +24,7 @@ use Rattle.core_actions.proofs.ReadActions.{action-high, no-other, let-
 
 -- the action y of n words is done
 abbrev Ends : Site → Sig → (bound s′ cs′ : List ℕ) → Acted → Action → ℕ → Type 0
-Ends k sig bound s′ cs′ r y n = Does k sig (lowerAction sig bound y (k .cs)) n s′ cs′ r
+Ends k sig bound s′ cs′ r y n = Does k sig bound (lowerAction sig bound y (k .cs)) n s′ cs′ r
 
 -- ---- the action's word is read: w
 
@@ -67,7 +67,7 @@ module _ {gs : List ℕ} {k : Site} {w : ℕ} (g : Coded gs k w) where
     row-does : (sig : Sig) (bound : List ℕ) (x : Res Done) (more code : ℕ) (y : ChangeAt sig (k .ws) more (k .at)) → Scoped sig bound (k .s) (k .scope) → Quiet r
         → SameBound sig bound x → w ≡ code → donePiece x ≡ changed sig bound code more (k .at + 1) head (y .exprs .value) (k .cs)
         → WalkedAt k 0 (Gave r) (changed sig bound w more (k .at + 1) head (y .exprs .value) (k .cs)) (2 + y .exprs .size) (k .at) s′ cs′ (r .walk)
-        → Does k sig x (2 + y .exprs .size) s′ cs′ r
+        → Does k sig bound x (2 + y .exprs .size) s′ cs′ r
     row-does sig bound x more code y sc none same e is walk =
         let i = y .exprs .inside in
         acts-same sig bound (k .scope) (length (k .ws)) x same none (g .scopeRoom) (omega arith) sc
@@ -85,7 +85,7 @@ module _ {gs : List ℕ} {k : Site} {w : ℕ} (g : Coded gs k w) where
     change-does : (C : ℕ → List ℕ → CoreAction) (code : ℕ) → ((h : ℕ) (ts : List ℕ) → actionWords (C h ts) ≡ code ∷ headWord h (length ts) ∷ ts)
         → getD (k .ws) (k .at) 0 ≡ code → Changes k w 0 s′ cs′ r
         → Every k (λ sig. ChangeAt sig (k .ws) 0 (k .at))
-        (λ sig y bound. Does k sig (lowerChange sig bound C (k .at + 1) head (y .exprs .value) (k .cs)) (2 + y .exprs .size) s′ cs′ r)
+        (λ sig y bound. Does k sig bound (lowerChange sig bound C (k .at + 1) head (y .exprs .value) (k .cs)) (2 + y .exprs .size) s′ cs′ r)
     change-does C code is e does sig y bound n sc =
         row-does sig bound (lowerChange sig bound C (k .at + 1) head (y .exprs .value) (k .cs)) 0 code y sc (does .0)
         (same-change sig bound C (k .at + 1) head (y .exprs .value) (k .cs)) (g .is ∙ e)
@@ -130,7 +130,7 @@ module _ {gs : List ℕ} {k : Site} {w : ℕ} (g : Coded gs k w) where
   panic-asks e = let q = g .known in panic-cases (q .sig) (k .ws) (k .at) (q .known .0) (λ y n. k .at + 1 < length (k .ws)) (word 6 e) (λ i. i)
 
   pub panic-done : {s′ cs′ : List ℕ} {r : Acted} → w - actionBase ≡ 6
-      → ((sig : Sig) (bound : List ℕ) → Scoped sig bound (k .s) (k .scope) → Does k sig (lowerAction sig bound (panic′ (second k)) (k .cs)) 2 s′ cs′ r)
+      → ((sig : Sig) (bound : List ℕ) → Scoped sig bound (k .s) (k .scope) → Does k sig bound (lowerAction sig bound (panic′ (second k)) (k .cs)) 2 s′ cs′ r)
       → DoesAction k gs s′ cs′ r
   panic-done {s′} {cs′} {r} e does sig x bound n sc sg =
       panic-cases sig (k .ws) (k .at) x (Ends k sig bound s′ cs′ r) (word 6 e) (λ i. does sig bound sc)
@@ -139,7 +139,7 @@ module _ {gs : List ℕ} {k : Site} {w : ℕ} (g : Coded gs k w) where
   expression-asks e = asks (λ sig x. expression-cases sig (k .ws) (k .at) x (λ y n. ExprAt sig (k .ws) maxDepth (k .at + 1)) (word 8 e) (λ y. y))
 
   pub expression-done : {s′ cs′ : List ℕ} {r : Acted} → w - actionBase ≡ 8
-      → Every k (λ sig. ExprAt sig (k .ws) maxDepth (k .at + 1)) (λ sig y bound. Does k sig (lowerAction sig bound (expr′ (y .value)) (k .cs)) (1 + y .size) s′ cs′ r)
+      → Every k (λ sig. ExprAt sig (k .ws) maxDepth (k .at + 1)) (λ sig y bound. Does k sig bound (lowerAction sig bound (expr′ (y .value)) (k .cs)) (1 + y .size) s′ cs′ r)
       → DoesAction k gs s′ cs′ r
   expression-done {s′} {cs′} {r} e does sig x bound n sc sg =
       expression-cases sig (k .ws) (k .at) x (Ends k sig bound s′ cs′ r) (word 8 e) (λ y. does sig y bound n sc)

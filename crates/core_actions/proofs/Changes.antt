@@ -6,10 +6,11 @@ use Prim.Native.Nat.{ℕ, _+_, _^_, _≤_, _<_}
 use native.Mathlib.Omega.{arith}
 use lib.ListN.{length}
 use Rattle.rules.specs.Words.{maxDepth, headBase, headOf, countOf}
+use Rattle.rules.specs.Refusals.{Res}
 use Rattle.rules.specs.Signature.{Sig, heads}
-use Rattle.walks.specs.Steps.{OnStack, ExprsAt}
+use Rattle.walks.specs.Steps.{Piece, OnStack, OnlyOnStack, ExprsAt}
 use Rattle.walks.specs.declared.Walk.{Walk}
-use Rattle.walks.proofs.Steps.{went, stop}
+use Rattle.walks.proofs.Steps.{went, stop, retold}
 use Rattle.walks.proofs.Read.{exprs-many, recount}
 use Rattle.head_exprs.specs.Lowered.{loweredAll}
 use Rattle.head_exprs.proofs.Sites.{Site, Asks, Every, WalkedAt, Tree, tree, Begun, begun-as, asks}
@@ -26,10 +27,12 @@ pub record Headed (k : Site) (j d n w : ℕ) (sig : Sig) : Type 0 where
   pub head : headOf w < heads sig
   pub exprs : ExprsAt sig (k .ws) d n (k .at + j)
 
--- what lowering the expressions asks
-pub exprs-ask : {k : Site} {j d n w : ℕ} → Begun k (Headed k j d n w)
-    → Asks k (λ sig. ExprsAt sig (k .ws) d n (k .at + j)) (k .at + j)
-exprs-ask {k} {j} {d} {n} g = asks (begun-as {Y = λ sig. ExprsAt sig (k .ws) d n (k .at + j)} g (λ sig x. x .exprs)) (k .at + j) (omega arith)
+-- what lowering the expressions asks, where their count is told as m
+pub exprs-ask : {k : Site} {j d n m w : ℕ} → m ≡ n → Begun k (Headed k j d n w)
+    → Asks k (λ sig. ExprsAt sig (k .ws) d m (k .at + j)) (k .at + j)
+exprs-ask {k} {j} {d} {n} e g =
+    subst (λ (i : ℕ). Asks k (λ sig. ExprsAt sig (k .ws) d i (k .at + j)) (k .at + j)) (sym e)
+    (asks (begun-as {Y = λ sig. ExprsAt sig (k .ws) d n (k .at + j)} g (λ sig x. x .exprs)) (k .at + j) (omega arith))
 
 -- ---- the expressions are lowered: a, with s1 and cs1 left behind
 
@@ -41,12 +44,18 @@ pub record Argued (k : Site) (j d n w : ℕ) (s1 cs1 : List ℕ) (a : Walk) : Ty
   pub size : length s1 ≡ length (k .s)
   pub counters : length cs1 ≡ length (k .cs)
 
-pub argued : {k : Site} {j d n w : ℕ} {s1 cs1 : List ℕ} {a : Walk} → Begun k (Headed k j d n w) → length s1 ≡ length (k .s) → length cs1 ≡ length (k .cs)
-    → Every k (λ sig. ExprsAt sig (k .ws) d n (k .at + j))
-    (λ sig x bound. WalkedAt k n (OnStack (k .sp) n (k .lg) s1 a) (loweredAll sig bound (x .value) (k .cs)) (x .size) (k .at + j) s1 cs1 a)
-    → Argued k j d n w s1 cs1 a
-argued g es ec walk =
-    record { begun = g; walk = λ t. walk (t .sig) (t .it .exprs) (t .bound) (t .counted) (t .scoped); size = es; counters = ec }
+-- what the contract of their walk says
+abbrev pub Rowed : (k : Site) (j d n : ℕ) (s1 cs1 : List ℕ) → Walk → Type 0
+Rowed k j d n s1 cs1 a =
+    Every k (λ sig. ExprsAt sig (k .ws) d n (k .at + j))
+    (λ sig x bound. WalkedAt k n (OnlyOnStack (k .sp) n (k .lg) s1 a) (loweredAll sig bound (x .value) (k .cs)) (x .size) (k .at + j) s1 cs1 a)
+
+pub argued : {k : Site} {j d n m w : ℕ} {s1 cs1 : List ℕ} {a : Walk} → m ≡ n → Begun k (Headed k j d n w) → length s1 ≡ length (k .s) → length cs1 ≡ length (k .cs)
+    → Rowed k j d m s1 cs1 a → Argued k j d n w s1 cs1 a
+argued {k} {j} {d} {n} {m} {w} {s1} {cs1} {a} e g es ec rowed =
+    let walk : Rowed k j d n s1 cs1 a = subst (λ (i : ℕ). Rowed k j d i s1 cs1 a) e rowed in
+    let low : Tree k (Headed k j d n w) → Res Piece = λ t. loweredAll (t .sig) (t .bound) (t .it .exprs .value) (k .cs) in
+    record { begun = g; walk = λ t. retold (low t) (walk (t .sig) (t .it .exprs) (t .bound) (t .counted) (t .scoped)) (λ p u. u .0); size = es; counters = ec }
 
 -- they are fine: what the end of the action asks, with room for j - 2 terms behind theirs
 pub record Fine {k : Site} {j d n w : ℕ} {s1 cs1 : List ℕ} {a : Walk} (m : Argued k j d n w s1 cs1 a) : Type 0 where
@@ -70,20 +79,25 @@ is-fine {k} {j} {d} {n} m more fine =
     let many = exprs-many (t .sig) (k .ws) d n (k .at + j) x in
     record {
       fine = fine;
-      fits =
-          record {
-            high = t .it .high;
-            head = omega (arith, t .it .head, t .counted .few);
-            counter = omega (arith, t .it .head, t .counted .fits, m .counters);
-            logged = o .logFrom;
-            log = omega (arith, r .log);
-            words = omega (arith, r .words);
-            stack = omega (arith, r .stack, r .log);
-          };
+      fits = (
+        record {
+          high = t .it .high;
+          head = omega (arith, t .it .head, t .counted .few);
+          counter = omega (arith, t .it .head, t .counted .fits, m .counters);
+          log = omega (arith, r .log);
+          words = omega (arith, r .words);
+          stack = omega (arith, r .stack, r .log);
+        },
+        o .logFrom,
+      );
       stack = omega (arith, r .stack, r .log);
       scratchFits = omega (arith, g .scratchFits);
       next = omega (arith, g .ruleFits);
     }
+
+-- that, where the count is told as m
+pub fits-as : {w n m sp lg : ℕ} {a : Walk} {s cs : List ℕ} → m ≡ n → ChangeFits w n sp lg a s cs → ChangeFits w m sp lg a s cs
+fits-as {w} {sp = sp} {lg = lg} {a = a} {s = s} {cs = cs} e f = subst (λ (i : ℕ). ChangeFits w i sp lg a s cs) (sym e) f
 
 -- ---- the ways out of `lower_change`
 
@@ -130,9 +144,10 @@ module _ {k : Site} {code more w : ℕ} (h : Changing k code more w) where
             (m .walk t) bad (omega arith)
 
     -- they are fine, and the end of the action leaves s2 and cs2
-    pub change-ends : Fine m → {s2 cs2 : List ℕ} {r : Acted} → Closes code w (countOf w + more) (k .at + 1) (k .sp) (k .lg) s1 cs1 s2 cs2 a r
+    pub change-ends : Fine m → {n : ℕ} {s2 cs2 : List ℕ} {r : Acted} → n ≡ countOf w + more → Closes code w n (k .at + 1) (k .sp) (k .lg) s1 cs1 s2 cs2 a r
         → Changes k code more s2 cs2 r
-    change-ends f e =
+    change-ends f {n} {s2} {cs2} {r} count closes =
+        let e = subst (λ (i : ℕ). Closes code w i (k .at + 1) (k .sp) (k .lg) s1 cs1 s2 cs2 a r) count closes in
         answers (e .0)
         (λ t. e .1 more (k .at) (k .to) (2 + t .it .exprs .size) (loweredAll (t .sig) (t .bound) (t .it .exprs .value) (k .cs)) (k .s) (k .cs) refl (termed t))
       where

@@ -7,11 +7,11 @@ use Rattle.rules.specs.Words.{headOf}
 use Rattle.rules.specs.Refusals.{Res}
 use Rattle.rules.specs.Signature.{Sig}
 use Rattle.rules.specs.ToCoreActions.{Done, lowerAction}
-use Rattle.walks.specs.Steps.{Piece, Under, Counted}
+use Rattle.walks.specs.Steps.{Piece, Termed, Under, Counted}
 use Rattle.walks.specs.declared.Walk.{Walk}
 use Rattle.head_exprs.specs.Scopes.{Scoped, Names}
 use Rattle.head_exprs.proofs.Sites.{Site, Every, WalkedAt}
-use Rattle.core_actions.specs.Acts.{ActionAt, ChangeAt, changed, Termed, Gave, Quiet, Acts, Signed}
+use Rattle.core_actions.specs.Acts.{ActionAt, ChangeAt, changed, Gave, Quiet, Acts, Signed}
 use Rattle.core_actions.specs.declared.actions.Acted.{Acted}
 
 module _ (k : Site) where
@@ -24,16 +24,16 @@ module _ (k : Site) where
   EverySigned gs X P = (sig : Sig) (x : X sig) (bound : List ℕ) → Counted sig (k .cs) → Scoped sig bound (k .s) (k .scope) → Signed sig gs → P sig x bound
 
   -- n words were read, and x is done
-  abbrev pub Does : Sig → Res Done → ℕ → List ℕ → List ℕ → Acted → Type 0
-  Does sig x n s′ cs′ r = Acts x sig (k .scope) n (k .at) (k .to) (k .sp) (k .lg) (k .s) (k .cs) s′ cs′ r
+  abbrev pub Does : Sig → List ℕ → Res Done → ℕ → List ℕ → List ℕ → Acted → Type 0
+  Does sig bound x n s′ cs′ r = Acts x sig bound (k .scope) n (k .at) (k .to) (k .sp) (k .lg) (k .s) (k .cs) s′ cs′ r
 
   -- what the contract of `lower_action` says of an answer
   abbrev pub DoesAction : (gs s′ cs′ : List ℕ) → Acted → Type 0
-  DoesAction gs s′ cs′ r = EverySigned gs (λ sig. ActionAt sig (k .ws) (k .at)) (λ sig x bound. Does sig (lowerAction sig bound (x .value) (k .cs)) (x .size) s′ cs′ r)
+  DoesAction gs s′ cs′ r = EverySigned gs (λ sig. ActionAt sig (k .ws) (k .at)) (λ sig x bound. Does sig bound (lowerAction sig bound (x .value) (k .cs)) (x .size) s′ cs′ r)
 
   -- n terms are on the stack, of the words behind the first two of the action's `size`
   abbrev pub TermedAt : (size n : ℕ) → Res Piece → List ℕ → List ℕ → Walk → Type 0
-  TermedAt size n x s1 cs1 a = Termed (k .at) (k .to) size n (k .sp) (k .lg) x (k .s) (k .cs) s1 cs1 a
+  TermedAt size n x s1 cs1 a = Termed 2 (k .at) (k .to) size n (k .sp) (k .lg) x (k .s) (k .cs) s1 cs1 a
 
   -- the word behind the action's word: the name that is let, the kind 3 word of a change
   abbrev pub second : ℕ

@@ -6,21 +6,21 @@ use native.Mathlib.Omega.{arith}
 use lib.ListN.{length}
 use Rattle.rules.specs.Refusals.{Res, ok, refuse}
 use Rattle.rules.specs.Signature.{Sig}
-use Rattle.rules.specs.ToCoreActions.{lowerAction, toCoreActions}
+use Rattle.rules.specs.ToCoreActions.{Done, lowerAction, toCoreActions}
 use Rattle.walks.specs.Steps.{Piece, Walked, Room, Under, Counted}
 use Rattle.walks.specs.declared.Walk.{Walk}
 use Rattle.walks.proofs.Asks.{counted-kept}
-use Rattle.walks.proofs.Steps.{went}
+use Rattle.walks.proofs.Steps.{went, retold, none-told, halted}
 use Rattle.walks.proofs.Rows.{Going, going-start, going-room}
 use Rattle.head_exprs.specs.Scopes.{Scoped, ScopeRoom, Names}
 use Rattle.head_exprs.specs.declared.scope.Scope.{Scope}
 use Rattle.head_exprs.proofs.Sites.{Site, site-of, RoomAt, ScopeRoomAt}
 use Rattle.head_exprs.proofs.Expressions.{standing}
-use Rattle.core_actions.specs.Acts.{donePiece, ActionAt, ActionsAt, Acts, refusedAction, Gave, Idle, Signed}
+use Rattle.core_actions.specs.Acts.{donePiece, ActionAt, ActionsAt, Acts, refusedAction, Gave, NamesAfter, Signed}
 use Rattle.core_actions.specs.declared.actions.Acted.{Acted}
 use Rattle.core_actions.proofs.Does.{KnownSigned, DoesAction}
 use Rattle.core_actions.proofs.ReadActions.{action-inside}
-use Rattle.core_actions.proofs.ActionRows.{having, acts-few, Left, left-all, left-none, first-action, left-stop, left-next, left-going}
+use Rattle.core_actions.proofs.ActionRows.{having, acts-few, Left, left-all, left-none, left-names, first-action, left-stop, left-next, left-going}
 
 -- the head: the words of the signature, the rule, the scratch and the counters, n actions from `at` on, and where they are written
 pub record Head : Type 0 where
@@ -48,19 +48,19 @@ module _ (h : Head) where
   -- what the contract says of an answer
   abbrev pub Answers : List ℕ → List ℕ → Acted → Type 0
   Answers s′ cs′ r =
-      Idle r
-      × ((sig : Sig) (x : ActionsAt sig (h .ws) (h .n) (h .at)) (bound : List ℕ) → Counted sig (h .cs) → Scoped sig bound (h .s) (h .scope) → Signed sig (h .gs)
-      → Walked 0 (Gave r) (donePiece (toCoreActions sig bound (x .value) (h .cs))) (x .size) (h .at) (h .to) sp (h .lg) (h .s) (h .cs) s′ cs′ (r .walk))
+      (sig : Sig) (x : ActionsAt sig (h .ws) (h .n) (h .at)) (bound : List ℕ) → Counted sig (h .cs) → Scoped sig bound (h .s) (h .scope) → Signed sig (h .gs)
+      → Walked 0 (Gave r) (donePiece (toCoreActions sig bound (x .value) (h .cs))) (x .size) (h .at) (h .to) sp (h .lg) (h .s) (h .cs) s′ cs′ (r .walk)
+      × NamesAfter (toCoreActions sig bound (x .value) (h .cs)) bound (h .scope) r
 
   -- what the next action is given, with these names let
   abbrev pub turn : ℕ → List ℕ → List ℕ → Walk → Site
   turn names s1 cs1 w = site-of (h .ws) s1 cs1 (w .next) (w .to) (h .scope .first + names) (w .log) (having (h .scope) names)
 
--- a walk that is refused, whatever it would say of its terms
-halted : {T T′ : Piece → Type 0} {k at to sp lg : ℕ} {s cs s′ cs′ : List ℕ} {a : Walk} (x : Res Piece) → Walked 0 T x k at to sp lg s cs s′ cs′ a
-    → (a .refused ≡ 0 → ⊥) → Walked 0 T′ x k at to sp lg s cs s′ cs′ a
-halted (ok p) w bad = absurd (bad (w .ended .0 .fine))
-halted (refuse n q) w bad = record { kept = w .kept; ended = w .ended }
+-- where the walk is refused, no name is let
+no-names : {T : Piece → Type 0} {k at to sp lg : ℕ} {s cs s′ cs′ : List ℕ} {a : Walk} (bound : List ℕ) (c : Scope) (x : Res Done)
+    → Walked 0 T (donePiece x) k at to sp lg s cs s′ cs′ a → (a .refused ≡ 0 → ⊥) → NamesAfter x bound c (refusedAction a)
+no-names bound c (ok d) w bad = absurd (bad (w .ended .0 .fine))
+no-names bound c (refuse n p) w bad = (refl, refl)
 
 -- between two turns: `left` actions are left, of which the walk makes the whole
 pub record Row (h : Head) (left names count : ℕ) (s1 cs1 : List ℕ) (w : Walk) : Type 0 where
@@ -71,6 +71,7 @@ pub record Row (h : Head) (left names count : ℕ) (s1 cs1 : List ℕ) (w : Walk
   pub scratch : length s1 ≡ length (h .s)
   pub counters : length cs1 ≡ length (h .cs)
   pub going : Going (h .at) (h .to) (sp h) (h .lg) (h .s) (h .cs) (h .scope .first + names) s1 cs1 w
+  pub silent : w .term ≡ 0
   pub written : h .to + count ≤ w .to
   pub rest : (sig : Sig) (x : ActionsAt sig (h .ws) (h .n) (h .at)) (bound : List ℕ) → Counted sig (h .cs) → Scoped sig bound (h .s) (h .scope) → Signed sig (h .gs)
       → Left sig bound (h .ws) (h .n) (h .at) (h .to) (h .lg) (h .scope) (h .s) (h .cs) x left names count s1 cs1 w
@@ -87,6 +88,7 @@ row-start {h} q room sr fits =
       scratch = refl;
       counters = refl;
       going = going-start (h .at) (h .to) (sp h) (h .lg) 0 (h .s) (h .cs);
+      silent = refl;
       written = omega arith;
       rest = λ sig x bound n sc sg. left-all sig bound (h .ws) (h .n) (h .at) (h .to) (h .lg) (h .scope) (h .s) (h .cs) x 0 sc;
     }
@@ -94,11 +96,13 @@ row-start {h} q room sr fits =
 module _ {h : Head} {left names count : ℕ} {s1 cs1 : List ℕ} {w : Walk} (row : Row h left names count s1 cs1 w) where
   -- where none are left, the row is walked
   pub row-done : left ≡ 0 → Answers h s1 cs1 (record { walk = w; names = names; count = count })
-  row-done z = (
-    λ bad. absurd (omega (arith, row .going .fine)),
-    λ sig x bound n sc sg. left-none sig bound (h .ws) (h .n) (h .at) (h .to) (h .lg) (h .scope) (h .s) (h .cs) x left names count s1 cs1 w
-        (row .rest sig x bound n sc sg) (row .going .fine) z,
-  )
+  row-done z sig x bound n sc sg =
+      let l = row .rest sig x bound n sc sg in (
+        retold (donePiece (toCoreActions sig bound (x .value) (h .cs)))
+            (left-none sig bound (h .ws) (h .n) (h .at) (h .to) (h .lg) (h .scope) (h .s) (h .cs) x left names count s1 cs1 w l (row .going .fine) z)
+            (λ p e. (e, row .silent)),
+        left-names sig bound (h .ws) (h .n) (h .at) (h .to) (h .lg) (h .scope) (h .s) (h .cs) x left names count s1 cs1 w l (row .going .fine) z,
+      )
 
   pub turn-room : RoomAt (turn h names s1 cs1 w) (w .next)
   turn-room = going-room (length (h .ws)) (length s1) (row .room) (row .scratch) (row .going)
@@ -135,17 +139,17 @@ module _ {h : Head} {left names count : ℕ} {s1 cs1 : List ℕ} {w : Walk} (row
     module _ {s2 cs2 : List ℕ} {a : Acted} (does : DoesAction (turn h names s1 cs1 w) (h .gs) s2 cs2 a) where
       -- one that is refused refuses the row
       pub row-stop : (a .walk .refused ≡ 0 → ⊥) → Answers h s2 cs2 (refusedAction (a .walk))
-      row-stop bad = (
-        λ refused. (refl, refl),
-        λ sig x bound n sc sg. let l = row .rest sig x bound n sc sg in
-            halted (donePiece (toCoreActions sig bound (x .value) (h .cs)))
-            (left-stop sig bound (h .ws) (h .n) (h .at) (h .to) (h .lg) (h .scope) (h .s) (h .cs) x left names count s1 cs1 w l some turn-room s2 cs2 a
-            (λ y. does sig y (l .now) (counted-kept n (row .counters)) (l .scoped) sg) bad) bad,
-      )
+      row-stop bad sig x bound n sc sg =
+          let l = row .rest sig x bound n sc sg in
+          let v =
+          left-stop sig bound (h .ws) (h .n) (h .at) (h .to) (h .lg) (h .scope) (h .s) (h .cs) x left names count s1 cs1 w l some turn-room s2 cs2 a
+          (λ y. does sig y (l .now) (counted-kept n (row .counters)) (l .scoped) sg) bad in
+          let all = toCoreActions sig bound (x .value) (h .cs) in
+          (halted (donePiece all) v bad, no-names bound (h .scope) all v bad)
 
       -- and behind any other one less is left
       module _ (fine : a .walk .refused ≡ 0) where
-        acts : Acts (lowerAction (row .known .sig) (here .now) (first .value) cs1) (row .known .sig) (having (h .scope) names) (first .size)
+        acts : Acts (lowerAction (row .known .sig) (here .now) (first .value) cs1) (row .known .sig) (here .now) (having (h .scope) names) (first .size)
             (w .next) (w .to) (h .scope .first + names) (w .log) s1 cs1 s2 cs2 a
         acts = let q = row .known in does (q .sig) first (here .now) (counted-kept (q .known .1) (row .counters)) (here .scoped) (q .known .3)
 
@@ -174,6 +178,7 @@ module _ {h : Head} {left names count : ℕ} {s1 cs1 : List ℕ} {w : Walk} (row
               going =
                   left-going (q .sig) (q .known .2 .bound) (h .ws) (h .n) (h .at) (h .to) (h .lg) (h .scope) (h .s) (h .cs) (q .known .0) left names count s1 cs1 w here some turn-room s2 cs2 a
                   (λ y. does (q .sig) y (here .now) (counted-kept (q .known .1) (row .counters)) (here .scoped) (q .known .3)) (row .room) (row .going) fine;
+              silent = none-told (donePiece (lowerAction (row .known .sig) (here .now) (first .value) cs1)) (acts .piece) (λ p t. t .1);
               written = omega (arith, few .1, row .written);
               rest =
                   λ sig x bound n sc sg. let l = row .rest sig x bound n sc sg in

@@ -13,15 +13,15 @@ use Rattle.rules.specs.Refusals.{Res, ok, refuse, _>>=_, alreadyDefined}
 use Rattle.rules.specs.Signature.{Sig, elem}
 use Rattle.rules.specs.Flat.{Let}
 use Rattle.rules.specs.ToCoreActions.{Low, Done, lowerExpr, lowerLet}
-use Rattle.walks.specs.Steps.{Piece, InAnswer, ExprAt}
+use Rattle.walks.specs.Steps.{Piece, stoppedAt, InAnswer, ExprAt}
 use Rattle.walks.specs.declared.Walk.{Walk}
 use Rattle.walks.proofs.Frames.{kept-none}
-use Rattle.walks.proofs.Steps.{stop, stored, Own, written}
+use Rattle.walks.proofs.Steps.{high, stop, stored, Own, written}
 use Rattle.head_exprs.specs.Scopes.{Scoped, ScopeFits}
 use Rattle.head_exprs.specs.Lowered.{lowered}
 use Rattle.head_exprs.proofs.Scopes.{scope-let, scope-fits}
 use Rattle.head_exprs.proofs.Sites.{Site, Asks, Every, WalkedAt, Tree, tree, Begun, begun-as, asks}
-use Rattle.core_actions.specs.Acts.{LetAt, donePiece, refusedAction, Gave, ScopeAfter}
+use Rattle.core_actions.specs.Acts.{LetAt, donePiece, actedAt, refusedAction, Gave, ScopeAfter}
 use Rattle.core_actions.specs.declared.actions.Acted.{Acted}
 use Rattle.core_actions.proofs.Pieces.{letPiece, done-let}
 use Rattle.core_actions.proofs.Does.{Does, second}
@@ -34,7 +34,7 @@ LetThere k sig = LetAt sig (k .ws) (k .at)
 abbrev pub Answers : Site → List ℕ → List ℕ → Acted → Type 0
 Answers k s′ cs′ r =
     Every k (LetThere k)
-    (λ sig x bound. Does k sig (lowerLet (elem (second k) bound) sig bound (k .at) (second k) (x .expr .value) (k .cs)) (2 + x .expr .size) s′ cs′ r)
+    (λ sig x bound. Does k sig bound (lowerLet (elem (second k) bound) sig bound (k .at) (second k) (x .expr .value) (k .cs)) (2 + x .expr .size) s′ cs′ r)
 
 -- ---- the name is read as v
 
@@ -62,28 +62,28 @@ abbrev let-of : (k : Site) → ℕ → Bool → Tree k (LetThere k) → Res Done
 let-of k v b t = lowerLet b (t .sig) (t .bound) (k .at) v (t .it .expr .value) (k .cs)
 
 abbrev Ends : (k : Site) → ℕ → Bool → List ℕ → List ℕ → Acted → Tree k (LetThere k) → Type 0
-Ends k v b s′ cs′ r t = Does k (t .sig) (let-of k v b t) (2 + t .it .expr .size) s′ cs′ r
+Ends k v b s′ cs′ r t = Does k (t .sig) (t .bound) (let-of k v b t) (2 + t .it .expr .size) s′ cs′ r
 
 module _ {k : Site} {v : ℕ} (h : Letting k v) {b : Bool} (test : Test k v b) where
   answers : {s′ cs′ : List ℕ} {r : Acted} (b′ : Bool) → b ≡ b′ → ((t : Tree k (LetThere k)) → Ends k v b′ s′ cs′ r t) → Answers k s′ cs′ r
   answers {s′} {cs′} {r} b′ e f sig x bound n sc =
       let there : b ≡ elem v bound = test sig bound sc (subst (λ (u : ℕ). u < freshBase) (sym (h .is)) (x .old)) in
       subst
-      (λ (u : ℕ). Does k sig (lowerLet (elem u bound) sig bound (k .at) u (x .expr .value) (k .cs)) (2 + x .expr .size) s′ cs′ r) (h .is)
+      (λ (u : ℕ). Does k sig bound (lowerLet (elem u bound) sig bound (k .at) u (x .expr .value) (k .cs)) (2 + x .expr .size) s′ cs′ r) (h .is)
       (subst (λ (u : Bool). Ends k v u s′ cs′ r (tree sig x bound n sc)) (sym e ∙ there) (f (tree sig x bound n sc)))
 
-  pub let-twice : b ≡ true → Answers k (k .s) (k .cs) (refusedAction (record { next = k .at; to = k .to; log = k .lg; term = 0; refused = alreadyDefined }))
+  pub let-twice : b ≡ true → Answers k (k .s) (k .cs) (refusedAction (stoppedAt (k .at) (k .lg) alreadyDefined))
   let-twice e = answers true e twice
     where
       twice : (t : Tree k (LetThere k))
-          → Ends k v true (k .s) (k .cs) (refusedAction (record { next = k .at; to = k .to; log = k .lg; term = 0; refused = alreadyDefined })) t
+          → Ends k v true (k .s) (k .cs) (refusedAction (stoppedAt (k .at) (k .lg) alreadyDefined)) t
       twice t =
           let m : ℕ = 2 + t .it .expr .size in
           record {
             piece =
                 record {
                   kept = kept-none (k .to) (k .to + 4 * m) (k .sp) (k .sp + m) (k .lg) (k .lg + m) (k .s) (k .cs) (omega arith);
-                  ended = record { number = refl; place = refl; some = omega arith };
+                  ended = record { is = refl; some = omega arith };
                 };
             after = (refl, refl);
           }
@@ -125,7 +125,7 @@ module _ {k : Site} {v : ℕ} (f : Free k v) {s1 cs1 : List ℕ} {e : Walk} (l :
   module _ (fine : e .refused ≡ 0) {s2 s3 : List ℕ} {to′ : ℕ}
       (put : (to′ ≡ e .to + 3) × (s2 ≡ splice s1 (e .to) (actionWord 1 ∷ v ∷ e .term ∷ []))) (push : s3 ≡ set s2 (k .sp) v) where
     abbrev answer : Acted
-    answer = record { walk = record { next = e .next; to = to′; log = e .log; term = 0; refused = 0 }; names = 1; count = e .log - k .lg + 1 }
+    answer = actedAt (e .next) to′ (e .log) 1 (e .log - k .lg + 1)
 
     abbrev Writes : List ℕ → Tree k (LetThere k) → Type 0
     Writes s′ t =
@@ -150,7 +150,7 @@ module _ {k : Site} {v : ℕ} (f : Free k v) {s1 cs1 : List ℕ} {e : Walk} (l :
         let n : ℕ = t .it .expr .size in
         let ys : List ℕ = actionWord 1 ∷ v ∷ e .term ∷ [] in
         let own : (p : Piece) → InAnswer (k .lg) e p → Own (Gave answer) p ys (p .next) (letPiece v p) =
-        λ p u. record { words = λ j. p .words ++ actionWord 1 ∷ v ∷ u .term j; counters = refl; terms = gave p u } in
+        λ p u. record { words = λ j. p .words ++ actionWord 1 ∷ v ∷ u .term j; counters = refl; terms = (gave p u, refl) } in
         written 0 (Gave answer) n (2 + n) (k .at + 2) (k .at) (k .to) (k .sp) (k .lg) (k .s) (k .cs) s1 cs1 s2 ys e to′ 0 (low t) (letPiece v)
         (r .words) (r .stack) (r .log) (omega arith) (omega arith) (omega arith) (walk t) fine (put .1) (put .0) own
       where
@@ -167,8 +167,8 @@ module _ {k : Site} {v : ℕ} (f : Free k v) {s1 cs1 : List ℕ} {e : Walk} (l :
 
     after : (t : Tree k (LetThere k)) (y : Res Low)
         → WalkedAt k 0 (Gave answer) (donePiece (letting t y)) (2 + t .it .expr .size) (k .at) s3 cs1 (answer .walk)
-        → ScopeAfter (letting t y) (t .sig) (k .scope) s3 answer
-    after t (refuse n p) w = absurd (omega (arith, w .ended .number, w .ended .some))
+        → ScopeAfter (letting t y) (t .sig) (t .bound) (k .scope) s3 answer
+    after t (refuse n p) w = absurd (omega (arith, high (w .ended)))
     after t (ok q) w =
         let r = let-room t in
         let i = t .it .expr .inside in
@@ -180,6 +180,7 @@ module _ {k : Site} {v : ℕ} (f : Free k v) {s1 cs1 : List ℕ} {e : Walk} (l :
         let kp = named t .kept in
         let here : getD s3 (k .scope .first + k .scope .names) 0 ≡ v =
         ap (λ (j : ℕ). getD s3 j 0) end ∙ ap (λ (l : List ℕ). getD l (k .sp) 0) push ∙ getD-set-same s2 (k .sp) v 0 (omega arith) in (
+          omega arith,
           omega arith,
           scope-let (t .sig) (t .bound) (k .s) s3 (k .scope) v (t .scoped) (kp .size) (omega arith) (λ j x. kp .below j (omega (arith, sr .body)))
               (λ j x y. kp .between j (omega (arith, sr .names)) (omega arith)) here,

@@ -69,7 +69,7 @@ set-of k v w sig bound es = lowerSet sig bound (k .at + 2) (headOf w) es (leaf (
 abbrev pub Answers : Site → List ℕ → List ℕ → Acted → Type 0
 Answers k s′ cs′ r =
     Every k (λ sig. NameCallAt sig (k .ws) (k .at))
-    (λ sig x bound. Does k sig (set-of k (second k) (third k) sig bound (x .exprs .value)) (3 + x .exprs .size) s′ cs′ r)
+    (λ sig x bound. Does k sig bound (set-of k (second k) (third k) sig bound (x .exprs .value)) (3 + x .exprs .size) s′ cs′ r)
 
 -- what the test of the name says, with s1 left behind
 abbrev pub Test : Site → (s1 : List ℕ) (v : ℕ) → Bool → Type 0
@@ -82,14 +82,14 @@ module _ {k : Site} {v w : ℕ} (h : Naming k v w) where
   lowering t = set-of k v w (t .sig) (t .bound) (t .it .call .exprs .value)
 
   abbrev Ends : List ℕ → List ℕ → Acted → Tree k (NameCall k v w) → Type 0
-  Ends s′ cs′ r t = Does k (t .sig) (lowering t) (3 + t .it .call .exprs .size) s′ cs′ r
+  Ends s′ cs′ r t = Does k (t .sig) (t .bound) (lowering t) (3 + t .it .call .exprs .size) s′ cs′ r
 
   answers : {s′ cs′ : List ℕ} {r : Acted} → ((t : Tree k (NameCall k v w)) → Ends s′ cs′ r t) → Answers k s′ cs′ r
   answers {s′} {cs′} {r} f sig x bound n sc =
       subst
-      (λ (u : ℕ). Does k sig (set-of k (second k) u sig bound (x .exprs .value)) (3 + x .exprs .size) s′ cs′ r) (h .isw)
+      (λ (u : ℕ). Does k sig bound (set-of k (second k) u sig bound (x .exprs .value)) (3 + x .exprs .size) s′ cs′ r) (h .isw)
       (subst
-      (λ (u : ℕ). Does k sig (set-of k u w sig bound (x .exprs .value)) (3 + x .exprs .size) s′ cs′ r) (h .isv)
+      (λ (u : ℕ). Does k sig bound (set-of k u w sig bound (x .exprs .value)) (3 + x .exprs .size) s′ cs′ r) (h .isv)
       (f (tree sig (name-call-at (h .isv) (h .isw) sig x) bound n sc)))
 
   -- the arguments, then the name, then the set
@@ -162,18 +162,18 @@ module _ {k : Site} {v w : ℕ} (h : Naming k v w) where
             let i = x .inside in
             test (t .sig) (t .bound) (scope-after (length (k .ws)) (x .size) (h .begun .scopeRoom) (omega arith) (walk t .kept) (t .scoped)) (t .it .old)
 
-        pub name-refused : b ≡ false → Answers k s1 cs1 (refusedAction (stoppedAt (k .at + 1) (a .to) (a .log) unbound))
+        pub name-refused : b ≡ false → Answers k s1 cs1 (refusedAction (stoppedAt (k .at + 1) (a .log) unbound))
         name-refused not = answers (λ t. refused t (stopped t) (λ z. omega arith) (refl, λ some. refl))
           where
             ans : Walk
-            ans = stoppedAt (k .at + 1) (a .to) (a .log) unbound
+            ans = stoppedAt (k .at + 1) (a .log) unbound
 
             second : (t : Tree k (NameCall k v w)) → Walked 1 (λ p. ⊥) (name t cs1) 1 (early t .next) (a .to) (k .sp + countOf w) (a .log) s1 cs1 s1 cs1 ans
             second t =
                 rw (lowered-leaf (t .sig) (t .bound) (k .at + 1) v cs1, sym (tested t), not)
                 (record {
                   kept = kept-none (a .to) (a .to + 4 * 1) (k .sp + countOf w) (k .sp + countOf w + 1) (a .log) (a .log + 1) s1 cs1 (omega arith);
-                  ended = record { number = refl; place = refl; some = omega arith };
+                  ended = record { is = refl; some = omega arith };
                 })
 
             stopped : (t : Tree k (NameCall k v w)) → Walks s1 cs1 (refusedAction ans) t
@@ -240,21 +240,14 @@ module _ {k : Site} {v w : ℕ} (h : Naming k v w) where
           -- what the end of the action asks
           pub end-asks : length s2 ≡ length s1 → ChangeFits w (countOf w + 1) (k .sp) (k .lg) a s2 cs1
           end-asks same =
-              let x = f .fits in
-              record {
-                high = x .high;
-                head = x .head;
-                counter = x .counter;
-                logged = x .logged;
-                log = omega (arith, x .log);
-                words = x .words;
-                stack = omega (arith, f .stack);
-              }
+              let x = f .fits .0 in
+              (record { high = x .high; head = x .head; counter = x .counter; log = omega (arith, x .log); words = x .words; stack = omega (arith, f .stack) }, f .fits .1)
 
           -- it leaves s3 and cs2
-          pub set-ends : {s3 cs2 : List ℕ} {r : Acted} → Closes (actionWord 2) w (countOf w + 1) (k .at + 2) (k .sp) (k .lg) s2 cs1 s3 cs2 a r
+          pub set-ends : {n : ℕ} {s3 cs2 : List ℕ} {r : Acted} → n ≡ countOf w → Closes (actionWord 2) w (n + 1) (k .at + 2) (k .sp) (k .lg) s2 cs1 s3 cs2 a r
               → Answers k s3 cs2 r
-          set-ends e =
+          set-ends {n} {s3} {cs2} {r} count closes =
+              let e = subst (λ (i : ℕ). Closes (actionWord 2) w (i + 1) (k .at + 2) (k .sp) (k .lg) s2 cs1 s3 cs2 a r) count closes in
               answers
               (λ t. done t
               (e .1 1 (k .at) (k .to) (3 + t .it .call .exprs .size) (andThen (args t) (name t)) (k .s) (k .cs) refl (termed t)) (e .0))

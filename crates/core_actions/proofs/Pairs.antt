@@ -20,7 +20,7 @@ use Rattle.walks.proofs.Asks.{counted-kept, right-there}
 use Rattle.head_exprs.specs.Scopes.{Scoped}
 use Rattle.head_exprs.specs.Lowered.{lowered}
 use Rattle.head_exprs.proofs.Sites.{Site, site-of, ScopeRoomAt, Asks, Every, WalkedAt, Tree, tree, Begun, begun-as, asks}
-use Rattle.core_actions.specs.Acts.{PairAt, refusedAction, Gave}
+use Rattle.core_actions.specs.Acts.{PairAt, actedAt, refusedAction, Gave}
 use Rattle.core_actions.specs.declared.actions.Acted.{Acted}
 use Rattle.core_actions.proofs.Pieces.{unionPiece, done-union, same-union}
 use Rattle.core_actions.proofs.Does.{Does}
@@ -33,7 +33,7 @@ Pair k sig = PairAt sig (k .ws) (k .at)
 abbrev pub Answers : Site → List ℕ → List ℕ → Acted → Type 0
 Answers k s′ cs′ r =
     Every k (Pair k)
-    (λ sig x bound. Does k sig (lowerUnion sig bound none (x .left .value) (x .right .value) (k .cs)) (1 + (x .left .size + x .right .size)) s′ cs′ r)
+    (λ sig x bound. Does k sig bound (lowerUnion sig bound none (x .left .value) (x .right .value) (k .cs)) (1 + (x .left .size + x .right .size)) s′ cs′ r)
 
 -- what lowering the left side asks
 pub left-asks : {k : Site} → Begun k (Pair k)
@@ -55,7 +55,7 @@ module _ {k : Site} (t : Tree k (Pair k)) where
   union = lowerUnion (t .sig) (t .bound) none (t .it .left .value) (t .it .right .value) (k .cs)
 
   abbrev Ends : List ℕ → List ℕ → Acted → Type 0
-  Ends s′ cs′ r = Does k (t .sig) union (1 + size) s′ cs′ r
+  Ends s′ cs′ r = Does k (t .sig) (t .bound) union (1 + size) s′ cs′ r
 
   -- a walk over both sides that stops
   refused : {m p : ℕ} {T : Piece → Type 0} {s′ cs′ : List ℕ} {a : Walk} (n : ℕ) → WalkedAt k m T (andThen X Y) n p s′ cs′ a → n ≤ 1 + size → (a .refused ≡ 0 → ⊥)
@@ -151,7 +151,7 @@ module _ {k : Site} {s1 cs1 : List ℕ} {l : Walk} (d : LeftDone k s1 cs1 l) whe
     -- the action is written, up to e, which leaves s3
     module _ (fine : r .refused ≡ 0) {s3 : List ℕ} {e : ℕ} (put : (e ≡ r .to + 3) × (s3 ≡ splice s2 (r .to) (actionWord 5 ∷ l .term ∷ r .term ∷ []))) where
       abbrev answer : Acted
-      answer = record { walk = record { next = r .next; to = e; log = r .log; term = 0; refused = 0 }; names = 0; count = r .log - k .lg + 1 }
+      answer = actedAt (r .next) e (r .log) 0 (r .log - k .lg + 1)
 
       pub union-done : Answers k s3 cs2 answer
       union-done sig x bound n sc = done (tree sig x bound n sc)
@@ -167,4 +167,4 @@ module _ {k : Site} {s1 cs1 : List ℕ} {l : Walk} (d : LeftDone k s1 cs1 l) whe
               (written 0 (Gave answer) (size t) (1 + size t) (k .at + 1) (k .at) (k .to) (k .sp) (k .lg) (k .s) (k .cs) s2 cs2 s3
               (actionWord 5 ∷ l .term ∷ r .term ∷ []) r e 0 (andThen (X t) (Y t)) unionPiece
               (omega (arith, q .words)) (omega (arith, q .stack)) (omega (arith, q .log)) (omega arith) (omega arith) (omega arith) (sides t) fine (put .1) (put .0)
-              (λ p u. record { words = λ i. p .words ++ actionWord 5 ∷ u .terms i; counters = refl; terms = omega (arith, u .uses) })))
+              (λ p u. record { words = λ i. p .words ++ actionWord 5 ∷ u .terms i; counters = refl; terms = (omega (arith, u .uses), refl) })))

@@ -250,7 +250,7 @@ module _ (sig : Sig) (ws : List ℕ) (few : heads sig ≤ limit12) (at : ℕ) (x
 abbrev pub Answers : List ℕ → Site → List ℕ → List ℕ → Acted → Type 0
 Answers gs k s′ cs′ r =
     EverySigned k gs (λ sig. PairAt sig (k .ws) (k .at))
-    (λ sig x bound. Does k sig (lowerUnion sig bound (unionAsSet sig (x .left .value) (x .right .value)) (x .left .value) (x .right .value) (k .cs))
+    (λ sig x bound. Does k sig bound (lowerUnion sig bound (unionAsSet sig (x .left .value) (x .right .value)) (x .left .value) (x .right .value) (k .cs))
     (1 + (x .left .size + x .right .size)) s′ cs′ r)
 
 pub record Moded (gs : List ℕ) (k : Site) (mode : ℕ) : Type 0 where
@@ -293,8 +293,8 @@ module _ {gs : List ℕ} {k : Site} {mode : ℕ} (g : Moded gs k mode) where
     right-done {s′} {cs′} {r} does sig x bound n sc sg =
         let l = right sig x (n .few) sg in
         let u = lowerUnion sig bound (unionAsSet sig (x .left .value) (x .right .value)) (x .left .value) (x .right .value) (k .cs) in
-        subst (λ (size : ℕ). Does k sig u size s′ cs′ r) (l .size)
-        (subst (λ (d : Res Done). Does k sig d (3 + l .named .exprs .size) s′ cs′ r) (sym (l .is bound (k .cs))) (does sig (l .named) bound n sc))
+        subst (λ (size : ℕ). Does k sig bound u size s′ cs′ r) (l .size)
+        (subst (λ (d : Res Done). Does k sig bound d (3 + l .named .exprs .size) s′ cs′ r) (sym (l .is bound (k .cs))) (does sig (l .named) bound n sc))
 
   -- it stays a union
   pub stays-asks : Known k (λ sig. PairAt sig (k .ws) (k .at))
@@ -302,5 +302,5 @@ module _ {gs : List ℕ} {k : Site} {mode : ℕ} (g : Moded gs k mode) where
 
   pub stays-done : {s′ cs′ : List ℕ} {r : Acted} → (mode ≡ 1 → ⊥) → (mode ≡ 2 → ⊥) → pairs.Answers k s′ cs′ r → Answers gs k s′ cs′ r
   stays-done {s′} {cs′} {r} one two does sig x bound n sc sg =
-      subst (λ (o : Option AsSet). Does k sig (lowerUnion sig bound o (x .left .value) (x .right .value) (k .cs)) (1 + (x .left .size + x .right .size)) s′ cs′ r)
+      subst (λ (o : Option AsSet). Does k sig bound (lowerUnion sig bound o (x .left .value) (x .right .value) (k .cs)) (1 + (x .left .size + x .right .size)) s′ cs′ r)
       (sym (stays sig (x .left .value) (x .right .value) mode (g .is sig x (n .few) sg) one two)) (does sig x bound n sc)

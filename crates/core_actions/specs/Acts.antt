@@ -3,17 +3,17 @@
 use mathlib.Core.Path.{_≡_}
 use mathlib.Core.Bool.{_&&_, cond}
 use mathlib.Core.List.{List, [], _∷_, _++_}
-use Prim.Native.Nat.{ℕ, _+_, _-_, _*_, _<_, _≤_}
+use Prim.Native.Nat.{ℕ, _+_, _-_, _<_, _≤_}
 use lib.Dec.{eqb, ltb}
 use lib.ListN.{length, getD}
-use Rattle.rules.specs.Words.{limit12, maxDepth, literalBase, headBase, freshBase, signatureBase, headWord, headOf, countOf}
+use Rattle.rules.specs.Words.{maxDepth, literalBase, headBase, freshBase, signatureBase, headWord, headOf, countOf}
 use Rattle.rules.specs.Refusals.{Res, ok, refuse, _>>=_}
 use Rattle.rules.specs.Signature.{Sig, heads, isConstructor, isName}
 use Rattle.rules.specs.Written.{Expr, Exprs, leaf, call, readAction, readRow}
 use Rattle.rules.specs.Flat.{actionWords, wordsOf}
 use Rattle.rules.specs.ToQuery.{Fresh, fresh}
 use Rattle.rules.specs.ToCoreActions.{Done}
-use Rattle.walks.specs.Steps.{Piece, OnStack, Walked, ReadAt, ExprAt, ExprsAt}
+use Rattle.walks.specs.Steps.{Piece, reachedAt, Walked, UseFits, ReadAt, ExprAt, ExprsAt}
 use Rattle.walks.specs.declared.Walk.{Walk}
 use Rattle.head_exprs.specs.Scopes.{Scoped, grown}
 use Rattle.head_exprs.specs.Lowered.{loweredAll}
@@ -58,6 +58,10 @@ abbrev pub donePiece : Res Done → Res Piece
 donePiece (ok d) = ok (record { terms = []; words = wordsOf actionWords (d .acts); count = length (d .acts); next = d .next })
 donePiece (refuse n p) = refuse n p
 
+-- the answer of an action that is not refused
+abbrev pub actedAt : (next to log names count : ℕ) → Acted
+actedAt p t l n c = record { walk = reachedAt p t l 0; names = n; count = c }
+
 -- the answer of a refusal
 abbrev pub refusedAction : Walk → Acted
 refusedAction a = record { walk = a; names = 0; count = 0 }
@@ -82,47 +86,31 @@ andChange code more p h x = do
 abbrev pub changed : Sig → List ℕ → (code more p h : ℕ) → Exprs → List ℕ → Res Piece
 changed sig bound code more p h es cs = andChange code more p h (loweredAll sig bound es cs)
 
--- n terms are on the stack, of the words behind the first two of the action's `size`; x is what they are lowered to, and a the walk over them
-pub record Termed (at to size n sp lg : ℕ) (x : Res Piece) (s cs s1 cs1 : List ℕ) (a : Walk) : Type 0 where
-  pub behind : ℕ
-  pub whole : size ≡ 2 + behind
-  pub walk : Walked n (OnStack sp n lg s1 a) x behind (at + 2) to sp lg s cs s1 cs1 a
-  pub fine : a .refused ≡ 0
-  pub many : n ≤ behind
-  pub words : to + 4 * size ≤ sp
-  pub stack : sp + size ≤ lg
-  pub log : lg + size ≤ length s
+-- what the kind 3 word w of an action asks behind the walk a over its n terms, whose log began at lg
+abbrev pub ChangeFits : (w n sp lg : ℕ) → Walk → List ℕ → List ℕ → Type 0
+ChangeFits w n sp lg a s cs = UseFits 2 w n sp a s cs × (lg ≤ a .log)
 
--- what the kind 3 word w of an action asks behind the walk a over its n terms: a counter, and room in the log and before the stack
-pub record ChangeFits (w n sp lg : ℕ) (a : Walk) (s cs : List ℕ) : Type 0 where
-  pub high : headBase ≤ w
-  pub head : headOf w < limit12
-  pub counter : headOf w < length cs
-  pub logged : lg ≤ a .log
-  pub log : a .log < length s
-  pub words : a .to + 2 ≤ sp
-  pub stack : sp + n ≤ length s
-
--- the answer says how many flat actions were given
+-- the answer says how many flat actions were given, and no term
 abbrev pub Gave : Acted → Piece → Type 0
-Gave r p = p .count ≡ r .count
+Gave r p = (p .count ≡ r .count) × (r .walk .term ≡ 0)
 
 -- no name is let, and where it is refused no flat action is given
 abbrev pub Quiet : Acted → Type 0
 Quiet r = (r .names ≡ 0) × (0 < r .walk .refused → r .count ≡ 0)
 
--- where a row of actions is refused, no name is let and no flat action given
-abbrev pub Idle : Acted → Type 0
-Idle r = 0 < r .walk .refused → (r .names ≡ 0) × (r .count ≡ 0)
+-- after an action that is done as many names more are bound as the answer says, at most one, and the scope has these; a refusal lets and gives none
+abbrev pub ScopeAfter : Res Done → Sig → List ℕ → Scope → List ℕ → Acted → Type 0
+ScopeAfter (ok d) sig bound c s′ r = (r .names ≤ 1) × (r .names + length bound ≡ length (d .bound)) × Scoped sig (d .bound) s′ (grown c (r .names))
+ScopeAfter (refuse n p) sig bound c s′ r = (r .names ≡ 0) × (r .count ≡ 0)
 
--- after an action that is done the scope has as many names more as the answer says, and these are the names bound; a refusal lets and gives none
-abbrev pub ScopeAfter : Res Done → Sig → Scope → List ℕ → Acted → Type 0
-ScopeAfter (ok d) sig c s′ r = (r .names ≤ 1) × Scoped sig (d .bound) s′ (grown c (r .names))
-ScopeAfter (refuse n p) sig c s′ r = (r .names ≡ 0) × (r .count ≡ 0)
-
-pub record Acts (x : Res Done) (sig : Sig) (c : Scope) (k at to sp lg : ℕ) (s cs s′ cs′ : List ℕ) (r : Acted) : Type 0 where
+pub record Acts (x : Res Done) (sig : Sig) (bound : List ℕ) (c : Scope) (k at to sp lg : ℕ) (s cs s′ cs′ : List ℕ) (r : Acted) : Type 0 where
   pub piece : Walked 0 (Gave r) (donePiece x) k at to sp lg s cs s′ cs′ (r .walk)
-  pub after : ScopeAfter x sig c s′ r
+  pub after : ScopeAfter x sig bound c s′ r
+
+-- after a row of actions that is done the answer counts the names that the scope had and those bound since; a refusal lets and gives none
+abbrev pub NamesAfter : Res Done → List ℕ → Scope → Acted → Type 0
+NamesAfter (ok d) bound c r = r .names + length bound ≡ c .names + length (d .bound)
+NamesAfter (refuse n p) bound c r = (r .names ≡ 0) × (r .count ≡ 0)
 
 -- ---- the union that becomes a set
 

@@ -15,7 +15,6 @@ use crate::actions::lower_panic;
 use crate::actions::refused_action;
 use crate::unions::lower_union;
 use head_exprs::scope::Scope;
-use walks::Walk;
 ghost use mathlib.Core.Path.{_≡_};
 ghost use mathlib.Core.List.{List};
 ghost use Prim.Native.Nat.{ℕ, _+_};
@@ -25,7 +24,7 @@ ghost use Rattle.rules.specs.Signature.{Sig};
 ghost use Rattle.rules.specs.ToCoreActions.{lowerAction, toCoreActions};
 ghost use Rattle.walks.specs.Steps.{Walked, Room, Under, Counted};
 ghost use Rattle.head_exprs.specs.Scopes.{Scoped, ScopeRoom, Names};
-ghost use Rattle.core_actions.specs.Acts.{donePiece, ActionAt, ActionsAt, Acts, Gave, Idle, Signed};
+ghost use Rattle.core_actions.specs.Acts.{donePiece, ActionAt, ActionsAt, Acts, Gave, NamesAfter, Signed};
 
 // A word that does not fit.
 const UNFIT: u32 = 5;
@@ -44,12 +43,10 @@ fn lower_action(
 ) -> Acted
     requires { ⌜ Under (λ sig. ActionAt sig (words (now rule)) at × Counted sig (words (now counters)) × Names sig (words (now scratch)) scope
         × Signed sig (words (now signature))) ⌝ }
-    requires { ⌜ Room (length (words (now rule))) at to sp log (length (words (now scratch))) ⌝ }
-    requires { ⌜ ScopeRoom (length (words (now rule))) at to sp scope ⌝ }
-    requires { ⌜ scope .first + scope .names ≡ sp ⌝ }
+    requires { ⌜ Room (length (words (now rule))) at to sp log (length (words (now scratch))) × ScopeRoom (length (words (now rule))) at to sp scope × (scope .first + scope .names ≡ sp) ⌝ }
     ensures { λ r. ⌜ ((sig : Sig) (x : ActionAt sig (words (now (rule .entry))) at) (bound : List ℕ)
         → Counted sig (words (now (counters .entry))) → Scoped sig bound (words (now (scratch .entry))) scope → Signed sig (words (now (signature .entry)))
-        → Acts (lowerAction sig bound (x .value) (words (now (counters .entry)))) sig scope (x .size)
+        → Acts (lowerAction sig bound (x .value) (words (now (counters .entry)))) sig bound scope (x .size)
         at to sp log (words (now (scratch .entry))) (words (now (counters .entry))) (words (now (scratch .exit))) (words (now (counters .exit))) r) ⌝ }
 {
     let w = octets::get(rule, at);
@@ -62,7 +59,7 @@ fn lower_action(
         5 => lower_union(signature, rule, at, scope, counters, scratch, to, sp, log),
         6 => lower_panic(rule, at, scope, counters, scratch, to, sp, log),
         8 => lower_expression(rule, at, scope, counters, scratch, to, sp, log),
-        _ => refused_action(walks::stopped(at, to, log, UNFIT)),
+        _ => refused_action(walks::stopped(at, log, UNFIT)),
     }
 }
 
@@ -82,22 +79,16 @@ pub fn to_core_actions(
         × Signed sig (words (now signature))) ⌝ }
     requires { ⌜ Room (length (words (now rule))) at to (scope .first + scope .names) log (length (words (now scratch))) ⌝ }
     requires { ⌜ ScopeRoom (length (words (now rule))) at to (scope .first + scope .names) scope ⌝ }
-    ensures { λ r. ⌜ Idle r
-        × ((sig : Sig) (x : ActionsAt sig (words (now (rule .entry))) n at) (bound : List ℕ)
+    ensures { λ r. ⌜ ((sig : Sig) (x : ActionsAt sig (words (now (rule .entry))) n at) (bound : List ℕ)
         → Counted sig (words (now (counters .entry))) → Scoped sig bound (words (now (scratch .entry))) scope → Signed sig (words (now (signature .entry)))
         → Walked 0 (Gave r) (donePiece (toCoreActions sig bound (x .value) (words (now (counters .entry))))) (x .size)
-        at to (scope .first + scope .names) log (words (now (scratch .entry))) (words (now (counters .entry))) (words (now (scratch .exit))) (words (now (counters .exit))) (r .walk)) ⌝ }
+        at to (scope .first + scope .names) log (words (now (scratch .entry))) (words (now (counters .entry))) (words (now (scratch .exit))) (words (now (counters .exit))) (r .walk)
+        × NamesAfter (toCoreActions sig bound (x .value) (words (now (counters .entry)))) bound scope r) ⌝ }
 {
     let mut left = n;
     let mut names = scope.names;
     let mut count = 0;
-    let mut walk = Walk {
-        next: at,
-        to,
-        log,
-        term: 0,
-        refused: 0,
-    };
+    let mut walk = walks::reached(at, to, log, 0);
     while 0 < left {
         let wider = Scope {
             globals: scope.globals,

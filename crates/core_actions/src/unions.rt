@@ -4,6 +4,7 @@ use crate::actions::lower_change;
 use crate::actions::set_name;
 use crate::actions::unite;
 use head_exprs::scope::Scope;
+use words::SET;
 ghost use mathlib.Core.Path.{_≡_};
 ghost use mathlib.Core.List.{List};
 ghost use Prim.Native.Nat.{ℕ, _+_, _<_, _≤_};
@@ -25,10 +26,10 @@ fn arity(w: u32) -> usize
     requires { ⌜ headBase ≤ w ⌝ }
     ensures { λ r. ⌜ (r ≡ arityOf w) × (r < 65536) ⌝ }
 {
-    if w < words::LITERAL_BASE {
-        return ((w - words::HEAD_BASE) % words::LIMIT_16) as usize;
+    if words::is_leaf(w) {
+        return 0;
     }
-    0
+    words::head_word(w).count as usize
 }
 
 // The place behind the expression at `at`. It counts the expressions that are still to be passed.
@@ -51,7 +52,7 @@ fn constructs(signature: &[u8], w: u32) -> bool
     requires { ⌜ (headBase ≤ w) × (4 + headOf w < length (words (now signature))) ⌝ }
     ensures { λ r. ⌜ r ≡ eqb (getD (words (now (signature .entry))) (4 + headOf w) 0) (signatureBase + 1) ⌝ }
 {
-    let h = ((w - words::HEAD_BASE) / words::LIMIT_16) as usize;
+    let h = words::head_word(w).head as usize;
     octets::get(signature, 4 + h) == ONE
 }
 
@@ -65,7 +66,7 @@ fn as_set(signature: &[u8], rule: &[u8], at: usize) -> u32
         return 0;
     }
     let left = octets::get(rule, at + 1);
-    if left < words::LITERAL_BASE {
+    if !words::is_leaf(left) {
         if constructs(signature, left) {
             let right = octets::get(rule, skip(rule, at + 1));
             if words::NAME_BASE <= right {
@@ -76,7 +77,7 @@ fn as_set(signature: &[u8], rule: &[u8], at: usize) -> u32
     }
     if words::NAME_BASE <= left {
         let right = octets::get(rule, at + 2);
-        if right < words::LITERAL_BASE {
+        if !words::is_leaf(right) {
             if constructs(signature, right) {
                 return 2;
             }
@@ -99,28 +100,16 @@ pub fn lower_union(
 ) -> Acted
     requires { ⌜ Under (λ sig. PairAt sig (words (now rule)) at × Counted sig (words (now counters)) × Names sig (words (now scratch)) scope
         × Signed sig (words (now signature))) ⌝ }
-    requires { ⌜ Room (length (words (now rule))) at to sp log (length (words (now scratch))) ⌝ }
-    requires { ⌜ ScopeRoom (length (words (now rule))) at to sp scope ⌝ }
+    requires { ⌜ Room (length (words (now rule))) at to sp log (length (words (now scratch))) × ScopeRoom (length (words (now rule))) at to sp scope ⌝ }
     ensures { λ r. ⌜ ((sig : Sig) (x : PairAt sig (words (now (rule .entry))) at) (bound : List ℕ)
         → Counted sig (words (now (counters .entry))) → Scoped sig bound (words (now (scratch .entry))) scope → Signed sig (words (now (signature .entry)))
         → Acts (lowerUnion sig bound (unionAsSet sig (x .left .value) (x .right .value)) (x .left .value) (x .right .value) (words (now (counters .entry))))
-        sig scope (1 + (x .left .size + x .right .size))
+        sig bound scope (1 + (x .left .size + x .right .size))
         at to sp log (words (now (scratch .entry))) (words (now (counters .entry))) (words (now (scratch .exit))) (words (now (counters .exit))) r) ⌝ }
 {
     let mode = as_set(signature, rule, at);
     if mode == 1 {
-        return lower_change(
-            rule,
-            at,
-            words::SET,
-            1,
-            scope,
-            counters,
-            scratch,
-            to,
-            sp,
-            log,
-        );
+        return lower_change(rule, at, SET, 1, scope, counters, scratch, to, sp, log);
     }
     if mode == 2 {
         return set_name(rule, at, scope, counters, scratch, to, sp, log);

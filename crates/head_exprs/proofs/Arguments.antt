@@ -1,14 +1,16 @@
 -- The row of a call's arguments, as the loop over it walks it: what is so between two turns, what a turn's call asks, and each way out. Assumes nothing.
-use mathlib.Core.Path.{_≡_, refl, _∙_}
+use mathlib.Core.Path.{_≡_, refl, _∙_, subst}
 use mathlib.Core.List.{List}
 use Prim.Native.Nat.{ℕ, _+_, _-_, _^_, _≤_, _<_}
 use native.Mathlib.Omega.{arith}
 use lib.ListN.{length, set}
 use Rattle.rules.specs.Signature.{Sig}
-use Rattle.walks.specs.Steps.{InAnswer, OnStack, ExprAt, ExprsAt}
+use Rattle.walks.specs.Steps.{InAnswer, OnlyOnStack, ExprAt, ExprsAt}
 use Rattle.walks.specs.declared.Walk.{Walk}
 use Rattle.walks.proofs.Asks.{counted-kept, first-at}
+use Rattle.walks.proofs.Steps.{retold, halted}
 use Rattle.walks.proofs.Rows.{Going, going-start, Left, left-all, left-none, left-stop, left-next, left-going}
+use Rattle.walks.proofs.Read.{exprs-many}
 use Rattle.walks.proofs.Turns.{Turn, turn}
 use Rattle.head_exprs.specs.Scopes.{Scoped}
 use Rattle.head_exprs.specs.Lowered.{lowered, loweredAll}
@@ -23,7 +25,7 @@ Exprs-at k d n sig = ExprsAt sig (k .ws) d n (k .at)
 -- what the contract says of an answer
 abbrev pub Answers : Site → (d n : ℕ) → List ℕ → List ℕ → Walk → Type 0
 Answers k d n s′ cs′ r =
-    Every k (Exprs-at k d n) (λ sig x bound. WalkedAt k n (OnStack (k .sp) n (k .lg) s′ r) (loweredAll sig bound (x .value) (k .cs)) (x .size) (k .at) s′ cs′ r)
+    Every k (Exprs-at k d n) (λ sig x bound. WalkedAt k n (OnlyOnStack (k .sp) n (k .lg) s′ r) (loweredAll sig bound (x .value) (k .cs)) (x .size) (k .at) s′ cs′ r)
 
 -- and what that of lowering one expression says
 abbrev pub Lowers : Site → ℕ → List ℕ → List ℕ → Walk → Type 0
@@ -44,6 +46,11 @@ pub record Row (k : Site) (d n left top : ℕ) (s1 cs1 : List ℕ) (w : Walk) : 
       → Left (lowered (t .sig) (t .bound)) (loweredAll (t .sig) (t .bound)) (lowered-row (t .sig) (t .bound)) (t .sig)
       (k .ws) d n (k .at) (k .to) (k .sp) (k .lg) (k .s) (k .cs) (t .it) left top s1 cs1 w
 
+-- a walk on its way, by the places that it has come to
+here-on : {at to sp lg top : ℕ} {s cs s1 cs1 : List ℕ} {w : Walk} → Going at to sp lg s cs top s1 cs1 w → Going at to sp lg s cs top s1 cs1 (standing (w .next) (w .to) (w .log))
+here-on g =
+    record { done = g .done; fine = refl; next = g .next; words = g .words; wordsTo = g .wordsTo; stack = g .stack; stackTo = g .stackTo; kept = g .kept }
+
 -- at the start all are left
 pub row-start : {k : Site} {d n : ℕ} → Begun k (Exprs-at k d n) → Row k d n n (k .sp) (k .s) (k .cs) (standing (k .at) (k .to) (k .lg))
 row-start {k} {d} {n} g =
@@ -57,12 +64,25 @@ row-start {k} {d} {n} g =
           (k .ws) d n (k .at) (k .to) (k .sp) (k .lg) (k .s) (k .cs) (t .it) 0;
     }
 
+-- so many are left, told otherwise
+pub row-is : {k : Site} {d n left left′ top : ℕ} {s1 cs1 : List ℕ} {w : Walk} → left ≡ left′ → Row k d n left top s1 cs1 w → Row k d n left′ top s1 cs1 w
+row-is {k} {d} {n} {top = top} {s1 = s1} {cs1 = cs1} {w = w} e row = subst (λ (j : ℕ). Row k d n j top s1 cs1 w) e row
+
 module _ {k : Site} {d n left top : ℕ} {s1 cs1 : List ℕ} {w : Walk} (row : Row k d n left top s1 cs1 w) where
   -- where none are left, the row is walked
-  pub row-done : left ≡ 0 → Answers k d n s1 cs1 w
-  row-done z sig x bound c i =
-      left-none (lowered sig bound) (loweredAll sig bound) (lowered-row sig bound) sig (k .ws) d n (k .at) (k .to) (k .sp) (k .lg) (k .s) (k .cs) x left top s1 cs1 w
-      (row .rest (tree sig x bound c i)) (row .going .fine) z
+  pub row-done : left ≡ 0 → w .term ≡ 0 → Answers k d n s1 cs1 w
+  row-done z silent sig x bound c i =
+      retold (loweredAll sig bound (x .value) (k .cs))
+      (left-none (lowered sig bound) (loweredAll sig bound) (lowered-row sig bound) sig (k .ws) d n (k .at) (k .to) (k .sp) (k .lg) (k .s) (k .cs) x left top s1 cs1 w
+      (row .rest (tree sig x bound c i)) (row .going .fine) z) (λ p u. (u, silent))
+
+  -- the stack's end behind the row
+  pub row-fits : k .sp + n < 2 ^ 64
+  row-fits =
+      let g = row .begun in
+      let t = g .tree in
+      let x = t .it in
+      omega (arith, exprs-many (t .sig) (k .ws) d n (k .at) x, x .inside, g .room .stack, g .room .log, g .scratchFits)
 
   -- while any are left, the next one stands where the walk has come to
   module _ (some : 0 < left) where
@@ -101,11 +121,13 @@ module _ {k : Site} {d n left top : ℕ} {s1 cs1 : List ℕ} {w : Walk} (row : R
       -- one that is refused refuses the row
       pub row-stop : (a .refused ≡ 0 → ⊥) → Answers k d n s2 cs2 a
       row-stop bad sig x bound c i =
-          left-stop (lowered sig bound) (loweredAll sig bound) (lowered-row sig bound) sig (k .ws) d n (k .at) (k .to) (k .sp) (k .lg) (k .s) (k .cs) x left top s1 cs1 w
-          (row .rest (tree sig x bound c i)) some (here .room) s2 cs2 a (λ e. does sig e bound (counted-kept c (row .counters)) (in-scope i)) bad
+          halted (loweredAll sig bound (x .value) (k .cs))
+          (left-stop (lowered sig bound) (loweredAll sig bound) (lowered-row sig bound) sig (k .ws) d n (k .at) (k .to) (k .sp) (k .lg) (k .s) (k .cs) x left top s1 cs1 w
+          (row .rest (tree sig x bound c i)) some (here .room) s2 cs2 a (λ e. does sig e bound (counted-kept c (row .counters)) (in-scope i)) bad) bad
 
       -- and behind any other, whose term is pushed, which leaves s3, one less is left
-      pub row-next : {s3 : List ℕ} → length cs2 ≡ length cs1 → length s3 ≡ length s1 → a .refused ≡ 0 → s3 ≡ set s2 top (a .term) → Row k d n (left - 1) (top + 1) s3 cs2 a
+      pub row-next : {s3 : List ℕ} → length cs2 ≡ length cs1 → length s3 ≡ length s1 → a .refused ≡ 0 → s3 ≡ set s2 top (a .term)
+          → Row k d n (left - 1) (top + 1) s3 cs2 (standing (a .next) (a .to) (a .log))
       row-next {s3} ec es fine put =
           let g = row .begun in
           let t = g .tree in
@@ -114,11 +136,12 @@ module _ {k : Site} {d n left top : ℕ} {s1 cs1 : List ℕ} {w : Walk} (row : R
             scratch = es ∙ row .scratch;
             counters = ec ∙ row .counters;
             going =
-                left-going (lowered (t .sig) (t .bound)) (loweredAll (t .sig) (t .bound)) (lowered-row (t .sig) (t .bound)) (t .sig)
+                here-on (left-going (lowered (t .sig) (t .bound)) (loweredAll (t .sig) (t .bound)) (lowered-row (t .sig) (t .bound)) (t .sig)
                 (k .ws) d n (k .at) (k .to) (k .sp) (k .lg) (k .s) (k .cs) (t .it) left top s1 cs1 w (row .rest t) some (here .room) s2 cs2 a
-                (λ e. does (t .sig) e (t .bound) (counted-kept (t .counted) (row .counters)) (in-scope (t .scoped))) s3 (g .room) (row .going) fine put;
+                (λ e. does (t .sig) e (t .bound) (counted-kept (t .counted) (row .counters)) (in-scope (t .scoped))) s3 (g .room) (row .going) fine put);
             rest =
-                λ t. left-next (lowered (t .sig) (t .bound)) (loweredAll (t .sig) (t .bound)) (lowered-row (t .sig) (t .bound)) (t .sig)
+                λ t. let l = left-next (lowered (t .sig) (t .bound)) (loweredAll (t .sig) (t .bound)) (lowered-row (t .sig) (t .bound)) (t .sig)
                 (k .ws) d n (k .at) (k .to) (k .sp) (k .lg) (k .s) (k .cs) (t .it) left top s1 cs1 w (row .rest t) some (here .room) s2 cs2 a
-                (λ e. does (t .sig) e (t .bound) (counted-kept (t .counted) (row .counters)) (in-scope (t .scoped))) s3 fine put;
+                (λ e. does (t .sig) e (t .bound) (counted-kept (t .counted) (row .counters)) (in-scope (t .scoped))) s3 fine put in
+                record { rest = l .rest; whole = l .whole };
           }

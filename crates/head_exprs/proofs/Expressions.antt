@@ -9,7 +9,7 @@ use Rattle.rules.specs.Words.{literalBase, freshBase}
 use Rattle.rules.specs.Refusals.{demand, unbound}
 use Rattle.rules.specs.Signature.{Sig}
 use Rattle.rules.specs.ToCoreActions.{readable}
-use Rattle.walks.specs.Steps.{Walked, InAnswer, OnStack, Counted, ExprAt, ExprsAt}
+use Rattle.walks.specs.Steps.{reachedAt, stoppedAt, Walked, InAnswer, OnStack, Counted, ExprAt, ExprsAt}
 use Rattle.walks.specs.declared.Walk.{Walk}
 use Rattle.walks.proofs.Frames.{kept-none}
 use Rattle.walks.proofs.Read.{leaf-cases}
@@ -44,7 +44,7 @@ scope-in r = record { few = r .few; body = r .body; names = omega (arith, r .nam
 
 -- a row of none, where the walk stands
 abbrev pub standing : (at to lg : ℕ) → Walk
-standing p t l = record { next = p; to = t; log = l; term = 0; refused = 0 }
+standing p t l = reachedAt p t l 0
 
 pub none-way : (sig : Sig) (bound ws : List ℕ) (d n at to sp lg : ℕ) (s cs : List ℕ) → n ≡ 0 → (es : ExprsAt sig ws d n at)
     → Walked n (OnStack sp n lg s (standing at to lg)) (loweredAll sig bound (es .value) cs) (es .size) at to sp lg s cs s cs (standing at to lg)
@@ -65,9 +65,9 @@ module _ (sig : Sig) (bound ws : List ℕ) (d at to sp lg : ℕ) (s cs : List �
       leaf-cases sig ws (c .few) (λ t k. Walked 1 (InAnswer lg r) (lowered sig bound t cs) k at to sp lg s cs s cs r) d at w x is high
       (λ i old. rw (lowered-leaf sig bound at w cs, sym (test old)) (f old))
 
-  pub read-way : b ≡ true → Leaf-ends (record { next = at + 1; to = to; log = lg; term = w; refused = 0 })
+  pub read-way : b ≡ true → Leaf-ends (reachedAt (at + 1) to lg w)
   read-way e =
-      by-leaf (record { next = at + 1; to = to; log = lg; term = w; refused = 0 })
+      by-leaf (reachedAt (at + 1) to lg w)
       (λ old. rw e
       (record {
         kept = kept-none to (to + 4 * 1) sp (sp + 1) lg (lg + 1) s cs (omega arith);
@@ -77,11 +77,11 @@ module _ (sig : Sig) (bound ws : List ℕ) (d at to sp lg : ℕ) (s cs : List �
         );
       }))
 
-  pub unbound-way : b ≡ false → Leaf-ends (record { next = at; to = to; log = lg; term = 0; refused = unbound })
+  pub unbound-way : b ≡ false → Leaf-ends (stoppedAt at lg unbound)
   unbound-way e =
-      by-leaf (record { next = at; to = to; log = lg; term = 0; refused = unbound })
+      by-leaf (stoppedAt at lg unbound)
       (λ old. rw e
       (record {
         kept = kept-none to (to + 4 * 1) sp (sp + 1) lg (lg + 1) s cs (omega arith);
-        ended = record { number = refl; place = refl; some = omega arith };
+        ended = record { is = refl; some = omega arith };
       }))

@@ -14,11 +14,12 @@ use Rattle.rules.specs.Refusals.{Res}
 use Rattle.rules.specs.Signature.{Sig}
 use Rattle.rules.specs.Written.{Expr, Exprs}
 use Rattle.walks.specs.Leaves.{leavesUpTo}
-use Rattle.walks.specs.Steps.{Piece, OnStack, Kept, Room, ExprsAt}
+use Rattle.walks.specs.Steps.{Piece, OnStack, OnlyOnStack, Kept, Room, ExprsAt}
 use Rattle.walks.specs.declared.Walk.{Walk}
 use Rattle.walks.proofs.LeavesUpTo.{Leaf, leaves-most, leaves-each}
 use Rattle.walks.proofs.Log.{undone-none}
 use Rattle.walks.proofs.Read.{exprs-many}
+use Rattle.walks.proofs.Steps.{none-told, retold}
 use Rattle.walks.proofs.Rows.{Rowed, Left, left-all, left-next}
 use Rattle.head_exprs.specs.Scopes.{Scoped}
 use Rattle.head_exprs.specs.Lowered.{lowered, loweredAll}
@@ -36,6 +37,7 @@ kept-stack to te sp se lg le xs s cs s′ a b r h e =
     record {
       used = 0;
       upTo = omega arith;
+      counts = refl;
       inLog = h;
       size = ap length e ∙ length-splice s sp xs r;
       heads = refl;
@@ -177,7 +179,12 @@ module _ {k : Site} {d n : ℕ} {g : Begun k (Row k d n)} {i : ℕ} {s0 : List �
   -- and what it leaves is what walking the whole row leaves
   pub row-walked : {s1 cs1 : List ℕ} {a : Walk}
       → Every behind (λ sig. ExprsAt sig (k .ws) d (n - i) (k .at + i))
-      (λ sig y bound. WalkedAt behind (n - i) (OnStack (k .sp + i) (n - i) (k .lg) s1 a) (loweredAll sig bound (y .value) (k .cs)) (y .size) (k .at + i) s1 cs1 a)
+      (λ sig y bound. WalkedAt behind (n - i) (OnlyOnStack (k .sp + i) (n - i) (k .lg) s1 a) (loweredAll sig bound (y .value) (k .cs)) (y .size) (k .at + i) s1 cs1 a)
       → (t : Tree k (Row k d n))
-      → WalkedAt k n (OnStack (k .sp) n (k .lg) s1 a) (loweredAll (t .sig) (t .bound) (t .it .exprs .value) (k .cs)) (t .it .exprs .size) (k .at) s1 cs1 a
-  row-walked {s1} {cs1} {a} walk t = front-left t .whole s1 cs1 a (walk (t .sig) (front-left t .rest) (t .bound) (t .counted) (front-scoped t))
+      → WalkedAt k n (OnlyOnStack (k .sp) n (k .lg) s1 a) (loweredAll (t .sig) (t .bound) (t .it .exprs .value) (k .cs)) (t .it .exprs .size) (k .at) s1 cs1 a
+  row-walked {s1} {cs1} {a} walk t =
+      let rest = front-left t .rest in
+      let w = walk (t .sig) rest (t .bound) (t .counted) (front-scoped t) in
+      let x = loweredAll (t .sig) (t .bound) (rest .value) (k .cs) in
+      let silent : a .term ≡ 0 = none-told x w (λ p u. u .1) in
+      retold (loweredAll (t .sig) (t .bound) (t .it .exprs .value) (k .cs)) (front-left t .whole s1 cs1 a (retold x w (λ p u. u .0))) (λ p u. (u, silent))

@@ -6,4 +6,5 @@ pub mod Sites
 pub mod Expressions
 pub mod Arguments
 pub mod Calls
+pub mod Binding
 pub mod Fronts

@@ -14,7 +14,7 @@ use Rattle.rules.specs.ToCoreActions.{readable, Low, Lows, lowerExpr, lowerExpr
 use Rattle.walks.specs.Steps.{Piece, both, andThen}
 use Rattle.walks.proofs.Rows.{Rowed}
 use Rattle.walks.proofs.Words.{words-append, words-one}
-use Rattle.head_exprs.specs.Lowered.{lowPiece, lowsPiece, lowered, loweredAll}
+use Rattle.head_exprs.specs.Lowered.{lowPiece, lowsPiece, lowered, loweredAll, callPiece, andCall}
 
 -- a piece from what the definitions give
 abbrev pub ofLow : Low → Piece
@@ -35,13 +35,8 @@ module _ (sig : Sig) (bound : List ℕ) where
       go true = refl
       go false = refl
 
-  -- action 7 behind a piece
-  abbrev pub callPiece : ℕ → Piece → Fresh → Piece
-  callPiece h p f =
-      record { terms = f .var ∷ []; words = p .words ++ actionWord 7 ∷ f .var ∷ headWord h (length (p .terms)) ∷ p .terms; count = p .count + 1; next = f .next }
-
   pub lowered-call : (p h : ℕ) (es : Exprs) (cs : List ℕ)
-      → lowered sig bound (call p h es) cs ≡ _>>=_ (loweredAll sig bound es cs) (λ q. _>>=_ (fresh p h (q .next)) (λ f. ok (callPiece h q f)))
+      → lowered sig bound (call p h es) cs ≡ andCall p h (loweredAll sig bound es cs)
   unfolding lowered loweredAll
   lowered-call p h es cs = go (lowerExprs sig bound es cs)
     where

@@ -9,51 +9,37 @@ use crate::scope::Scope;
 use crate::scope::may_read;
 use walks::Walk;
 ghost use mathlib.Core.Path.{_≡_};
-ghost use mathlib.Core.List.{List};
-ghost use Prim.Native.Nat.{ℕ, _+_, _<_};
-ghost use lib.ListN.{length, getD};
+ghost use lib.ListN.{length};
 ghost use Rattle.octets.specs.Words.{words};
-ghost use Rattle.rules.specs.Words.{literalBase, countOf};
-ghost use Rattle.rules.specs.Signature.{Sig};
-ghost use Rattle.walks.specs.Steps.{Walked, InAnswer, OnStack, Room, Under, Counted, ExprAt, ExprsAt};
-ghost use Rattle.head_exprs.specs.Scopes.{Scoped, ScopeRoom, Names};
-ghost use Rattle.head_exprs.specs.Lowered.{lowered, loweredAll};
+ghost use Rattle.rules.specs.Words.{maxDepth, countOf};
+ghost use Rattle.walks.specs.Steps.{UseFits, Room, Under, Counted, ExprAt, ExprsAt};
+ghost use Rattle.head_exprs.specs.Scopes.{ScopeRoom, Names};
+ghost use Rattle.head_exprs.specs.Lowered.{Binds, LowersExpr, LowersExprs};
 
-// Lowers the call w at `at`, which has no arguments: nothing is put on the stack, and no walk over arguments is set up.
-fn lower_bare(
-    rule: &[u8],
-    at: usize,
-    depth: u32,
+// The end of a call: behind the walk `args` over its n arguments, whose terms are on the stack, the fresh variable of the head of its kind 3 word w is
+// taken, and its action written. Where no count is left, it is refused at `place`.
+fn put_called(
+    args: Walk,
+    place: usize,
     w: u32,
+    n: usize,
     counters: &mut [u8],
     scratch: &mut [u8],
-    to: usize,
     sp: usize,
-    log: usize,
 ) -> Walk
-    requires { ⌜ Under (λ sig. ExprAt sig (words (now rule)) depth at × Counted sig (words (now counters))) ⌝ }
-    requires { ⌜ Room (length (words (now rule))) at to sp log (length (words (now scratch))) ⌝ }
-    requires { ⌜ (w ≡ getD (words (now rule)) at 0) × (w < literalBase) × (countOf w ≡ 0) ⌝ }
-    ensures { λ r. ⌜ ((sig : Sig) (x : ExprAt sig (words (now (rule .entry))) depth at) (bound : List ℕ) → Counted sig (words (now (counters .entry)))
-        → Walked 1 (InAnswer log r) (lowered sig bound (x .value) (words (now (counters .entry)))) (x .size)
-        at to sp log (words (now (scratch .entry))) (words (now (counters .entry))) (words (now (scratch .exit))) (words (now (counters .exit))) r) ⌝ }
+    requires { ⌜ UseFits 3 w n sp args (words (now scratch)) (words (now counters)) × (n ≡ countOf w) ⌝ }
+    ensures { λ r. ⌜ Binds w n place sp (words (now (scratch .entry))) (words (now (counters .entry))) (words (now (scratch .exit))) (words (now (counters .exit))) args r ⌝ }
 {
-    let h = (w - words::HEAD_BASE) / words::LIMIT_16;
-    let v = walks::take(counters, scratch, log, h);
+    let h = words::head_word(w).head;
+    let v = walks::take(counters, scratch, args.log, h);
     if v == 0 {
-        return walks::stopped(at, to, log, walks::USED_UP);
+        return walks::stopped(place, args.log, walks::USED_UP);
     }
-    let end = octets::rows::put_three(scratch, to, words::CALL, v, w);
-    Walk {
-        next: at + 1,
-        to: end,
-        log: log + 1,
-        term: v,
-        refused: 0,
-    }
+    let end = octets::rows::put_call(scratch, args.to, words::CALL, v, w, sp, n);
+    walks::reached(args.next, end, args.log + 1, v)
 }
 
-// Lowers the expression at `at`, which is at most `depth` deep.
+// Lowers the expression at `at`, which is at most `depth` deep. A call without arguments sets up no walk over them.
 pub fn lower(
     rule: &[u8],
     at: usize,
@@ -66,58 +52,29 @@ pub fn lower(
     log: usize,
 ) -> Walk
     requires { ⌜ Under (λ sig. ExprAt sig (words (now rule)) depth at × Counted sig (words (now counters)) × Names sig (words (now scratch)) scope) ⌝ }
-    requires { ⌜ Room (length (words (now rule))) at to sp log (length (words (now scratch))) ⌝ }
-    requires { ⌜ ScopeRoom (length (words (now rule))) at to sp scope ⌝ }
-    ensures { λ r. ⌜ ((sig : Sig) (x : ExprAt sig (words (now (rule .entry))) depth at) (bound : List ℕ)
-        → Counted sig (words (now (counters .entry))) → Scoped sig bound (words (now (scratch .entry))) scope
-        → Walked 1 (InAnswer log r) (lowered sig bound (x .value) (words (now (counters .entry)))) (x .size)
-        at to sp log (words (now (scratch .entry))) (words (now (counters .entry))) (words (now (scratch .exit))) (words (now (counters .exit))) r) ⌝ }
+    requires { ⌜ Room (length (words (now rule))) at to sp log (length (words (now scratch))) × ScopeRoom (length (words (now rule))) at to sp scope ⌝ }
+    ensures { λ r. ⌜ LowersExpr (words (now (rule .entry))) depth at to sp log scope (words (now (scratch .entry))) (words (now (counters .entry)))
+        (words (now (scratch .exit))) (words (now (counters .exit))) r ⌝ }
 {
     let w = octets::get(rule, at);
-    if words::LITERAL_BASE <= w {
+    if words::is_leaf(w) {
         if may_read(scratch, scope, w) {
-            return Walk {
-                next: at + 1,
-                to,
-                log,
-                term: w,
-                refused: 0,
-            };
+            return walks::reached(at + 1, to, log, w);
         }
-        return walks::stopped(at, to, log, walks::UNBOUND);
+        return walks::stopped(at, log, walks::UNBOUND);
     }
-    let h = (w - words::HEAD_BASE) / words::LIMIT_16;
-    let n = (w - words::HEAD_BASE) % words::LIMIT_16;
+    let n = words::head_word(w).count as usize;
+    let first = at + 1;
     if n == 0 {
-        return lower_bare(rule, at, depth, w, counters, scratch, to, sp, log);
+        let none = walks::reached(first, to, log, 0);
+        return put_called(none, at, w, n, counters, scratch, sp);
     }
-    let args = lower_all(
-        rule,
-        at + 1,
-        n as usize,
-        depth - 1,
-        scope,
-        counters,
-        scratch,
-        to,
-        sp,
-        log,
-    );
+    let less = depth - 1;
+    let args = lower_all(rule, first, n, less, scope, counters, scratch, to, sp, log);
     if args.refused != 0 {
         return args;
     }
-    let v = walks::take(counters, scratch, args.log, h);
-    if v == 0 {
-        return walks::stopped(at, args.to, args.log, walks::USED_UP);
-    }
-    let end = octets::rows::put_call(scratch, args.to, words::CALL, v, w, sp, n as usize);
-    Walk {
-        next: args.next,
-        to: end,
-        log: args.log + 1,
-        term: v,
-        refused: 0,
-    }
+    put_called(args, at, w, n, counters, scratch, sp)
 }
 
 // Lowers the n expressions from `at` on; their terms go onto the stack.
@@ -134,51 +91,34 @@ pub fn lower_all(
     log: usize,
 ) -> Walk
     requires { ⌜ Under (λ sig. ExprsAt sig (words (now rule)) depth n at × Counted sig (words (now counters)) × Names sig (words (now scratch)) scope) ⌝ }
-    requires { ⌜ Room (length (words (now rule))) at to sp log (length (words (now scratch))) ⌝ }
-    requires { ⌜ ScopeRoom (length (words (now rule))) at to sp scope ⌝ }
-    ensures { λ r. ⌜ ((sig : Sig) (x : ExprsAt sig (words (now (rule .entry))) depth n at) (bound : List ℕ)
-        → Counted sig (words (now (counters .entry))) → Scoped sig bound (words (now (scratch .entry))) scope
-        → Walked n (OnStack sp n log (words (now (scratch .exit))) r) (loweredAll sig bound (x .value) (words (now (counters .entry)))) (x .size)
-        at to sp log (words (now (scratch .entry))) (words (now (counters .entry))) (words (now (scratch .exit))) (words (now (counters .exit))) r) ⌝ }
+    requires { ⌜ Room (length (words (now rule))) at to sp log (length (words (now scratch))) × ScopeRoom (length (words (now rule))) at to sp scope ⌝ }
+    ensures { λ r. ⌜ LowersExprs (words (now (rule .entry))) depth n at to sp log scope (words (now (scratch .entry))) (words (now (counters .entry)))
+        (words (now (scratch .exit))) (words (now (counters .exit))) r ⌝ }
 {
-    let mut left = n;
+    let mut next = at;
+    let mut end = to;
     let mut top = sp;
-    let mut walk = Walk {
-        next: at,
-        to,
-        log,
-        term: 0,
-        refused: 0,
-    };
-    while 0 < left {
-        walk = lower(
-            rule,
-            walk.next,
-            depth,
-            scope,
-            counters,
-            scratch,
-            walk.to,
-            top,
-            walk.log,
-        );
+    let mut uses = log;
+    while top < sp + n {
+        let walk = lower(rule, next, depth, scope, counters, scratch, end, top, uses);
         if walk.refused != 0 {
             return walk;
         }
         octets::put(scratch, top, walk.term);
+        next = walk.next;
+        end = walk.to;
+        uses = walk.log;
         top += 1;
-        left -= 1;
     }
-    walk
+    walks::reached(next, end, uses, 0)
 }
 
-// Lowers the n expressions from `at` on as `lower_all` does. The literals and globals in front need no walk: they may always be read, and are
+// Lowers the n outermost expressions from `at` on as `lower_all` does. The literals and globals in front need no walk: they may always be read, and are
 // their own terms.
 pub fn lower_arguments(
     rule: &[u8],
     at: usize,
     n: usize,
-    depth: u32,
     scope: Scope,
     counters: &mut [u8],
     scratch: &mut [u8],
@@ -186,13 +126,10 @@ pub fn lower_arguments(
     sp: usize,
     log: usize,
 ) -> Walk
-    requires { ⌜ Under (λ sig. ExprsAt sig (words (now rule)) depth n at × Counted sig (words (now counters)) × Names sig (words (now scratch)) scope) ⌝ }
-    requires { ⌜ Room (length (words (now rule))) at to sp log (length (words (now scratch))) ⌝ }
-    requires { ⌜ ScopeRoom (length (words (now rule))) at to sp scope ⌝ }
-    ensures { λ r. ⌜ ((sig : Sig) (x : ExprsAt sig (words (now (rule .entry))) depth n at) (bound : List ℕ)
-        → Counted sig (words (now (counters .entry))) → Scoped sig bound (words (now (scratch .entry))) scope
-        → Walked n (OnStack sp n log (words (now (scratch .exit))) r) (loweredAll sig bound (x .value) (words (now (counters .entry)))) (x .size)
-        at to sp log (words (now (scratch .entry))) (words (now (counters .entry))) (words (now (scratch .exit))) (words (now (counters .exit))) r) ⌝ }
+    requires { ⌜ Under (λ sig. ExprsAt sig (words (now rule)) maxDepth n at × Counted sig (words (now counters)) × Names sig (words (now scratch)) scope) ⌝ }
+    requires { ⌜ Room (length (words (now rule))) at to sp log (length (words (now scratch))) × ScopeRoom (length (words (now rule))) at to sp scope ⌝ }
+    ensures { λ r. ⌜ LowersExprs (words (now (rule .entry))) maxDepth n at to sp log scope (words (now (scratch .entry))) (words (now (counters .entry)))
+        (words (now (scratch .exit))) (words (now (counters .exit))) r ⌝ }
 {
     let k = walks::leaves(
         rule,
@@ -206,7 +143,7 @@ pub fn lower_arguments(
         rule,
         at + k,
         n - k,
-        depth,
+        words::MAX_DEPTH,
         scope,
         counters,
         scratch,

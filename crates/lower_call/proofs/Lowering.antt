@@ -78,7 +78,7 @@ turned {ws = ws} {cs = cs} {m = m} {cs1 = cs1} {k = k} core out bad s r u = go (
     go : (x : Res CoreRule) → Lowers x (length ws) cs m cs1 k
         → LowersTo s x cs cs1 out out (record { refused = k .refused; place = k .place; needed = 0; replacements = 0; passes = 0 })
     go (ok c) z = absurd (bad (z .fine))
-    go (refuse i p) z = record { number′ = z .number′; place′ = z .place′; some = z .some; counters = z .counters; output = refl }
+    go (refuse i p) z = record { number′ = ap (λ (l : Lowering). l .refused) (z .is); place′ = ap (λ (l : Lowering). l .place) (z .is); some = z .some; counters = z .counters; output = refl }
 
 -- ---- the rule is lowered: k, with m1 and cs1 left behind. Body, head and log stand there
 
@@ -116,7 +116,7 @@ module _ {gs ws : List ℕ} {g : Signature} {cs : List ℕ} {room : ℕ} (a : Lo
     where
       go : (x : Res CoreRule) → toCoreRule (a .sig) (a .rule) cs ≡ x → Lowers x (length ws) cs m1 cs1 k → Laid a m1 cs1 k
       go (ok c) e z = laid-core c e z size
-      go (refuse i p) e z = absurd (omega (arith, z .number′, z .some))
+      go (refuse i p) e z = absurd (omega (arith, ap (λ (l : Lowering). l .refused) (z .is), z .some))
 
 module _ {gs ws : List ℕ} {g : Signature} {cs : List ℕ} {room : ℕ} {a : LowerAsks gs ws g cs room} {m1 cs1 : List ℕ} {k : Lowering} (c : Laid a m1 cs1 k) where
   pub asks-settle : SettleAsks m1 0 (k .body)

@@ -16,11 +16,11 @@ use Rattle.rules.specs.ToQuery.{Query, toQuery, bodyVars}
 use Rattle.rules.specs.ToCoreActions.{Done, CoreRule, toCoreActions, toCoreRule}
 use Rattle.meaning.proofs.Results.{ok-inj}
 use Rattle.walks.specs.Log.{undone}
-use Rattle.walks.specs.Steps.{Kept, Walked, NoTerms, Room, Counted}
+use Rattle.walks.specs.Steps.{Piece, Kept, Walked, NoTerms, Room, Counted}
 use Rattle.walks.specs.declared.Walk.{Walk}
 use Rattle.walks.proofs.Asks.{counted-kept}
 use Rattle.walks.proofs.Frames.{kept-wide, kept-then, restored}
-use Rattle.walks.proofs.Steps.{Went, went}
+use Rattle.walks.proofs.Steps.{high, Went, went}
 use Rattle.walks.proofs.Read.{moved}
 use Rattle.query.specs.Flattened.{queryPiece, query, FactsAt}
 use Rattle.head_exprs.specs.Scopes.{Scoped, ScopeRoom, Names}
@@ -28,7 +28,7 @@ use Rattle.head_exprs.specs.declared.scope.Scope.{Scope}
 use Rattle.head_exprs.proofs.Body.{scope-first}
 use Rattle.core_actions.specs.Acts.{ActionsAt, donePiece, Gave}
 use Rattle.core_actions.specs.declared.actions.Acted.{Acted}
-use Rattle.lowering.specs.Lowered.{Good, Lowers}
+use Rattle.lowering.specs.Lowered.{Good, refusal, Lowers}
 use Rattle.lowering.specs.declared.Lowering.{Lowering}
 use Rattle.lowering.proofs.SignatureWords.{SignatureWords, signature-words}
 use Rattle.lowering.proofs.RuleWords.{RuleWords, rule-words}
@@ -42,6 +42,11 @@ same-read {gs} {ws} P g sig r es er p =
     let here : readWritten (g .sig) ws ≡ ok r = ap (λ (x : Sig). readWritten x ws) a ∙ er in
     let b : g .rule ≡ r = ok-inj _ _ (sym (g .written) ∙ here) in
     subst (λ (x : Sig). P x r) a (subst (P (g .sig)) b p)
+
+-- a walk that is refused says the refusal
+refusal-is : {m k at to sp lg number place : ℕ} {T : Piece → Type 0} {s cs s1 cs1 : List ℕ} {a : Walk} → Walked m T (refuse number place) k at to sp lg s cs s1 cs1 a
+    → refusal (a .refused) (a .next) ≡ refusal number place
+refusal-is z = ap (λ (w : Walk). refusal (w .refused) (w .next)) (z .ended .is)
 
 -- ---- the words are counted, n, and the header is read, w
 
@@ -71,9 +76,6 @@ begun {gs} {ws} g addressable long =
 abbrev both : Query → Done → Res CoreRule
 both q d = ok (record { body = q .atoms; head = d .acts; next = d .next })
 
-abbrev pub refusal : ℕ → ℕ → Lowering
-refusal number place = record { refused = number; place = place; body = 0; head = 0; actions = 0; log = 0 }
-
 module _ {gs ws cs s : List ℕ} {n w : ℕ} (k : Begun gs ws cs s n w) where
   abbrev pub Facts : FactsAt (k .good .sig) ws (factsOf w) 1
   Facts = k .read .facts
@@ -86,7 +88,7 @@ module _ {gs ws cs s : List ℕ} {n w : ℕ} (k : Begun gs ws cs s n w) where
 
   -- the walk over the body that gives x
   abbrev BodyWalk : List ℕ → List ℕ → Walk → Res Query → Type 0
-  BodyWalk s1 cs1 b x = Walked 0 NoTerms (queryPiece x) (Facts .size) 1 0 (28 * n) (30 * n) s cs s1 cs1 b
+  BodyWalk s1 cs1 b x = Walked 0 (NoTerms b) (queryPiece x) (Facts .size) 1 0 (28 * n) (30 * n) s cs s1 cs1 b
 
   abbrev then-head : Query → Res CoreRule
   then-head q = _>>=_ (toCoreActions (k .good .sig) (bodyVars (k .good .sig) (q .atoms)) (Actions .value) (q .next)) (both q)
@@ -104,7 +106,7 @@ module _ {gs ws cs s : List ℕ} {n w : ℕ} (k : Begun gs ws cs s n w) where
 -- ---- the body is flattened: b, with s1 and cs1 left behind
 
 pub record Flattened {gs ws cs s : List ℕ} {n w : ℕ} (k : Begun gs ws cs s n w) (s1 cs1 : List ℕ) (b : Walk) : Type 0 where
-  pub walk : Walked 0 NoTerms (query (k .read .facts .value) cs) (k .read .facts .size) 1 0 (28 * n) (30 * n) s cs s1 cs1 b
+  pub walk : Walked 0 (NoTerms b) (query (k .read .facts .value) cs) (k .read .facts .size) 1 0 (28 * n) (30 * n) s cs s1 cs1 b
   pub scratch : length s1 ≡ length s
   pub counters : length cs1 ≡ length cs
   pub roomy : 31 * n ≤ length s1
@@ -113,7 +115,7 @@ pub record Flattened {gs ws cs s : List ℕ} {n w : ℕ} (k : Begun gs ws cs s n
 
 module _ {gs ws cs s : List ℕ} {n w : ℕ} {k : Begun gs ws cs s n w} {s1 cs1 : List ℕ} {b : Walk} where
   pub flattened : length s1 ≡ length s → length cs1 ≡ length cs
-      → Walked 0 NoTerms (query (k .read .facts .value) cs) (k .read .facts .size) 1 0 (28 * n) (30 * n) s cs s1 cs1 b → Flattened k s1 cs1 b
+      → Walked 0 (NoTerms b) (query (k .read .facts .value) cs) (k .read .facts .size) 1 0 (28 * n) (30 * n) s cs s1 cs1 b → Flattened k s1 cs1 b
   flattened es ec walk =
       let i = k .read .facts .inside in
       record { walk = walk; scratch = es; counters = ec; roomy = omega (arith, k .roomy); logFrom = omega (arith, walk .kept .upTo); logTo = omega (arith, walk .kept .inLog) }
@@ -129,7 +131,7 @@ module _ {gs ws cs s : List ℕ} {n w : ℕ} {k : Begun gs ws cs s n w} {s1 cs1 
     where
       go : (x : Res Query) → BodyWalk k s1 cs1 b x → Lowers (_>>=_ x (then-head k)) n cs s1 cs2 (refusal (b .refused) (b .next))
       go (ok q) z = absurd (bad (z .ended .0 .fine))
-      go (refuse m p) z = record { number′ = z .ended .number; place′ = z .ended .place; some = z .ended .some; counters = e ∙ restored (z .kept) }
+      go (refuse m p) z = record { is = refusal-is z; some = z .ended .some; counters = e ∙ restored (z .kept) }
 
 -- ---- the body is fine, and the globals are counted: g
 
@@ -161,7 +163,7 @@ module _ {gs ws cs s : List ℕ} {n w : ℕ} {k : Begun gs ws cs s n w} {s1 cs1 
     where
       go : (x : Res Query) → toQuery (Facts k .value) cs ≡ x → BodyWalk k s1 cs1 b x → Names (k .good .sig) s1 scope
       go (ok q) is z = record { bound = bodyVars (k .good .sig) (q .atoms); scoped = scoped q is z }
-      go (refuse m p) is z = absurd (omega (arith, z .ended .number, z .ended .some))
+      go (refuse m p) is z = absurd (omega (arith, high (z .ended)))
 
   pub head-counted : Counted (k .good .sig) cs1
   head-counted = counted-kept (k .counted) (f .counters)
@@ -225,7 +227,7 @@ module _ {gs ws cs s : List ℕ} {n w : ℕ} {k : Begun gs ws cs s n w} {s1 cs1 
   by-cases cs′ res then = answers k s2 cs′ res (go (toQuery (Facts k .value) cs) refl (told f))
     where
       go : (x : Res Query) → toQuery (Facts k .value) cs ≡ x → BodyWalk k s1 cs1 b x → Lowers (_>>=_ x (then-head k)) n cs s2 cs′ res
-      go (refuse m p) is z = let fine = y .fine in absurd (omega (arith, z .ended .number, z .ended .some))
+      go (refuse m p) is z = let fine = y .fine in absurd (omega (arith, high (z .ended)))
       go (ok q) is z =
           let next : cs1 ≡ q .next = z .ended .0 .counters in
           let bound = bodyVars (k .good .sig) (q .atoms) in
@@ -240,7 +242,7 @@ module _ {gs ws cs s : List ℕ} {n w : ℕ} {k : Begun gs ws cs s n w} {s1 cs1 
       go : (q : Query) (x : Res Done) → HeadWalk y s2 cs2 h x (Actions k .size)
           → Lowers (_>>=_ x (both q)) n cs s2 cs3 (refusal (h .walk .refused) (h .walk .next))
       go q (ok d) u = absurd (bad (u .ended .0 .fine))
-      go q (refuse n p) u = record { number′ = u .ended .number; place′ = u .ended .place; some = u .ended .some; counters = e ∙ restored (m .whole) }
+      go q (refuse n p) u = record { is = refusal-is u; some = u .ended .some; counters = e ∙ restored (m .whole) }
 
   pub head-ends : h .walk .refused ≡ 0 → (24 * n ≤ h .walk .to)
   head-ends fine = went (donePiece (toCoreActions (k .good .sig) (names-at y .bound) (Actions k .value) cs1)) (m .lower (actions-at y) (names-at y .bound) (names-at y .scoped)) fine .from
@@ -254,7 +256,7 @@ module _ {gs ws cs s : List ℕ} {n w : ℕ} {k : Begun gs ws cs s n w} {s1 cs1 
     where
       go : (q : Query) → toQuery (Facts k .value) cs ≡ ok q → BodyWalk k s1 cs1 b (ok q) → (x : Res Done) → HeadWalk y s2 cs2 h x (Actions k .size)
           → Lowers (_>>=_ x (both q)) n cs s2 cs2 result
-      go q is z (refuse n p) u = absurd (omega (arith, u .ended .number, u .ended .some))
+      go q is z (refuse n p) u = absurd (omega (arith, high (u .ended)))
       go q is z (ok d) u =
           let o = z .ended .0 in
           let v = u .ended .0 in
@@ -267,6 +269,7 @@ module _ {gs ws cs s : List ℕ} {n w : ℕ} {k : Begun gs ws cs s n w} {s1 cs1 
           let size = m .whole .size in
           record {
             fine = refl;
+            nowhere = refl;
             body = omega arith;
             bodyThere =
                 record {
@@ -277,8 +280,9 @@ module _ {gs ws cs s : List ℕ} {n w : ℕ} {k : Begun gs ws cs s n w} {s1 cs1 
             head = omega arith;
             headThere = record { within = omega arith; words = v .written };
             headFits = omega arith;
-            actions = sym (u .ended .1);
+            actions = sym (u .ended .1 .0);
             counters = v .counters;
+            log = omega (arith, m .whole .counts, m .logFrom);
             logFits = omega (arith, m .logTo);
             undo = restored (m .whole);
           }

@@ -3,7 +3,7 @@
 -- Assumes nothing: these are definitions.
 use mathlib.Core.Path.{_≡_}
 use mathlib.Core.List.{List}
-use Prim.Native.Nat.{ℕ, _*_, _<_, _≤_}
+use Prim.Native.Nat.{ℕ, _+_, _*_, _<_, _≤_}
 use lib.ListN.{length}
 use Rattle.octets.specs.Regions.{part, At}
 use Rattle.rules.specs.Refusals.{Res, ok, refuse}
@@ -11,7 +11,7 @@ use Rattle.rules.specs.Signature.{Sig, heads, readSignature}
 use Rattle.rules.specs.Written.{Rule, readWritten}
 use Rattle.rules.specs.Flat.{atomWords, actionWords, wordsOf}
 use Rattle.rules.specs.ToCoreActions.{CoreRule}
-use Rattle.walks.specs.Log.{undone}
+use Rattle.walks.specs.Log.{undone, total}
 use Rattle.lowering.specs.declared.Lowering.{Lowering}
 
 -- signature and rule were read, there is a counter for each head, and room
@@ -23,9 +23,10 @@ pub record Good (gs ws cs : List ℕ) (room : ℕ) : Type 0 where
   pub counters : heads sig ≤ length cs
   pub scratch : 31 * length ws ≤ room
 
--- a result: both parts stand in the scratch, the counters are those after them, and the log takes these back
+-- a result: both parts stand in the scratch, the counters are those after them, and the log takes these back. It has as many uses as the counters grew by
 pub record Made (c : CoreRule) (n : ℕ) (cs s′ cs′ : List ℕ) (r : Lowering) : Type 0 where
   pub fine : r .refused ≡ 0
+  pub nowhere : r .place ≡ 0
   pub body : r .body ≡ length (wordsOf atomWords (c .body))
   pub bodyThere : At (wordsOf atomWords (c .body)) s′ 0
   pub bodyFits : r .body ≤ 3 * n
@@ -34,13 +35,17 @@ pub record Made (c : CoreRule) (n : ℕ) (cs s′ cs′ : List ℕ) (r : Lowerin
   pub headFits : r .head ≤ 4 * n
   pub actions : r .actions ≡ length (c .head)
   pub counters : cs′ ≡ c .next
+  pub log : r .log + total cs ≡ total cs′
   pub logFits : r .log ≤ n
   pub undo : undone (part s′ (30 * n) (r .log)) cs′ ≡ cs
 
--- a refusal: its number and place, and the counters are as they were
+-- the answer of a refusal: its number and place alone
+abbrev pub refusal : (number place : ℕ) → Lowering
+refusal n p = record { refused = n; place = p; body = 0; head = 0; actions = 0; log = 0 }
+
+-- a refusal: the counters are as they were
 pub record Back (number place : ℕ) (cs cs′ : List ℕ) (r : Lowering) : Type 0 where
-  pub number′ : r .refused ≡ number
-  pub place′ : r .place ≡ place
+  pub is : r ≡ refusal number place
   pub some : 0 < number
   pub counters : cs′ ≡ cs
 

@@ -20,7 +20,7 @@ const STACK_AT: usize = 28;
 const LOG_AT: usize = 30;
 
 // The answer. Where `refused` is 0: the words of the body and of the head, how many actions these are, and how many uses are logged. Else
-// `refused` is the refusal's number and `place` its place.
+// `refused` is the refusal's number and `place` its place, and the others are 0.
 pub struct Lowering {
     pub refused: u32,
     pub place: usize,

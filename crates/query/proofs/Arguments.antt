@@ -1,12 +1,14 @@
 -- The row of a call's arguments, as the loop over it walks it: what is so between two turns, and what each turn leaves. Assumes nothing.
-use mathlib.Core.Path.{_≡_, refl}
+use mathlib.Core.Path.{_≡_, refl, subst}
 use mathlib.Core.List.{List}
-use Prim.Native.Nat.{ℕ, _+_, _-_, _<_}
+use Prim.Native.Nat.{ℕ, _+_, _-_, _^_, _<_}
+use native.Mathlib.Omega.{arith}
 use lib.ListN.{length, set}
 use Rattle.rules.specs.Signature.{Sig}
-use Rattle.walks.specs.Steps.{Counted, ExprsAt}
+use Rattle.walks.specs.Steps.{reachedAt, Counted, ExprsAt}
 use Rattle.walks.specs.declared.Walk.{Walk}
 use Rattle.walks.proofs.Asks.{counted-kept}
+use Rattle.walks.proofs.Read.{exprs-many}
 use Rattle.walks.proofs.Rows.{Going, going-start, Left, left-all, left-none, left-stop, left-next, left-going}
 use Rattle.walks.proofs.Turns.{Turn, turn}
 use Rattle.query.specs.Flattened.{flattened, flattenedAll}
@@ -15,7 +17,7 @@ use Rattle.query.proofs.Spots.{Spot, onward, RoomAt, Held, KnownExpr, K
 
 -- a walk on its way, by the three places that the loop keeps
 abbrev pub here : ℕ → ℕ → ℕ → Walk
-here next to log = record { next = next; to = to; log = log; term = 0; refused = 0 }
+here next to log = reachedAt next to log 0
 
 -- of the n arguments x `left` are left, and walking them makes the whole
 abbrev LeftOf : (p : Spot) (d n : ℕ) (sig : Sig) → ExprsAt sig (p .ws) d n (p .at) → ℕ → ℕ → List ℕ → List ℕ → Walk → Type 0
@@ -40,12 +42,23 @@ row-start {p} {d} {n} known room held =
       rest = λ sig x c. left-all flattened flattenedAll flattened-row sig (p .ws) d n (p .at) (p .to) (p .sp) (p .lg) (p .s) (p .cs) x 0;
     }
 
+-- so many are left, told otherwise
+pub row-is : {p : Spot} {d n left left′ top : ℕ} {s1 cs1 : List ℕ} {w : Walk} → left ≡ left′ → Row p d n left top s1 cs1 w → Row p d n left′ top s1 cs1 w
+row-is {p} {d} {n} {top = top} {s1 = s1} {cs1 = cs1} {w = w} e row = subst (λ (j : ℕ). Row p d n j top s1 cs1 w) e row
+
 module _ {p : Spot} {d n left top : ℕ} {s1 cs1 : List ℕ} {w : Walk} (row : Row p d n left top s1 cs1 w) where
   -- where none are left, the row is walked
   pub row-done : left ≡ 0 → ExprsAnswers p d n s1 cs1 w
   row-done z sig x c =
       left-none flattened flattenedAll flattened-row sig (p .ws) d n (p .at) (p .to) (p .sp) (p .lg) (p .s) (p .cs) x
       left top s1 cs1 w (row .rest sig x c) (row .going .fine) z
+
+  -- the stack's end behind the row
+  pub row-fits : p .sp + n < 2 ^ 64
+  row-fits =
+      let q = row .known in
+      let x = q .known .0 in
+      omega (arith, exprs-many (q .sig) (p .ws) d n (p .at) x, x .inside, row .start .stack, row .start .log, row .held .scratch)
 
   -- while any are left, there is another turn
   pub row-turn : 0 < left → length cs1 ≡ length (p .cs) → length s1 ≡ length (p .s) → Turn (p .ws) d (p .at) left top (p .s) (p .cs) s1 cs1 w

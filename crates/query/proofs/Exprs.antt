@@ -1,6 +1,6 @@
 -- An expression on its way through flattening: a name or a literal, or a call from its head word to its variable, and each of its ends, by what is
 -- known of the walk of its arguments. Records over the spot p where it starts, its depth d and its first word w. Assumes nothing.
-use mathlib.Core.Path.{_≡_, refl, sym, _∙_}
+use mathlib.Core.Path.{_≡_, refl, sym, _∙_, subst}
 use mathlib.Core.List.{List, [], _∷_, _++_}
 use Prim.Native.Nat.{ℕ, suc, _+_, _-_, _*_, _≤_, _<_}
 use native.Mathlib.Omega.{arith}
@@ -13,7 +13,7 @@ use Rattle.rules.specs.Signature.{Sig}
 use Rattle.rules.specs.Written.{Exprs}
 use Rattle.rules.specs.ToQuery.{Fresh, fresh}
 use Rattle.walks.specs.Log.{Taken}
-use Rattle.walks.specs.Steps.{Piece, Walked, InAnswer, OnStack, Counted, ExprsAt}
+use Rattle.walks.specs.Steps.{Piece, reachedAt, stoppedAt, Walked, InAnswer, OnStack, Counted, ExprsAt}
 use Rattle.walks.specs.declared.Walk.{Walk}
 use Rattle.walks.proofs.Asks.{room-in, CallFacts, call-facts}
 use Rattle.walks.proofs.Frames.{kept-none}
@@ -27,9 +27,9 @@ use Rattle.query.proofs.Direct.{AtomRoom, atom-room}
 
 -- a name or a literal is its own term
 pub leaf-answer : (p : Spot) (d w : ℕ) → w ≡ getD (p .ws) (p .at) 0 → literalBase ≤ w
-    → ExprAnswers p d (p .s) (p .cs) (record { next = p .at + 1; to = p .to; log = p .lg; term = w; refused = 0 })
+    → ExprAnswers p d (p .s) (p .cs) (reachedAt (p .at + 1) (p .to) (p .lg) w)
 leaf-answer p d w is high sig x c =
-    let r : Walk = record { next = p .at + 1; to = p .to; log = p .lg; term = w; refused = 0 } in
+    let r : Walk = reachedAt (p .at + 1) (p .to) (p .lg) w in
     leaf-cases sig (p .ws) (c .few) (λ t k. ExprWalked p (flattened t (p .cs)) k (p .s) (p .cs) r) d (p .at) w x is high
     (λ i old. rw (flattened-leaf (p .at) w (p .cs))
     (record {
@@ -89,12 +89,16 @@ module _ {p : Spot} {d w : ℕ} (g : Begun p d w) where
 abbrev pub Asked : Spot → ℕ → ℕ → List ℕ → List ℕ → Type 0
 Asked p w v s1 cs1 = (a : ℕ) → Taken (fresh a (headOf w) (p .cs)) a (p .lg) (p .s) (p .cs) s1 cs1 v
 
+-- the head h that was asked is that of w
+pub asked-as : (p : Spot) (w v h : ℕ) (s1 cs1 : List ℕ) → h ≡ headOf w → ((a : ℕ) → Taken (fresh a h (p .cs)) a (p .lg) (p .s) (p .cs) s1 cs1 v) → Asked p w v s1 cs1
+asked-as p w v h s1 cs1 is asked = subst (λ (h : ℕ). (a : ℕ) → Taken (fresh a h (p .cs)) a (p .lg) (p .s) (p .cs) s1 cs1 v) is asked
+
 -- there is none
 pub none-left : {p : Spot} {d w : ℕ} (g : Begun p d w) {v : ℕ} {s1 cs1 : List ℕ} → Asked p w v s1 cs1 → v ≡ 0
-    → ExprAnswers p d s1 cs1 (record { next = p .at; to = p .to; log = p .lg; term = 0; refused = usedUp })
+    → ExprAnswers p d s1 cs1 (stoppedAt (p .at) (p .lg) usedUp)
 none-left {p} {d} {w} g {v} {s1} {cs1} asked z =
-    answer g s1 cs1 (record { next = p .at; to = p .to; log = p .lg; term = 0; refused = usedUp })
-    (λ sig es c high. full-first (1 + es .size) (p .at) (p .to) (p .sp) (p .lg) (headOf w) v (p .to) (p .s) (p .cs) s1 cs1
+    answer g s1 cs1 (stoppedAt (p .at) (p .lg) usedUp)
+    (λ sig es c high. full-first (1 + es .size) (p .at) (p .to) (p .sp) (p .lg) (headOf w) v (p .s) (p .cs) s1 cs1
     (fresh (p .at) (headOf w) (p .cs)) _ (asked (p .at)) z)
 
 pub record Named {p : Spot} {d w : ℕ} (g : Begun p d w) (v : ℕ) (s1 cs1 : List ℕ) : Type 0 where
@@ -149,7 +153,7 @@ module _ {p : Spot} {d w : ℕ} {g : Begun p d w} {v : ℕ} {s1 cs1 : List ℕ} 
     -- with that atom, up to e, the call is flattened
     pub walked-done : (s3 : List ℕ) (e : ℕ) → e ≡ a .to + countOf w + 2 → from + countOf w ≤ length s2
         → s3 ≡ splice s2 (a .to) ((w + 1) ∷ (part s2 from (countOf w) ++ (v ∷ [])))
-        → ExprAnswers p d s3 cs2 (record { next = a .next; to = e; log = a .log; term = v; refused = 0 })
+        → ExprAnswers p d s3 cs2 (reachedAt (a .next) e (a .log) v)
     walked-done s3 e there inside put = answer g s3 cs2 r (λ sig es c high. done sig es c high)
       where
         n : ℕ
@@ -159,7 +163,7 @@ module _ {p : Spot} {d w : ℕ} {g : Begun p d w} {v : ℕ} {s1 cs1 : List ℕ} 
         ys = (w + 1) ∷ (part s2 from n ++ (v ∷ []))
 
         r : Walk
-        r = record { next = a .next; to = e; log = a .log; term = v; refused = 0 }
+        r = reachedAt (a .next) e (a .log) v
 
         own : headBase ≤ w → (f : Fresh) (q : Piece) → v ≡ f .var → OnStack from n (p .lg + 1) s2 a q
             → Own (InAnswer (p .lg) r) q ys (q .next) (callPiece (headOf w) f q)

@@ -9,7 +9,7 @@ use Rattle.rules.specs.Signature.{Sig}
 use Rattle.rules.specs.Written.{Fact, readFact, readRow}
 use Rattle.walks.specs.Steps.{both, NoTerms, Counted}
 use Rattle.walks.specs.declared.Walk.{Walk}
-use Rattle.walks.proofs.Steps.{went, stop, none-walked, walk-then}
+use Rattle.walks.proofs.Steps.{went, stop, none-walked, none-told, walk-then}
 use Rattle.walks.proofs.Read.{moved, row-cases, no-row-cases}
 use Rattle.walks.proofs.Rows.{Going, going-start, going-room, going-next}
 use Rattle.walks.proofs.Asks.{counted-kept}
@@ -38,6 +38,7 @@ pub record Row (p : Spot) (n left : ℕ) (s1 cs1 : List ℕ) (w : Walk) : Type 0
   pub start : RoomAt p
   pub known : KnownFacts p n
   pub going : Going (p .at) (p .to) (p .sp) (p .lg) (p .s) (p .cs) (p .sp) s1 cs1 w
+  pub silent : w .term ≡ 0
   pub rest : (sig : Sig) (x : FactsAt sig (p .ws) n (p .at)) → Counted sig (p .cs) → Left p n sig x left s1 cs1 w
 
 -- at the start all are left
@@ -47,6 +48,7 @@ row-start {p} known room =
       start = room;
       known = known;
       going = going-start (p .at) (p .to) (p .sp) (p .lg) 0 (p .s) (p .cs);
+      silent = refl;
       rest = λ sig x c. record { rest = x; whole = λ s′ cs′ r z. z };
     }
 
@@ -57,7 +59,7 @@ module _ {p : Spot} {n left : ℕ} {s1 cs1 : List ℕ} {w : Walk} (row : Row p n
       let l = row .rest sig x c in
       l .whole s1 cs1 w
       (no-row-cases (readFact sig (p .ws)) (p .ws) (fact-on sig (p .ws)) (λ fs k. WalkedFrom (onward p s1 cs1 (p .sp) w) fs k s1 cs1 w) left (w .next) (l .rest) z
-      (rw (query-none cs1) (none-walked (p .sp) s1 cs1 w (row .going .fine) refl)))
+      (rw (query-none cs1) (none-walked (p .sp) s1 cs1 w (row .going .fine) (refl, row .silent))))
 
   next-room : RoomAt (onward p s1 cs1 (p .sp) w)
   next-room = going-room (length (p .ws)) (length s1) (row .start) (row .going .kept .size) (row .going)
@@ -85,8 +87,11 @@ module _ {p : Spot} {n left : ℕ} {s1 cs1 : List ℕ} {w : Walk} (row : Row p n
 
       -- and behind any other, one less is left
       pub row-next : a .refused ≡ 0 → Row p n (left - 1) s2 cs2 a
-      row-next fine = record { start = row .start; known = row .known; going = further; rest = λ sig x c. one-less sig x c }
+      row-next fine = record { start = row .start; known = row .known; going = further; silent = quiet; rest = λ sig x c. one-less sig x c }
         where
+          quiet : a .term ≡ 0
+          quiet = let q = row-asks .0 in none-told (flattenedFact (q .known .0 .value) cs1) (walk (q .sig) (q .known .0) (q .known .1)) (λ p t. t .1)
+
           further : Going (p .at) (p .to) (p .sp) (p .lg) (p .s) (p .cs) (p .sp) s2 cs2 a
           further =
               let q = row-asks .0 in
@@ -116,6 +121,6 @@ module _ {p : Spot} {n left : ℕ} {s1 cs1 : List ℕ} {w : Walk} (row : Row p n
                     whole =
                         λ s′ cs′ r more. wh s′ cs′ r
                         (rw (query-more (f .value) (fs .value) cs1)
-                        (walk-then (f .size) (fs .size) (w .next) (w .to) (p .sp) (p .sp) (w .log) s1 cs1 s2 cs2 s′ cs′ a r stack (omega arith) (omega arith) 0 NoTerms
-                        (flattenedFact (f .value) cs1) (query (fs .value)) (omega arith) z fine more (λ q u t v. λ i. t i ++ v i)));
+                        (walk-then (f .size) (fs .size) (w .next) (w .to) (p .sp) (p .sp) (w .log) s1 cs1 s2 cs2 s′ cs′ a r stack (omega arith) (omega arith) 0 (NoTerms r)
+                        (flattenedFact (f .value) cs1) (query (fs .value)) (omega arith) z fine more (λ q u t v. (λ i. t .0 i ++ v .0 i, v .1))));
                   }

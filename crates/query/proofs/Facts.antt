@@ -17,9 +17,9 @@ use Rattle.rules.specs.Written.{Expr, Fact, holds, equal, Read, readExpr, readE
 use Rattle.meaning.proofs.Results.{bind-ok, ok-inj}
 use Rattle.meaning.proofs.Lists.{and-right}
 use Rattle.meaning.proofs.Reading.{expr-reads}
-use Rattle.walks.specs.Steps.{Piece, both, andThen, Walked, NoTerms, Counted, ExprAt}
+use Rattle.walks.specs.Steps.{Piece, untold, both, andThen, Walked, NoTerms, Counted, ExprAt}
 use Rattle.walks.specs.declared.Walk.{Walk}
-use Rattle.walks.proofs.Steps.{went, stop, with-terms, walk-then, Own, written}
+use Rattle.walks.proofs.Steps.{went, stop, with-terms, told-none, walk-then, Own, written}
 use Rattle.walks.proofs.Read.{moved, expr-at}
 use Rattle.walks.proofs.Asks.{counted-kept, There, right-there}
 use Rattle.query.specs.Flattened.{flattened, flattenedFact, FactAt}
@@ -129,10 +129,11 @@ module _ {p : Spot} {w : ℕ} (g : Begun p w) where
         let e = holds-cases (q .sig) (p .ws) (λ f k. ExprAt (q .sig) (p .ws) maxDepth (p .at)) (p .at) w (q .known .0) (g .is) ne (λ e. e) in
         record { sig = q .sig; known = (e, q .known .1) }
 
-    pub holds-answer : (s1 cs1 : List ℕ) (r : Walk) → ExprAnswers p maxDepth s1 cs1 r → FactAnswers p s1 cs1 r
+    pub holds-answer : (s1 cs1 : List ℕ) (r : Walk) → ExprAnswers p maxDepth s1 cs1 r → FactAnswers p s1 cs1 (untold r)
     holds-answer s1 cs1 r walk sig x c =
-        holds-cases sig (p .ws) (λ f k. FactWalked p (flattenedFact f (p .cs)) k s1 cs1 r) (p .at) w x (g .is) ne
-        (λ e. rw (flattened-holds (e .value) (p .cs)) (with-terms (flattened (e .value) (p .cs)) silent (walk sig e c) (omega arith) (λ q. (refl, refl)) (λ q t. refl)))
+        holds-cases sig (p .ws) (λ f k. FactWalked p (flattenedFact f (p .cs)) k s1 cs1 (untold r)) (p .at) w x (g .is) ne
+        (λ e. rw (flattened-holds (e .value) (p .cs))
+        (with-terms (flattened (e .value) (p .cs)) silent (told-none (flattened (e .value) (p .cs)) (walk sig e c) (λ q t. t)) (omega arith) (λ q. (refl, refl)) (λ q t. (refl, refl))))
 
   -- it is an equality's: the left side stands behind it
   module _ (eq : w ≡ equalityWord) where
@@ -243,24 +244,27 @@ module _ {p : Spot} {w : ℕ} {g : Begun p w} {s1 cs1 : List ℕ} {l : Walk} {m 
           let i = b .inside in
           omega (arith, u .upTo, g .room, o .scratch)
 
+  abbrev ended-at : ℕ → Walk
+  ended-at e = record { next = r .next; to = e; log = r .log; term = 0; refused = 0 }
+
   -- and it is written, up to e, which leaves s3
   pub equal-answer : (s3 : List ℕ) (e : ℕ) → r .refused ≡ 0 → e ≡ r .to + 3 → s3 ≡ splice s2 (r .to) (equalityWord ∷ l .term ∷ r .term ∷ [])
-      → FactAnswers p s3 cs2 (record { next = r .next; to = e; log = r .log; term = 0; refused = 0 })
-  equal-answer s3 e fine there put = answer m s3 cs2 (record { next = r .next; to = e; log = r .log; term = 0; refused = 0 }) (λ sig a b c. done sig a b c)
+      → FactAnswers p s3 cs2 (ended-at e)
+  equal-answer s3 e fine there put = answer m s3 cs2 (ended-at e) (λ sig a b c. done sig a b c)
     where
       ys : List ℕ
       ys = equalityWord ∷ l .term ∷ r .term ∷ []
 
-      own : (q : Piece) → Both q → Own NoTerms q ys (q .next) (equated q)
-      own q t = record { words = λ i. q .words ++ equalityWord ∷ t i; counters = refl; terms = refl }
+      own : (q : Piece) → Both q → Own (NoTerms (ended-at e)) q ys (q .next) (equated q)
+      own q t = record { words = λ i. q .words ++ equalityWord ∷ t i; counters = refl; terms = (refl, refl) }
 
       done : (sig : Sig) (a : Left m sig) (b : Right m sig a) → Counted sig (p .cs)
           → FactWalked p (equality (a .value) (b .value) (p .cs)) (1 + (a .size + b .size)) s3 cs2
-          (record { next = r .next; to = e; log = r .log; term = 0; refused = 0 })
+          (ended-at e)
       done sig a b c =
           let i = b .inside in
           let room = g .room in
-          written 0 NoTerms (a .size + b .size) (1 + (a .size + b .size)) (p .at + 1) (p .at) (p .to) (p .sp) (p .lg) (p .s) (p .cs) s2 cs2 s3 ys r e 0
+          written 0 (NoTerms (ended-at e)) (a .size + b .size) (1 + (a .size + b .size)) (p .at + 1) (p .at) (p .to) (p .sp) (p .lg) (p .s) (p .cs) s2 cs2 s3 ys r e 0
           (andThen (flattened (a .value) (p .cs)) (flattened (b .value))) equated
           (omega (arith, room .words)) (omega (arith, room .stack)) (omega (arith, room .log)) (omega arith) (omega arith) (omega arith)
           (sides sig a b c) fine put (omega arith) own

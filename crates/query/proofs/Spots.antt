@@ -54,7 +54,7 @@ abbrev pub ExprsWalked : Spot → ℕ → Res Piece → ℕ → List ℕ → Lis
 ExprsWalked p n x k s′ cs′ r = Walked n (OnStack (p .sp) n (p .lg) s′ r) x k (p .at) (p .to) (p .sp) (p .lg) (p .s) (p .cs) s′ cs′ r
 
 abbrev pub FactWalked : Spot → Res Piece → ℕ → List ℕ → List ℕ → Walk → Type 0
-FactWalked p x k s′ cs′ r = Walked 0 NoTerms x k (p .at) (p .to) (p .sp) (p .lg) (p .s) (p .cs) s′ cs′ r
+FactWalked p x k s′ cs′ r = Walked 0 (NoTerms r) x k (p .at) (p .to) (p .sp) (p .lg) (p .s) (p .cs) s′ cs′ r
 
 -- for every signature that reads something there
 abbrev pub ExprAnswers : Spot → ℕ → List ℕ → List ℕ → Walk → Type 0

@@ -8,7 +8,8 @@ use Rattle.rules.specs.Signature.{Sig}
 use Rattle.rules.specs.Written.{Expr, Exprs, Fact, readFact, readRow}
 use Rattle.rules.specs.Flat.{atomWords, wordsOf}
 use Rattle.rules.specs.ToQuery.{Flat, Flats, Query, flatten, flattenAll, flattenFact, toQuery}
-use Rattle.walks.specs.Steps.{Piece, ReadAt}
+use Rattle.walks.specs.Steps.{Piece, Walked, InAnswer, OnStack, NoTerms, Counted, ReadAt, ExprAt, ExprsAt}
+use Rattle.walks.specs.declared.Walk.{Walk}
 
 abbrev pub flatPiece : Res Flat → Res Piece
 flatPiece (ok f) = ok (record { terms = f .term ∷ []; words = wordsOf atomWords (f .atoms); count = length (f .atoms); next = f .next })
@@ -41,3 +42,24 @@ FactAt sig ws at = ReadAt (readFact sig ws) ws at
 
 abbrev pub FactsAt : Sig → List ℕ → ℕ → ℕ → Type 0
 FactsAt sig ws n at = ReadAt (readRow (readFact sig ws) n) ws at
+
+-- ---- what is said of an answer r that leaves s′ and cs′, of whatever a signature reads there
+
+-- an expression is flattened: its term is in the answer
+abbrev pub FlattensExpr : (ws : List ℕ) (d at to sp lg : ℕ) (s cs s′ cs′ : List ℕ) → Walk → Type 0
+FlattensExpr ws d at to sp lg s cs s′ cs′ r =
+    (sig : Sig) (x : ExprAt sig ws d at) → Counted sig cs → Walked 1 (InAnswer lg r) (flattened (x .value) cs) (x .size) at to sp lg s cs s′ cs′ r
+
+-- n of them are: their terms are on the stack
+abbrev pub FlattensExprs : (ws : List ℕ) (d n at to sp lg : ℕ) (s cs s′ cs′ : List ℕ) → Walk → Type 0
+FlattensExprs ws d n at to sp lg s cs s′ cs′ r =
+    (sig : Sig) (x : ExprsAt sig ws d n at) → Counted sig cs → Walked n (OnStack sp n lg s′ r) (flattenedAll (x .value) cs) (x .size) at to sp lg s cs s′ cs′ r
+
+-- a fact is, and n facts are
+abbrev pub FlattensFact : (ws : List ℕ) (at to sp lg : ℕ) (s cs s′ cs′ : List ℕ) → Walk → Type 0
+FlattensFact ws at to sp lg s cs s′ cs′ r =
+    (sig : Sig) (x : FactAt sig ws at) → Counted sig cs → Walked 0 (NoTerms r) (flattenedFact (x .value) cs) (x .size) at to sp lg s cs s′ cs′ r
+
+abbrev pub FlattensFacts : (ws : List ℕ) (n at to sp lg : ℕ) (s cs s′ cs′ : List ℕ) → Walk → Type 0
+FlattensFacts ws n at to sp lg s cs s′ cs′ r =
+    (sig : Sig) (x : FactsAt sig ws n at) → Counted sig cs → Walked 0 (NoTerms r) (query (x .value) cs) (x .size) at to sp lg s cs s′ cs′ r

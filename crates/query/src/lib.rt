@@ -4,6 +4,8 @@
 //
 // The walks work in one scratch: atoms go to `to`, terms of arguments onto the stack at `sp`, uses of counters to `log`.
 use walks::Walk;
+use words::EQUALITY;
+use words::MAX_DEPTH;
 ghost use mathlib.Core.Path.{_≡_};
 ghost use mathlib.Core.List.{_∷_, [], _++_};
 ghost use Prim.Native.Nat.{_+_, _≤_, _<_};
@@ -11,12 +13,11 @@ ghost use lib.ListN.{length, getD};
 ghost use Rattle.octets.specs.Words.{words};
 ghost use Rattle.octets.specs.Regions.{splice, part};
 ghost use Rattle.rules.specs.Words.{literalBase};
-ghost use Rattle.rules.specs.Signature.{Sig};
-ghost use Rattle.walks.specs.Steps.{Walked, InAnswer, OnStack, NoTerms, Room, Under, Counted, ExprAt, ExprsAt};
-ghost use Rattle.query.specs.Flattened.{flattened, flattenedAll, flattenedFact, query, FactAt, FactsAt};
+ghost use Rattle.walks.specs.Steps.{Room, Under, Counted, ExprAt, ExprsAt};
+ghost use Rattle.query.specs.Flattened.{FactAt, FactsAt, FlattensExpr, FlattensExprs, FlattensFact, FlattensFacts};
 
 // Flattens the expression at `at`, which is at most `depth` deep. A name or a literal is its own term.
-pub fn flatten(
+fn flatten(
     rule: &[u8],
     at: usize,
     depth: u32,
@@ -28,19 +29,12 @@ pub fn flatten(
 ) -> Walk
     requires { ⌜ Under (λ sig. ExprAt sig (words (now rule)) depth at × Counted sig (words (now counters))) ⌝ }
     requires { ⌜ Room (length (words (now rule))) at to sp log (length (words (now scratch))) ⌝ }
-    ensures { λ r. ⌜ ((sig : Sig) (x : ExprAt sig (words (now (rule .entry))) depth at) → Counted sig (words (now (counters .entry)))
-        → Walked 1 (InAnswer log r) (flattened (x .value) (words (now (counters .entry)))) (x .size) at to sp log
-        (words (now (scratch .entry))) (words (now (counters .entry))) (words (now (scratch .exit))) (words (now (counters .exit))) r) ⌝ }
+    ensures { λ r. ⌜ FlattensExpr (words (now (rule .entry))) depth at to sp log (words (now (scratch .entry))) (words (now (counters .entry)))
+        (words (now (scratch .exit))) (words (now (counters .exit))) r ⌝ }
 {
     let w = octets::get(rule, at);
-    if words::LITERAL_BASE <= w {
-        return Walk {
-            next: at + 1,
-            to,
-            log,
-            term: w,
-            refused: 0,
-        };
+    if words::is_leaf(w) {
+        return walks::reached(at + 1, to, log, w);
     }
     flatten_call(rule, at, w, depth, counters, scratch, to, sp, log)
 }
@@ -61,7 +55,7 @@ fn put_around(scratch: &mut [u8], at: usize, head: u32, n: usize, output: u32) -
 // Flattens the call at `at`, whose head word is w. It takes its fresh variable before its arguments are walked; its own atom comes behind
 // theirs. Arguments that are all names and literals are written as the atom at once, past the stack. Where a call stands among them, all are
 // walked from the first on, over what was written of them.
-pub fn flatten_call(
+fn flatten_call(
     rule: &[u8],
     at: usize,
     w: u32,
@@ -75,53 +69,32 @@ pub fn flatten_call(
     requires { ⌜ Under (λ sig. ExprAt sig (words (now rule)) depth at × Counted sig (words (now counters))) ⌝ }
     requires { ⌜ Room (length (words (now rule))) at to sp log (length (words (now scratch))) ⌝ }
     requires { ⌜ (w ≡ getD (words (now rule)) at 0) × (w < literalBase) ⌝ }
-    ensures { λ r. ⌜ ((sig : Sig) (x : ExprAt sig (words (now (rule .entry))) depth at) → Counted sig (words (now (counters .entry)))
-        → Walked 1 (InAnswer log r) (flattened (x .value) (words (now (counters .entry)))) (x .size) at to sp log
-        (words (now (scratch .entry))) (words (now (counters .entry))) (words (now (scratch .exit))) (words (now (counters .exit))) r) ⌝ }
+    ensures { λ r. ⌜ FlattensExpr (words (now (rule .entry))) depth at to sp log (words (now (scratch .entry))) (words (now (counters .entry)))
+        (words (now (scratch .exit))) (words (now (counters .exit))) r ⌝ }
 {
-    let h = (w - words::HEAD_BASE) / words::LIMIT_16;
-    let n = (w - words::HEAD_BASE) % words::LIMIT_16;
-    let v = walks::take(counters, scratch, log, h);
+    let call = words::head_word(w);
+    let n = call.count as usize;
+    let v = walks::take(counters, scratch, log, call.head);
     if v == 0 {
-        return walks::stopped(at, to, log, walks::USED_UP);
+        return walks::stopped(at, log, walks::USED_UP);
     }
-    let k = walks::leaves(rule, at + 1, n as usize, u32::MAX, scratch, to + 1);
-    if k == n as usize {
-        let end = put_around(scratch, to, w + 1, n as usize, v);
-        return Walk {
-            next: at + 1 + k,
-            to: end,
-            log: log + 1,
-            term: v,
-            refused: 0,
-        };
+    let first = at + 1;
+    let k = walks::leaves(rule, first, n, u32::MAX, scratch, to + 1);
+    if k == n {
+        let end = put_around(scratch, to, w + 1, n, v);
+        return walks::reached(first + k, end, log + 1, v);
     }
-    let args = flatten_all(
-        rule,
-        at + 1,
-        n as usize,
-        depth - 1,
-        counters,
-        scratch,
-        to,
-        sp,
-        log + 1,
-    );
+    let less = depth - 1;
+    let args = flatten_all(rule, first, n, less, counters, scratch, to, sp, log + 1);
     if args.refused != 0 {
         return args;
     }
-    let end = octets::rows::put_atom(scratch, args.to, w + 1, sp, n as usize, v);
-    Walk {
-        next: args.next,
-        to: end,
-        log: args.log,
-        term: v,
-        refused: 0,
-    }
+    let end = octets::rows::put_atom(scratch, args.to, w + 1, sp, n, v);
+    walks::reached(args.next, end, args.log, v)
 }
 
 // Flattens the n expressions from `at` on; their terms go onto the stack. Most are names and literals, so these are dealt with in the loop.
-pub fn flatten_all(
+fn flatten_all(
     rule: &[u8],
     at: usize,
     n: usize,
@@ -132,24 +105,20 @@ pub fn flatten_all(
     sp: usize,
     log: usize,
 ) -> Walk
-    requires { ⌜ Under (λ sig. ExprsAt sig (words (now rule)) depth n at × Counted sig (words (now counters))) ⌝ }
-    requires { ⌜ Room (length (words (now rule))) at to sp log (length (words (now scratch))) ⌝ }
-    ensures { λ r. ⌜ ((sig : Sig) (x : ExprsAt sig (words (now (rule .entry))) depth n at) → Counted sig (words (now (counters .entry)))
-        → Walked n (OnStack sp n log (words (now (scratch .exit))) r) (flattenedAll (x .value) (words (now (counters .entry)))) (x .size) at to sp log
-        (words (now (scratch .entry))) (words (now (counters .entry))) (words (now (scratch .exit))) (words (now (counters .exit))) r) ⌝ }
+    requires { ⌜ Under (λ sig. ExprsAt sig (words (now rule)) depth n at × Counted sig (words (now counters))) × Room (length (words (now rule))) at to sp log (length (words (now scratch))) ⌝ }
+    ensures { λ r. ⌜ FlattensExprs (words (now (rule .entry))) depth n at to sp log (words (now (scratch .entry))) (words (now (counters .entry)))
+        (words (now (scratch .exit))) (words (now (counters .exit))) r ⌝ }
 {
-    let mut left = n;
     let mut next = at;
     let mut end = to;
     let mut top = sp;
     let mut uses = log;
-    while 0 < left {
+    while top < sp + n {
         let w = octets::get(rule, next);
-        if words::LITERAL_BASE <= w {
+        if words::is_leaf(w) {
             octets::put(scratch, top, w);
             next += 1;
             top += 1;
-            left -= 1;
             continue;
         }
         let walk = flatten_call(rule, next, w, depth, counters, scratch, end, top, uses);
@@ -161,19 +130,12 @@ pub fn flatten_all(
         end = walk.to;
         uses = walk.log;
         top += 1;
-        left -= 1;
     }
-    Walk {
-        next,
-        to: end,
-        log: uses,
-        term: 0,
-        refused: 0,
-    }
+    walks::reached(next, end, uses, 0)
 }
 
 // Flattens the fact at `at`. The atom of an equality comes behind those of its left and of its right side; a bare name or literal has none.
-pub fn flatten_fact(
+fn flatten_fact(
     rule: &[u8],
     at: usize,
     counters: &mut [u8],
@@ -184,31 +146,22 @@ pub fn flatten_fact(
 ) -> Walk
     requires { ⌜ Under (λ sig. FactAt sig (words (now rule)) at × Counted sig (words (now counters))) ⌝ }
     requires { ⌜ Room (length (words (now rule))) at to sp log (length (words (now scratch))) ⌝ }
-    ensures { λ r. ⌜ ((sig : Sig) (x : FactAt sig (words (now (rule .entry))) at) → Counted sig (words (now (counters .entry)))
-        → Walked 0 NoTerms (flattenedFact (x .value) (words (now (counters .entry)))) (x .size) at to sp log
-        (words (now (scratch .entry))) (words (now (counters .entry))) (words (now (scratch .exit))) (words (now (counters .exit))) r) ⌝ }
+    ensures { λ r. ⌜ FlattensFact (words (now (rule .entry))) at to sp log (words (now (scratch .entry))) (words (now (counters .entry)))
+        (words (now (scratch .exit))) (words (now (counters .exit))) r ⌝ }
 {
     let w = octets::get(rule, at);
-    if w != words::EQUALITY {
-        return flatten(rule, at, words::MAX_DEPTH, counters, scratch, to, sp, log);
+    if w != EQUALITY {
+        let e = flatten(rule, at, MAX_DEPTH, counters, scratch, to, sp, log);
+        return walks::without_term(e);
     }
-    let left = flatten(
-        rule,
-        at + 1,
-        words::MAX_DEPTH,
-        counters,
-        scratch,
-        to,
-        sp,
-        log,
-    );
+    let left = flatten(rule, at + 1, MAX_DEPTH, counters, scratch, to, sp, log);
     if left.refused != 0 {
         return left;
     }
     let right = flatten(
         rule,
         left.next,
-        words::MAX_DEPTH,
+        MAX_DEPTH,
         counters,
         scratch,
         left.to,
@@ -218,14 +171,8 @@ pub fn flatten_fact(
     if right.refused != 0 {
         return right;
     }
-    let end = octets::rows::put_three(scratch, right.to, words::EQUALITY, left.term, right.term);
-    Walk {
-        next: right.next,
-        to: end,
-        log: right.log,
-        term: 0,
-        refused: 0,
-    }
+    let end = octets::rows::put_three(scratch, right.to, EQUALITY, left.term, right.term);
+    walks::reached(right.next, end, right.log, 0)
 }
 
 // Flattens the n facts from `at` on.
@@ -241,18 +188,11 @@ pub fn to_query(
 ) -> Walk
     requires { ⌜ Under (λ sig. FactsAt sig (words (now rule)) n at × Counted sig (words (now counters))) ⌝ }
     requires { ⌜ Room (length (words (now rule))) at to sp log (length (words (now scratch))) ⌝ }
-    ensures { λ r. ⌜ ((sig : Sig) (x : FactsAt sig (words (now (rule .entry))) n at) → Counted sig (words (now (counters .entry)))
-        → Walked 0 NoTerms (query (x .value) (words (now (counters .entry)))) (x .size) at to sp log
-        (words (now (scratch .entry))) (words (now (counters .entry))) (words (now (scratch .exit))) (words (now (counters .exit))) r) ⌝ }
+    ensures { λ r. ⌜ FlattensFacts (words (now (rule .entry))) n at to sp log (words (now (scratch .entry))) (words (now (counters .entry)))
+        (words (now (scratch .exit))) (words (now (counters .exit))) r ⌝ }
 {
     let mut left = n;
-    let mut walk = Walk {
-        next: at,
-        to,
-        log,
-        term: 0,
-        refused: 0,
-    };
+    let mut walk = walks::reached(at, to, log, 0);
     while 0 < left {
         walk = flatten_fact(rule, walk.next, counters, scratch, walk.to, sp, walk.log);
         if walk.refused != 0 {

@@ -7,7 +7,7 @@ use lib.ListN.{length, getD, set, length-append, length-set}
 use lib.Seq.{getD-set-other, getD-set-same}
 use Rattle.octets.specs.Regions.{splice, part}
 use Rattle.octets.proofs.Splice.{part-splice, length-splice, getD-splice-before, getD-splice-after, part-same, part-join, part-one}
-use Rattle.walks.specs.Log.{undone, usedHead, usedCount}
+use Rattle.walks.specs.Log.{undone, total, usedHead, usedCount}
 use Rattle.walks.proofs.Log.{undone-append, undone-one, undone-none}
 use Rattle.walks.specs.Steps.{Kept}
 
@@ -16,6 +16,7 @@ kept-none to te sp se lg le s cs h =
     record {
       used = 0;
       upTo = omega arith;
+      counts = refl;
       inLog = h;
       size = refl;
       heads = refl;
@@ -32,6 +33,7 @@ kept-wide to0 te0 sp0 se0 le0 k a b c d e =
     record {
       used = k .used;
       upTo = k .upTo;
+      counts = k .counts;
       inLog = omega (arith, k .inLog);
       size = k .size;
       heads = k .heads;
@@ -51,6 +53,7 @@ kept-then {lg = lg} {mid = mid} {s1 = s1} {cs1 = cs1} {s2 = s2} {cs2 = cs2} h a 
     record {
       used = a .used + b .used;
       upTo = omega (arith, b .upTo);
+      counts = omega (arith, a .counts, b .counts);
       inLog = b .inLog;
       size = b .size ∙ a .size;
       heads = b .heads ∙ a .heads;
@@ -67,8 +70,8 @@ kept-then {lg = lg} {mid = mid} {s1 = s1} {cs1 = cs1} {s2 = s2} {cs2 = cs2} h a 
 
 -- a use is logged
 pub kept-log : (to te sp se lg le v : ℕ) (s cs s′ cs′ : List ℕ) → to ≤ lg → sp ≤ lg → lg < length s → lg + 1 ≤ le → s′ ≡ set s lg v → length cs′ ≡ length cs
-    → set cs′ (usedHead v) (usedCount v) ≡ cs → Kept to te sp se lg le s cs s′ cs′ (lg + 1)
-kept-log to te sp se lg le v s cs s′ cs′ a b c d e f u =
+    → total cs′ ≡ 1 + total cs → set cs′ (usedHead v) (usedCount v) ≡ cs → Kept to te sp se lg le s cs s′ cs′ (lg + 1)
+kept-log to te sp se lg le v s cs s′ cs′ a b c d e f g u =
     let same : (i : ℕ) → i < lg → getD s′ i 0 ≡ getD s i 0 =
     λ i h. ap (λ (l : List ℕ). getD l i 0) e ∙ getD-set-other s lg i v 0 (λ z. omega arith) in
     let n : length s′ ≡ length s = ap length e ∙ length-set s lg v in
@@ -76,6 +79,7 @@ kept-log to te sp se lg le v s cs s′ cs′ a b c d e f u =
     record {
       used = 1;
       upTo = refl;
+      counts = omega (arith, g);
       inLog = d;
       size = n;
       heads = f;
@@ -93,6 +97,7 @@ kept-push to te sp se lg le v s cs s′ a b c e =
     record {
       used = 0;
       upTo = omega arith;
+      counts = refl;
       inLog = c;
       size = ap length e ∙ length-set s sp v;
       heads = refl;
@@ -111,6 +116,7 @@ kept-put to te sp se lg le p xs s cs s′ a b c d f g e =
     record {
       used = 0;
       upTo = omega arith;
+      counts = refl;
       inLog = g;
       size = ap length e ∙ length-splice s p xs (omega arith);
       heads = refl;

@@ -2,6 +2,7 @@
 pub mod Log
 pub mod Frames
 pub mod Steps
+pub mod Uses
 pub mod Read
 pub mod Rows
 pub mod Words

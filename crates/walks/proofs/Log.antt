@@ -11,7 +11,7 @@ use Rattle.octets.specs.Regions.{part}
 use Rattle.octets.proofs.Splice.{part-more}
 use Rattle.rules.specs.Words.{limit12, limit16, freshWord}
 use Rattle.rules.specs.ToQuery.{count, fresh}
-use Rattle.walks.specs.Log.{usedHead, usedCount, undone, Taken}
+use Rattle.walks.specs.Log.{usedHead, usedCount, undone, total, Taken}
 
 pub undone-append : (xs ys cs : List ℕ) → undone (xs ++ ys) cs ≡ undone xs (undone ys cs)
 unfolding undone
@@ -25,6 +25,13 @@ undone-one v cs = refl
 pub undone-none : (cs : List ℕ) → undone [] cs ≡ cs
 unfolding undone
 undone-none cs = refl
+
+-- one counter says something else
+total-set : (cs : List ℕ) (h v : ℕ) → h < length cs → total (set cs h v) + getD cs h 0 ≡ total cs + v
+unfolding total
+total-set [] h v k = absurd (omega arith)
+total-set (c ∷ cs) zero v k = omega arith
+total-set (c ∷ cs) (suc h) v k = omega (arith, total-set cs h v (omega arith))
 
 -- inside, what the definition reads past the end does not show
 count-in : (cs : List ℕ) (h : ℕ) → h < length cs → count cs h ≡ getD cs h 0
@@ -64,6 +71,7 @@ module _ {cs : List ℕ} {h c : ℕ} (k : Counter cs h c) (lg : ℕ) (s : List �
         var = ap (freshWord h) counts;
         large = omega arith;
         next = grown ∙ ap (set cs h) (add-one c ∙ ap suc counts);
+        grown = ap total grown ∙ omega (arith, total-set cs h (c + 1) (k .inside), k .is);
         logged = logged;
         undo = back;
       })

@@ -11,11 +11,16 @@ use Rattle.octets.proofs.Splice.{part-same, part-join, part-one}
 use Rattle.rules.specs.Refusals.{Res, ok, refuse, _>>=_, usedUp}
 use Rattle.rules.specs.ToQuery.{Fresh, fresh}
 use Rattle.walks.specs.Log.{Taken}
-use Rattle.walks.specs.Steps.{Piece, nothing, both, andThen, Kept, Walked, InAnswer, OnStack}
+use Rattle.walks.specs.Steps.{Piece, nothing, both, andThen, Kept, untold, stoppedAt, Stopped, Walked, InAnswer, OnStack}
 use Rattle.walks.specs.declared.Walk.{Walk}
 use Rattle.walks.proofs.Frames.{kept-none, kept-wide, kept-then, kept-log, kept-push, kept-put, joined, spliced}
 
--- ---- what an answer without a refusal says
+-- ---- what an answer says
+
+pub high : {n p : ℕ} {r : Walk} → Stopped n p r → 0 < r .refused
+high z = let e = ap (λ (w : Walk). w .refused) (z .is) in omega (arith, z .some)
+
+-- without a refusal
 
 pub record Went (m k at to lg : ℕ) (a : Walk) : Type 0 where
   pub next : a .next ≡ at + k
@@ -34,7 +39,7 @@ went (ok p) w e =
       logFrom = omega (arith, w .kept .upTo);
       logUpTo = w .kept .inLog;
     }
-went (refuse n p) w e = absurd (omega (arith, w .ended .number, w .ended .some))
+went (refuse n p) w e = absurd (omega (arith, high (w .ended)))
 
 -- where it is a refusal, the frame is as wide as one likes, and what would have followed does not count
 pub stop : {m m′ k at to sp lg : ℕ} {T T′ : Piece → Type 0} {s cs s1 cs1 : List ℕ} {a : Walk} (k′ at′ : ℕ) (x : Res Piece) (f : Piece → Res Piece)
@@ -72,7 +77,7 @@ with-terms (refuse n q) g w h same j = record { kept = w .kept; ended = w .ended
 -- the same words, read at another place
 pub placed : {m k at to sp lg : ℕ} {T T′ : Piece → Type 0} {s cs s1 cs1 : List ℕ} {a : Walk} (at′ : ℕ) (b : Walk) (x : Res Piece) → Walked m T x k at to sp lg s cs s1 cs1 a → a .refused ≡ 0
     → b .refused ≡ 0 → b .next ≡ at′ + k → b .to ≡ a .to → a .log ≡ b .log → ((p : Piece) → T p → T′ p) → Walked m T′ x k at′ to sp lg s cs s1 cs1 b
-placed at′ b (refuse n q) w fine ef en et el j = absurd (omega (arith, w .ended .number, w .ended .some))
+placed at′ b (refuse n q) w fine ef en et el j = absurd (omega (arith, high (w .ended)))
 placed {m} {k} {at} {to} {sp} {lg} {T} {T′} {s} {cs} {s1} {cs1} {a} at′ b (ok p) w fine ef en et el j =
     let o = w .ended .0 in
     record {
@@ -110,7 +115,7 @@ module _ (k1 k2 at to sp sp2 lg : ℕ) (s cs s1 cs1 s2 cs2 : List ℕ) (a b : Wa
       → m ≡ m1 + m2 → Walked m1 T1 x k1 at to sp lg s cs s1 cs1 a → a .refused ≡ 0
       → Walked m2 T2 (y cs1) k2 (a .next) (a .to) sp2 (a .log) s1 cs1 s2 cs2 b
       → ((p q : Piece) → T1 p → T2 q → T (both p q)) → Walked m T (andThen x y) (k1 + k2) at to sp lg s cs s2 cs2 b
-  walk-then {m1} {m2} {T1} {T2} m T (refuse n q) y e w fine w2 j = absurd (omega (arith, w .ended .number, w .ended .some))
+  walk-then {m1} {m2} {T1} {T2} m T (refuse n q) y e w fine w2 j = absurd (omega (arith, high (w .ended)))
   walk-then {m1} {m2} {T1} {T2} m T (ok p) y e w fine w2 j =
       last (y (p .next)) (subst (λ (l : List ℕ). Walked m2 T2 (y l) k2 (a .next) (a .to) sp2 (a .log) s1 cs1 s2 cs2 b) (w .ended .0 .counters) w2)
     where
@@ -144,7 +149,7 @@ module _ (k1 k2 at to sp sp2 lg : ℕ) (s cs s1 cs1 s2 cs2 : List ℕ) (a b : Wa
 -- a word goes onto it
 pub stored : {m k at to sp lg : ℕ} {T T′ : Piece → Type 0} {s cs s1 cs1 s2 : List ℕ} {a : Walk} (v : ℕ) (x : Res Piece) → Walked m T x k at to sp lg s cs s1 cs1 a → a .refused ≡ 0
     → s2 ≡ set s1 sp v → 0 < k → to + 4 * k ≤ sp → sp + k ≤ lg → lg + k ≤ length s → ((p : Piece) → getD s2 sp 0 ≡ v → sp < length s2 → T p → T′ p) → Walked m T′ x k at to sp lg s cs s2 cs1 a
-stored v (refuse n q) w fine put h r1 r2 r3 j = absurd (omega (arith, w .ended .number, w .ended .some))
+stored v (refuse n q) w fine put h r1 r2 r3 j = absurd (omega (arith, high (w .ended)))
 stored {m} {k} {at} {to} {sp} {lg} {T} {T′} {s} {cs} {s1} {cs1} {s2} {a} v (ok p) w fine put h r1 r2 r3 j =
     let o = w .ended .0 in
     let g = went (ok p) w fine in
@@ -236,7 +241,7 @@ pub written : {m1 : ℕ} {T1 : Piece → Type 0} (m : ℕ) (T : Piece → Type 0
     → Walked m1 T1 x k at1 to sp lg s cs s1 cs1 a → a .refused ≡ 0 → s2 ≡ splice s1 (a .to) ys → e ≡ a .to + length ys
     → ((p : Piece) → T1 p → Own T p ys (p .next) (g p))
     → Walked m T (_>>=_ x (λ p. ok (g p))) K at to sp lg s cs s2 cs1 (record { next = a .next; to = e; log = a .log; term = t; refused = 0 })
-written {m1} {T1} m T k K at1 at to sp lg s cs s1 cs1 s2 ys a e t (refuse n q) g r1 r2 r3 h ha few w fine put ee own = absurd (omega (arith, w .ended .number, w .ended .some))
+written {m1} {T1} m T k K at1 at to sp lg s cs s1 cs1 s2 ys a e t (refuse n q) g r1 r2 r3 h ha few w fine put ee own = absurd (omega (arith, high (w .ended)))
 written {m1} {T1} m T k K at1 at to sp lg s cs s1 cs1 s2 ys a e t (ok p) g r1 r2 r3 h ha few w fine put ee own =
     let o = w .ended .0 in
     let kk = kept-wide to (to + 4 * K) sp (sp + K) (lg + K) (w .kept) (omega arith) (omega arith) (omega arith) (omega arith) (omega arith) in
@@ -246,13 +251,13 @@ written {m1} {T1} m T k K at1 at to sp lg s cs s1 cs1 s2 ys a e t (ok p) g r1 r2
 -- ---- a fresh variable
 
 -- its counter is used up, before anything else
-pub full-first : {m : ℕ} {T : Piece → Type 0} (k at to sp lg h v t : ℕ) (s cs s1 cs1 : List ℕ) (x : Res Fresh) (f : Fresh → Res Piece) → Taken x at lg s cs s1 cs1 v → v ≡ 0
-    → Walked m T (_>>=_ x f) k at to sp lg s cs s1 cs1 (record { next = at; to = t; log = lg; term = 0; refused = usedUp })
-full-first k at to sp lg h v t s cs s1 cs1 (ok g) f u z = absurd (omega (arith, u .large))
-full-first k at to sp lg h v t s cs s1 cs1 (refuse n p) f u z =
+pub full-first : {m : ℕ} {T : Piece → Type 0} (k at to sp lg h v : ℕ) (s cs s1 cs1 : List ℕ) (x : Res Fresh) (f : Fresh → Res Piece) → Taken x at lg s cs s1 cs1 v → v ≡ 0
+    → Walked m T (_>>=_ x f) k at to sp lg s cs s1 cs1 (stoppedAt at lg usedUp)
+full-first k at to sp lg h v s cs s1 cs1 (ok g) f u z = absurd (omega (arith, u .large))
+full-first k at to sp lg h v s cs s1 cs1 (refuse n p) f u z =
     record {
       kept = rw (u .counters, u .scratch) (kept-none to (to + 4 * k) sp (sp + k) lg (lg + k) s cs (omega arith));
-      ended = record { number = sym (u .nine); place = sym (u .here); some = omega (arith, u .nine) };
+      ended = record { is = sym (λ i. stoppedAt (u .here i) lg (u .nine i)); some = omega (arith, u .nine) };
     }
 
 -- it is taken first, and a walk follows whose frame starts behind the use
@@ -262,7 +267,7 @@ module _ (k at to sp lg v : ℕ) (s cs s1 cs1 s2 cs2 : List ℕ) (a : Walk)
       → Kept to (to + 4 * (1 + k)) sp (sp + (1 + k)) lg (lg + (1 + k)) s cs s2 cs2 (a .log)
   entered f u w =
       kept-then (omega arith)
-      (kept-log to (to + 4 * (1 + k)) sp (sp + (1 + k)) lg (lg + (1 + k)) v s cs s1 cs1 (omega arith) (omega arith) (omega arith) (omega arith) (u .logged) hc (u .undo))
+      (kept-log to (to + 4 * (1 + k)) sp (sp + (1 + k)) lg (lg + (1 + k)) v s cs s1 cs1 (omega arith) (omega arith) (omega arith) (omega arith) (u .logged) hc (u .grown) (u .undo))
       (kept-wide to (to + 4 * (1 + k)) sp (sp + (1 + k)) (lg + (1 + k)) w (omega arith) (omega arith) (omega arith) (omega arith) (omega arith))
 
   -- what follows is refused
@@ -289,7 +294,7 @@ module _ (k at to sp lg v : ℕ) (s cs s1 cs1 s2 cs2 : List ℕ) (a : Walk)
     where
       go : (z : Res Piece) → Walked n T z k (at + 1) to sp (lg + 1) s1 cs1 s2 cs2 a
           → Walked m T′ (_>>=_ z (λ p. ok (g f p))) (1 + k) at to sp lg s cs s3 cs2 (record { next = a .next; to = e; log = a .log; term = t; refused = 0 })
-      go (refuse i p) w = absurd (omega (arith, w .ended .number, w .ended .some))
+      go (refuse i p) w = absurd (omega (arith, high (w .ended)))
       go (ok p) w =
           let o = w .ended .0 in
           own-done m (1 + k) at to sp lg (a .to) (a .log) e t s cs s2 cs2 s3 ys (p .next) p (g f p) wordsRoom stackRoom logRoom (entered f u (w .kept)) (o .to) (o .written)
@@ -298,20 +303,20 @@ module _ (k at to sp lg v : ℕ) (s cs s1 cs1 s2 cs2 : List ℕ) (a : Walk)
 -- it is taken after a walk: K words were read in all, of which the walk read k. The place of the kind 3 word is q
 module _ (k K at1 at to sp lg h q v : ℕ) (s cs s1 cs1 s2 cs2 : List ℕ) (a : Walk) where
   -- its counter is used up
-  pub full-last : {n m : ℕ} {T T′ : Piece → Type 0} (t : ℕ) (x : Res Piece) (g : Piece → Fresh → Piece) → k ≤ K → Walked n T x k at1 to sp lg s cs s1 cs1 a → a .refused ≡ 0
+  pub full-last : {n m : ℕ} {T T′ : Piece → Type 0} (x : Res Piece) (g : Piece → Fresh → Piece) → k ≤ K → Walked n T x k at1 to sp lg s cs s1 cs1 a → a .refused ≡ 0
       → Taken (fresh q h cs1) q (a .log) s1 cs1 s2 cs2 v → v ≡ 0
-      → Walked m T′ (_>>=_ x (λ p. _>>=_ (fresh q h (p .next)) (λ f. ok (g p f)))) K at to sp lg s cs s2 cs2 (record { next = q; to = t; log = a .log; term = 0; refused = usedUp })
-  full-last t (refuse i p) g le w fine u z = absurd (omega (arith, w .ended .number, w .ended .some))
-  full-last {n} {m} {T} {T′} t (ok p) g le w fine u z =
+      → Walked m T′ (_>>=_ x (λ p. _>>=_ (fresh q h (p .next)) (λ f. ok (g p f)))) K at to sp lg s cs s2 cs2 (stoppedAt q (a .log) usedUp)
+  full-last (refuse i p) g le w fine u z = absurd (omega (arith, high (w .ended)))
+  full-last {n} {m} {T} {T′} (ok p) g le w fine u z =
       go (fresh q h (p .next)) (subst (λ (l : List ℕ). Taken (fresh q h l) q (a .log) s1 cs1 s2 cs2 v) (w .ended .0 .counters) u)
     where
       go : (y : Res Fresh) → Taken y q (a .log) s1 cs1 s2 cs2 v
-          → Walked m T′ (_>>=_ y (λ f. ok (g p f))) K at to sp lg s cs s2 cs2 (record { next = q; to = t; log = a .log; term = 0; refused = usedUp })
+          → Walked m T′ (_>>=_ y (λ f. ok (g p f))) K at to sp lg s cs s2 cs2 (stoppedAt q (a .log) usedUp)
       go (ok f) u = absurd (omega (arith, u .large))
       go (refuse i j) u =
           record {
             kept = rw (u .counters, u .scratch) (kept-wide to (to + 4 * K) sp (sp + K) (lg + K) (w .kept) (omega arith) (omega arith) (omega arith) (omega arith) (omega arith));
-            ended = record { number = sym (u .nine); place = sym (u .here); some = omega (arith, u .nine) };
+            ended = record { is = sym (λ i. stoppedAt (u .here i) (a .log) (u .nine i)); some = omega (arith, u .nine) };
           }
 
   -- the words ys are written behind what the walk wrote
@@ -324,13 +329,13 @@ module _ (k K at1 at to sp lg h q v : ℕ) (s cs s1 cs1 s2 cs2 : List ℕ) (a : 
         let z = w .size in
         let up = w .upTo in
         let il = w .inLog in
-        kept-log (a .to) (to + 4 * K) sp sp (a .log) (lg + K) v s1 cs1 s2 cs2 (omega arith) (omega arith) (omega arith) (omega arith) (u .logged) hc (u .undo)
+        kept-log (a .to) (to + 4 * K) sp sp (a .log) (lg + K) v s1 cs1 s2 cs2 (omega arith) (omega arith) (omega arith) (omega arith) (u .logged) hc (u .grown) (u .undo)
 
     pub last-done : (x : Res Piece) (g : Piece → Fresh → Piece) → Walked n (OnStack sp n lg s1 a) x k at1 to sp lg s cs s1 cs1 a → a .refused ≡ 0
         → Taken (fresh q h cs1) q (a .log) s1 cs1 s2 cs2 v → (v ≡ 0 → ⊥)
         → ((p : Piece) (f : Fresh) → OnStack sp n lg s2 a p → v ≡ f .var → Own T p ys (f .next) (g p f))
         → Walked m T (_>>=_ x (λ p. _>>=_ (fresh q h (p .next)) (λ f. ok (g p f)))) K at to sp lg s cs s3 cs2 (record { next = a .next; to = e; log = a .log + 1; term = t; refused = 0 })
-    last-done (refuse i p) g w fine u nz own = absurd (omega (arith, w .ended .number, w .ended .some))
+    last-done (refuse i p) g w fine u nz own = absurd (omega (arith, high (w .ended)))
     last-done (ok p) g w fine u nz own =
         go (fresh q h (p .next)) (subst (λ (l : List ℕ). Taken (fresh q h l) q (a .log) s1 cs1 s2 cs2 v) (w .ended .0 .counters) u)
       where
@@ -355,6 +360,29 @@ module _ (k K at1 at to sp lg h q v : ℕ) (s cs s1 cs1 s2 cs2 : List ℕ) (a : 
             part-same s1 s2 to (length (p .words)) (kl .size) (λ i c d. kl .below i (omega (arith, o .to))) ∙ o .written in
             own-done m K at to sp lg (a .to) (a .log + 1) e t s cs s2 cs2 s3 ys (f .next) p (g p f) wordsRoom stackRoom logRoom kk (o .to) old (omega (arith, o .fits)) put there
             (a .next) (omega (arith, o .next)) (u .next) (own p f on (u .var))
+
+-- a walk tells no term where its piece says so, and where it is refused
+pub none-told : {m k at to sp lg : ℕ} {T : Piece → Type 0} {s cs s1 cs1 : List ℕ} {a : Walk} (x : Res Piece) → Walked m T x k at to sp lg s cs s1 cs1 a
+    → ((p : Piece) → T p → a .term ≡ 0) → a .term ≡ 0
+none-told (ok p) w j = j p (w .ended .1)
+none-told (refuse n q) w j = ap (λ (r : Walk). r .term) (w .ended .is)
+
+-- of a walk that is refused nothing is said of a piece
+pub halted : {m k at to sp lg : ℕ} {T T′ : Piece → Type 0} {s cs s1 cs1 : List ℕ} {a : Walk} (x : Res Piece) → Walked m T x k at to sp lg s cs s1 cs1 a → (a .refused ≡ 0 → ⊥)
+    → Walked m T′ x k at to sp lg s cs s1 cs1 a
+halted (ok p) w bad = absurd (bad (w .ended .0 .fine))
+halted (refuse n q) w bad = record { kept = w .kept; ended = w .ended }
+
+-- the same walk, its term not told
+pub told-none : {m k at to sp lg : ℕ} {T T′ : Piece → Type 0} {s cs s1 cs1 : List ℕ} {a : Walk} (x : Res Piece) → Walked m T x k at to sp lg s cs s1 cs1 a → ((p : Piece) → T p → T′ p)
+    → Walked m T′ x k at to sp lg s cs s1 cs1 (untold a)
+told-none (ok p) w j =
+    let o = w .ended .0 in
+    record {
+      kept = w .kept;
+      ended = (record { fine = o .fine; next = o .next; to = o .to; counters = o .counters; written = o .written; fits = o .fits }, j p (w .ended .1));
+    }
+told-none (refuse n q) w j = record { kept = w .kept; ended = record { is = ap untold (w .ended .is); some = w .ended .some } }
 
 -- the same walk, more said of its piece
 pub retold : {m k at to sp lg : ℕ} {T T′ : Piece → Type 0} {s cs s1 cs1 : List ℕ} {a : Walk} (x : Res Piece) → Walked m T x k at to sp lg s cs s1 cs1 a → ((p : Piece) → T p → T′ p)

@@ -2,7 +2,7 @@
 -- says the head and what its counter was. Assumes nothing: these are definitions.
 use mathlib.Core.Path.{_≡_}
 use mathlib.Core.List.{List, [], _∷_}
-use Prim.Native.Nat.{ℕ, _/_, _%_, _≤_}
+use Prim.Native.Nat.{ℕ, _+_, _/_, _%_, _≤_}
 use lib.ListN.{set}
 use Rattle.rules.specs.Words.{limit16, freshBase}
 use Rattle.rules.specs.Refusals.{Res, ok, refuse, usedUp}
@@ -15,6 +15,11 @@ usedHead v = v / limit16 % 32768
 abbrev pub usedCount : ℕ → ℕ
 usedCount v = v % limit16
 
+-- the sum of the counters: each use is one more, so that it tells how many uses are logged
+unfoldable pub total : List ℕ → ℕ
+total [] = 0
+total (c ∷ cs) = c + total cs
+
 -- the counters with the logged uses taken back, the last use first
 unfoldable pub undone : List ℕ → List ℕ → List ℕ
 undone [] cs = cs
@@ -25,6 +30,7 @@ pub record Took (f : Fresh) (lg : ℕ) (s cs s′ cs′ : List ℕ) (r : ℕ) : 
   pub var : r ≡ f .var
   pub large : freshBase ≤ r
   pub next : cs′ ≡ f .next
+  pub grown : total cs′ ≡ 1 + total cs
   pub logged : s′ ≡ set s lg r
   pub undo : set cs′ (usedHead r) (usedCount r) ≡ cs
 

@@ -6,11 +6,11 @@ use mathlib.Core.List.{List, [], _∷_, _++_}
 use Prim.Native.Nat.{ℕ, _+_, _*_, _<_, _≤_}
 use lib.ListN.{length, getD}
 use Rattle.octets.specs.Regions.{part}
-use Rattle.rules.specs.Words.{limit12}
+use Rattle.rules.specs.Words.{limit12, headBase, headOf}
 use Rattle.rules.specs.Refusals.{Res, ok, refuse, _>>=_}
 use Rattle.rules.specs.Signature.{Sig, heads}
 use Rattle.rules.specs.Written.{Reader, readExpr, readMany}
-use Rattle.walks.specs.Log.{undone}
+use Rattle.walks.specs.Log.{undone, total}
 use Rattle.walks.specs.declared.Walk.{Walk}
 
 -- ---- what a walk makes
@@ -37,10 +37,12 @@ andThen x y = do
 
 -- ---- what it leaves
 
--- the log took `used` entries more, which take the counters back to what they were, and what stands outside the three regions is as it was
+-- the log took `used` entries more, as many as the counters grew by, which take them back to what they were; and what stands outside the three regions
+-- is as it was
 pub record Kept (to te sp se lg le : ℕ) (s cs s′ cs′ : List ℕ) (log : ℕ) : Type 0 where
   pub used : ℕ
   pub upTo : log ≡ lg + used
+  pub counts : log + total cs ≡ lg + total cs′
   pub inLog : log ≤ le
   pub size : length s′ ≡ length s
   pub heads : length cs′ ≡ length cs
@@ -58,13 +60,21 @@ pub record PieceStands (m : ℕ) (p : Piece) (k nx t : ℕ) (s′ cs′ : List �
   pub written : part s′ t (length (p .words)) ≡ p .words
   pub fits : length (p .words) + m ≤ 4 * k
 
--- the answer of a refusal
-abbrev pub stoppedAt : (place to log number : ℕ) → Walk
-stoppedAt p t l n = record { next = p; to = t; log = l; term = 0; refused = n }
+-- the answer of a walk that is not refused
+abbrev pub reachedAt : (next to log term : ℕ) → Walk
+reachedAt p t l v = record { next = p; to = t; log = l; term = v; refused = 0 }
 
+-- an answer without its term
+abbrev pub untold : Walk → Walk
+untold a = record { next = a .next; to = a .to; log = a .log; term = 0; refused = a .refused }
+
+-- the answer of a refusal: its number and place, and the end of the log, by which the counters are put back
+abbrev pub stoppedAt : (place log number : ℕ) → Walk
+stoppedAt p l n = record { next = p; to = 0; log = l; term = 0; refused = n }
+
+-- `Kept` says where the log ends
 pub record Stopped (n p : ℕ) (r : Walk) : Type 0 where
-  pub number : r .refused ≡ n
-  pub place : r .next ≡ p
+  pub is : r ≡ stoppedAt p (r .log) n
   pub some : 0 < n
 
 -- where the terms of a piece are: T says it
@@ -88,9 +98,25 @@ pub record OnStack (sp n lg : ℕ) (s′ : List ℕ) (r : Walk) (p : Piece) : Ty
   pub terms : part s′ sp n ≡ p .terms
   pub uses : r .log ≡ lg + p .count
 
+-- they are there, and none is in the answer
+abbrev pub OnlyOnStack : (sp n lg : ℕ) → List ℕ → Walk → Piece → Type 0
+OnlyOnStack sp n lg s′ r p = OnStack sp n lg s′ r p × (r .term ≡ 0)
+
 -- there are none
-abbrev pub NoTerms : Piece → Type 0
-NoTerms p = p .terms ≡ []
+abbrev pub NoTerms : Walk → Piece → Type 0
+NoTerms r p = (p .terms ≡ []) × (r .term ≡ 0)
+
+-- n terms are on the stack, of the words behind the first `front` of `size`; x is what they are made of, and a the walk over them. There is room for `size`
+-- words
+pub record Termed (front at to size n sp lg : ℕ) (x : Res Piece) (s cs s1 cs1 : List ℕ) (a : Walk) : Type 0 where
+  pub behind : ℕ
+  pub whole : size ≡ front + behind
+  pub walk : Walked n (OnStack sp n lg s1 a) x behind (at + front) to sp lg s cs s1 cs1 a
+  pub fine : a .refused ≡ 0
+  pub many : n ≤ behind
+  pub words : to + 4 * size ≤ sp
+  pub stack : sp + size ≤ lg
+  pub log : lg + size ≤ length s
 
 -- ---- what it asks
 
@@ -109,6 +135,15 @@ pub record Under (P : Sig → Type 0) : Type 0 where
 pub record Counted (sig : Sig) (cs : List ℕ) : Type 0 where
   pub few : heads sig ≤ limit12
   pub fits : heads sig ≤ length cs
+
+-- behind the walk a, whose n terms are on the stack, the kind 3 word w has a counter and room: for one use in the log, and for `own` words before the stack
+pub record UseFits (own w n sp : ℕ) (a : Walk) (s cs : List ℕ) : Type 0 where
+  pub high : headBase ≤ w
+  pub head : headOf w < limit12
+  pub counter : headOf w < length cs
+  pub log : a .log < length s
+  pub words : a .to + own ≤ sp
+  pub stack : sp + n ≤ length s
 
 -- what a reader reads from `at` on: `size` words, not past the end
 pub record ReadAt {A : Type 0} (one : Reader A) (ws : List ℕ) (at : ℕ) : Type 0 where

@@ -9,7 +9,7 @@ ghost use Rattle.rules.specs.Words.{limit12};
 ghost use Rattle.rules.specs.ToQuery.{fresh};
 ghost use Rattle.walks.specs.Log.{Taken, undone};
 ghost use Rattle.walks.specs.Leaves.{leavesUpTo};
-ghost use Rattle.walks.specs.Steps.{stoppedAt};
+ghost use Rattle.walks.specs.Steps.{reachedAt, stoppedAt, untold};
 
 // The refusals that a walk can meet.
 pub const UNBOUND: u32 = 7;
@@ -19,7 +19,7 @@ pub const ALREADY_DEFINED: u32 = 8;
 pub const USED_UP: u32 = 9;
 
 // The answer of a walk. Where `refused` is 0: the places behind what was read, behind what was written and behind what was logged, and the
-// term. Else `refused` is the refusal's number and `next` its place.
+// term. Else `refused` is the refusal's number, `next` its place and `log` the end of the log, by which the counters are put back; the others are 0.
 pub struct Walk {
     pub next: usize,
     pub to: usize,
@@ -28,16 +28,42 @@ pub struct Walk {
     pub refused: u32,
 }
 
-// The answer of a walk that is refused with this number at this place: nothing more was written or logged, and there is no term.
-pub fn stopped(place: usize, to: usize, log: usize, number: u32) -> Walk
-    ensures { λ r. ⌜ r ≡ stoppedAt place to log number ⌝ }
+// The answer of a walk that has come to these places; the term stands for what it read.
+pub fn reached(next: usize, to: usize, log: usize, term: u32) -> Walk
+    ensures { λ r. ⌜ r ≡ reachedAt next to log term ⌝ }
+{
+    Walk {
+        next,
+        to,
+        log,
+        term,
+        refused: 0,
+    }
+}
+
+// The answer of a walk that is refused with this number at this place.
+pub fn stopped(place: usize, log: usize, number: u32) -> Walk
+    ensures { λ r. ⌜ r ≡ stoppedAt place log number ⌝ }
 {
     Walk {
         next: place,
-        to,
+        to: 0,
         log,
         term: 0,
         refused: number,
+    }
+}
+
+// The same answer without its term, where none was asked for.
+pub fn without_term(walk: Walk) -> Walk
+    ensures { λ r. ⌜ r ≡ untold walk ⌝ }
+{
+    Walk {
+        next: walk.next,
+        to: walk.to,
+        log: walk.log,
+        term: 0,
+        refused: walk.refused,
     }
 }
 

@@ -60,6 +60,14 @@ kind-below k j w e h z = ⊎-elim none some (eq-zero-or-pos w)
         let t = leading-top 32 w p h in
         omega (arith, pow-mono {i = j} {j = t .0} (omega (arith, t .1)), t .2)
 
+-- so the count is below k just where the word is at least 2^j
+pub kind-test : (k j w : ℕ) → k + j ≡ 32 → w < 2 ^ 32 → ltb (leadingZeros 32 w) k ≡ leb (2 ^ j) w
+kind-test k j w e h = go (ltb (leadingZeros 32 w) k) refl
+  where
+    go : (b : Bool) → ltb (leadingZeros 32 w) k ≡ b → b ≡ leb (2 ^ j) w
+    go true t = sym (le-leb (2 ^ j) w (kind-below k j w e h (ltb-true (leadingZeros 32 w) k t)))
+    go false t = sym (lt-leb (2 ^ j) w (kind-from k j w e h (ltb-false (leadingZeros 32 w) k t)))
+
 -- a number from n up that is not n
 pub past : {n x : ℕ} → n ≤ x → (x ≡ n → ⊥) → suc n ≤ x
 past h f = omega arith

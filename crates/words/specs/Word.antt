@@ -11,6 +11,7 @@ use lib.Dec.{leb, ltb}
 use Rattle.rules.specs.Words.{limit16, freshBase, nameBase, literalBase, headBase, equalityBase, actionBase}
 use Rattle.rules.specs.Words.{signatureBase, actionWord, within, isNameWord, isLiteralWord}
 use Rattle.rules.specs.Words.{isEqualityWord, isHeaderWord, headOf, countOf, factsOf, actionsOf}
+use Rattle.words.specs.declared.HeadWord.{HeadWord}
 use Rattle.words.specs.declared.Word.{Word}
 use Rattle.words.specs.declared.Word.the-variants.{Fresh, Name, Literal, Head, Equality, Header, Action, Signature, Unfit}
 
@@ -61,3 +62,7 @@ numbersAt ws p = cond (ltb p (length ws)) (numbersOf (getD ws p 0)) (numbers Unf
 
 pub record WordSays (r : Word) (ws : List ℕ) (p : ℕ) : Type 0 where
   pub numbersAre : numbers r ≡ numbersAt ws p
+
+-- the head and the count of a word of kind 3
+abbrev pub headWordOf : ℕ → HeadWord
+headWordOf w = record { head = headOf w; count = countOf w }

@@ -1,10 +1,11 @@
 // What a word of a record says. Its kind is the count of its leading zero bits, and the bits after the first one bit are its payload.
 ghost use mathlib.Core.Path.{_≡_};
 ghost use Prim.Native.Nat.{_^_, _≤_, _<_};
+ghost use lib.Dec.{leb};
 ghost use lib.ListN.{getD};
 ghost use Rattle.octets.specs.Words.{words};
-ghost use Rattle.rules.specs.Words.{limit12, equalityBase, literalBase};
-ghost use Rattle.words.specs.Word.{numbers, numbersOf, WordSays};
+ghost use Rattle.rules.specs.Words.{limit12, equalityBase, headBase, literalBase};
+ghost use Rattle.words.specs.Word.{numbers, numbersOf, WordSays, headWordOf};
 ghost use Rattle.words.specs.Atom.{TermSays, headSign, laidOut, AtomSays, BeginsAtom, BeginsGood};
 
 // Heads, names, facts, atoms and actions are numbered below LIMIT_12, counts and literals below LIMIT_16.
@@ -128,6 +129,31 @@ pub fn word_at(rule: &[u8], at: usize) -> Word
         word_of(octets::get(rule, at))
     } else {
         Word::Unfit
+    }
+}
+
+// Whether the first word of an expression is a leaf, which is its own term: kinds 0 to 2. Any other is a call's, of kind 3.
+pub fn is_leaf(w: u32) -> bool
+    ensures { λ r. ⌜ r ≡ leb literalBase w ⌝ }
+{
+    u32::leading_zeros(w) < 3
+}
+
+// A word of kind 3, taken apart: its head, and how many words or expressions stand under it.
+pub struct HeadWord {
+    pub head: u32,
+    pub count: u32,
+}
+
+// What a word of kind 3 says.
+pub fn head_word(w: u32) -> HeadWord
+    requires { ⌜ headBase ≤ w ⌝ }
+    ensures { λ r. ⌜ r ≡ headWordOf w ⌝ }
+{
+    let p = w - HEAD_BASE;
+    HeadWord {
+        head: p / LIMIT_16,
+        count: p % LIMIT_16,
     }
 }
 

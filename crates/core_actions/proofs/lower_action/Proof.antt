@@ -22,7 +22,7 @@ start c = c .before .before .before .before .before
 
 -- the word is read
 at-get : (c : tie.After-get) → Coded (words (start c .args .signature .now)) (site (start c)) (c .get .result)
-at-get c = let p = start c .pre in coded (p .0) (p .1 .0) (p .1 .1 .0) (p .1 .1 .1) (c .get .ensures .is)
+at-get c = let p = start c .pre in coded (p .0) (p .1 .0) (p .1 .1) (p .1 .2) (c .get .ensures .is)
 
 get-requires : tie.Need-get-requires
 get-requires c κs =
@@ -38,7 +38,7 @@ lower-let-requires : tie.Need-lower-let-requires
 lower-let-requires c κs =
     let m = c .before .before in
     let g = at-get (m .before) in
-    (let-asks g (m .match .keys1), (g .room, (g .scopeRoom, g .top)))
+    (let-asks g (m .match .keys1), (g .room, g .scopeRoom, g .top))
 
 apart-requires : tie.Need-apart-requires
 apart-requires c κs = search needs
@@ -47,7 +47,7 @@ lower-change-requires : tie.Need-lower-change-requires
 lower-change-requires c κs =
     let m = c .before .before in
     let g = at-get (m .before) in
-    (set-asks g (m .match .keys2), (g .room, (g .scopeRoom, omega arith)))
+    (set-asks g (m .match .keys2), (g .room, g .scopeRoom, omega arith))
 
 apart-requires-2 : tie.Need-apart-requires-2
 apart-requires-2 c κs = search needs
@@ -56,7 +56,7 @@ lower-change-requires-2 : tie.Need-lower-change-requires-2
 lower-change-requires-2 c κs =
     let m = c .before .before in
     let g = at-get (m .before) in
-    (delete-asks g (m .match .keys3), (g .room, (g .scopeRoom, omega arith)))
+    (delete-asks g (m .match .keys3), (g .room, g .scopeRoom, omega arith))
 
 apart-requires-3 : tie.Need-apart-requires-3
 apart-requires-3 c κs = search needs
@@ -65,7 +65,7 @@ lower-change-requires-3 : tie.Need-lower-change-requires-3
 lower-change-requires-3 c κs =
     let m = c .before .before in
     let g = at-get (m .before) in
-    (subsume-asks g (m .match .keys4), (g .room, (g .scopeRoom, omega arith)))
+    (subsume-asks g (m .match .keys4), (g .room, g .scopeRoom, omega arith))
 
 lower-union-requires : tie.Need-lower-union-requires
 lower-union-requires c κs =

@@ -18,10 +18,13 @@ Inv-loop signature rule at n scope counters₀ scratch₀ to log left₀ names�
 abbrev μ-loop : tie.MeasureT-loop
 μ-loop signature rule at n scope counters₀ scratch₀ to log left₀ names₀ count₀ walk₀ counters scratch left names count walk = left
 
+reached-requires : tie.Need-reached-requires Inv-loop μ-loop
+reached-requires c κs = search needs
+
 loop-holds : tie.Need-loop-holds Inv-loop μ-loop
 loop-holds c =
-    let s = c .before .before .before .before in
-    (refl, refl, row-start (s .pre .0) (s .pre .1 .0) (s .pre .1 .1) (omega (arith, length-words (s .args .scratch .now), s .good)))
+    let s = c .before .before .before .before .before in
+    rw (c .reached .ensures) (refl, refl, row-start (s .pre .0) (s .pre .1 .0) (s .pre .1 .1) (omega (arith, length-words (s .args .scratch .now), s .good)))
 
 -- ---- the next action
 
@@ -34,7 +37,7 @@ lower-action-requires : tie.Need-lower-action-requires Inv-loop μ-loop
 lower-action-requires c κs =
     let t = c .before .before .before in
     let r = t .before .loop .inv .2 in
-    (turn-asks r (t .loop-test .taken), (turn-room r, (turn-scope r, refl)))
+    (turn-asks r (t .loop-test .taken), (turn-room r, turn-scope r, refl))
 
 -- back from where it is lowered to its turn, and from where its answer is tested to where it is lowered
 abbrev turn-of : tie.After-lower-action Inv-loop μ-loop → tie.In-loop Inv-loop μ-loop
@@ -43,8 +46,11 @@ turn-of c = c .before .before .before .before
 abbrev lowered : tie.After-struct-known2 Inv-loop μ-loop → tie.After-lower-action Inv-loop μ-loop
 lowered c = c .before .before .before .before .before .before
 
+abbrev entry : tie.After-slice-known2 Inv-loop μ-loop → tie.Start Inv-loop μ-loop
+entry c = c .before .before .before .before
+
 abbrev start : tie.In-loop Inv-loop μ-loop → tie.Start Inv-loop μ-loop
-start c = c .before .before .before .before .before .before
+start c = entry (c .before .before .before)
 
 -- both slices are as long as at the start
 counters-kept : (c : tie.After-lower-action Inv-loop μ-loop) → length (c .lower-action .last .1 .1 .1 .1 .0) ≡ length (start (turn-of c) .args .counters .now)
@@ -117,6 +123,7 @@ to-core-actions-spec =
     (tie.spec
     Inv-loop
     μ-loop
+    reached-requires
     loop-holds
     add-lower-action
     lower-action-requires

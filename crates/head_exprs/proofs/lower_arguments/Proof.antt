@@ -3,6 +3,7 @@
 use native.Mathlib.Omega.{arith}
 use Rattle.octets.specs.Words.{words}
 use Rattle.octets.proofs.Words.{length-words, length-words-kept}
+use Rattle.rules.specs.Words.{maxDepth}
 use Rattle.head_exprs.proofs.Sites.{Site, site-of, Begun, begun, tree}
 use Rattle.head_exprs.proofs.Fronts.{Row, front-room, Stacked, stacked, rest-asks, row-walked}
 use borrow.Author.Needs.{needs}
@@ -12,7 +13,7 @@ use Rattle.head_exprs.proofs.lower_arguments.Tie as tie
 abbrev site : tie.Start → Site
 site c = let a = c .args in site-of (words (a .rule .now)) (words (a .scratch .now)) (words (a .counters .now)) (a .at) (a .to) (a .sp) (a .log) (a .scope)
 
-at-start : (c : tie.Start) → Begun (site c) (Row (site c) (c .args .depth) (c .args .n))
+at-start : (c : tie.Start) → Begun (site c) (Row (site c) maxDepth (c .args .n))
 at-start c =
     let q = c .pre .0 in
     begun (record { sig = q .sig; known = (record { exprs = q .known .0 }, q .known .1, q .known .2) }) (c .pre .1 .0) (c .pre .1 .1)

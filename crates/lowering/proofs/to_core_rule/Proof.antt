@@ -133,7 +133,7 @@ at-actions c =
     let k = at-get (else-get (c .before .before .before .before)) in
     let y = at-get2 (c .before .before .before) in
     let a = c .to-core-actions in
-    headed y _ _ _ (length-words-kept _ _ (a .kept .1 .1 .1 .1 .1 .1 .0)) (λ x bound sc. a .ensures .1 (k .good .sig) x bound (head-counted y) sc (k .signature .signed))
+    headed y _ _ _ (length-words-kept _ _ (a .kept .1 .1 .1 .1 .1 .1 .0)) (λ x bound sc. a .ensures (k .good .sig) x bound (head-counted y) sc (k .signature .signed) .0)
 
 -- both slices are as long as at the start
 counters-kept : (c : tie.After-to-core-actions)

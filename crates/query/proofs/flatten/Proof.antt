@@ -5,6 +5,7 @@ use lib.ListN.{length}
 use Rattle.octets.specs.Words.{words}
 use Rattle.octets.proofs.Words.{length-words}
 use Rattle.walks.proofs.Asks.{expr-inside}
+use Rattle.walks.proofs.Words.{leaf-high, call-low}
 use Rattle.query.proofs.Spots.{Spot}
 use Rattle.query.proofs.Exprs.{leaf-answer}
 use borrow.Author.Needs.{needs}
@@ -24,19 +25,32 @@ get-requires c κs = inside (c .before .before .before)
 
 -- ---- a name or a literal
 
-abbrev start : tie.Then1 → tie.Start
-start c = c .before .before .before .before .before
+is-leaf-requires : tie.Need-is-leaf-requires
+is-leaf-requires c κs = search needs
 
-add-t11 : tie.Need-add-t11
-add-t11 c = omega (arith, inside (start c), length-words (start c .args .rule .now))
+abbrev start : tie.After-get → tie.Start
+start c = c .before .before .before .before
+
+add-reached : tie.Need-add-reached
+add-reached c = let s = start (c .before .before) in omega (arith, inside s, length-words (s .args .rule .now))
+
+reached-requires : tie.Need-reached-requires
+reached-requires c κs = search needs
 
 returns : tie.Need-returns
-returns c = leaf-answer (spot (start c)) (start c .args .depth) _ (c .before .get .ensures .is) (c .if1 .taken)
+returns c =
+    let t = c .before in
+    let g = t .before .before in
+    rw (c .reached .ensures) (leaf-answer (spot (start g)) (start g .args .depth) _ (g .get .ensures .is) (leaf-high (t .before .is-leaf .ensures) (t .if1 .taken)))
 
 -- ---- a call
 
 flatten-call-requires : tie.Need-flatten-call-requires
-flatten-call-requires c κs = search needs
+flatten-call-requires c κs =
+    let e = c .before .before in
+    let g = e .before .before in
+    let q = start g .pre in
+    (q .0, (q .1, (g .get .ensures .is, call-low (e .before .is-leaf .ensures) (e .if1 .left))))
 
 same-length : tie.Need-same-length
 same-length c = search needs
@@ -52,7 +66,9 @@ flatten-spec =
     tie.close
     (tie.spec
     get-requires
-    add-t11
+    is-leaf-requires
+    add-reached
+    reached-requires
     returns
     flatten-call-requires
     same-length

@@ -1,4 +1,4 @@
--- Flattening a fact: one that is no equality is flattened as an expression; of an equality the left side, then the right one from where the left one
+-- Flattening a fact: one that is no equality is flattened as an expression, whose term is not told; of an equality the left side, then the right one from where the left one
 -- ended, and its own atom behind both. What is known at a place of the code is said once, as a record of `Facts`. Assumes nothing.
 use Prim.Native.Nat.{ℕ}
 use mathlib.Core.Path.{_≡_, refl, _∙_}
@@ -44,6 +44,9 @@ then c = c .before .before .before
 flatten-requires : tie.Need-flatten-requires
 flatten-requires c κs = let h = c .before .before in (holds-known (at-get (h .before)) (h .if1 .taken), start (h .before) .pre .1)
 
+without-term-requires : tie.Need-without-term-requires
+without-term-requires c κs = search needs
+
 same-length : tie.Need-same-length
 same-length c = search needs
 
@@ -52,8 +55,9 @@ same-length-2 c = search needs
 
 returns : tie.Need-returns
 returns c =
-    let k : tie.After-flatten = c .before .before .before .before in
-    holds-answer (at-get (then k .before)) (then k .if1 .taken) _ _ _ (k .flatten .ensures)
+    let k : tie.After-flatten = c .before .before .before .before .before in
+    rw (c .without-term .ensures)
+    (holds-answer (at-get (then k .before)) (then k .if1 .taken) _ _ _ (k .flatten .ensures))
 
 -- ---- it is an equality: the left side
 
@@ -134,19 +138,25 @@ else-right c = c .before .before .before .before .before .before
 put-three-requires : tie.Need-put-three-requires
 put-three-requires c κs = three-room (at-right (else-right (c .before))) (c .before .if3 .left)
 
-abbrev written : tie.After-slice-known9 → tie.Else3
-written c = c .before .before .before .before
+reached-requires : tie.Need-reached-requires
+reached-requires c κs = search needs
+
+abbrev put : tie.After-reached → tie.After-put-three
+put c = c .before .before .before
+
+abbrev written : tie.After-reached → tie.Else3
+written c = put c .before .before
 
 same-length-7 : tie.Need-same-length-7
 same-length-7 c = counters-kept (else-right (written c))
 
 same-length-8 : tie.Need-same-length-8
-same-length-8 c = c .before .before .put-three .kept .0 ∙ scratch-kept (else-right (written c))
+same-length-8 c = put c .put-three .kept .0 ∙ scratch-kept (else-right (written c))
 
 returns-4 : tie.Need-returns-4
 returns-4 c =
-    let p = c .before .before .put-three in
-    equal-answer (at-right (else-right (written c))) _ _ (written c .if3 .left) (p .ensures .0) (p .ensures .1)
+    let p = put c .put-three in
+    rw (c .reached .ensures) (equal-answer (at-right (else-right (written c))) _ _ (written c .if3 .left) (p .ensures .0) (p .ensures .1))
 
 pub flatten-fact-spec : {M : Type 1} → statement M
 flatten-fact-spec =
@@ -154,6 +164,7 @@ flatten-fact-spec =
     (tie.spec
     get-requires
     flatten-requires
+    without-term-requires
     same-length
     same-length-2
     returns
@@ -167,6 +178,7 @@ flatten-fact-spec =
     same-length-6
     returns-3
     put-three-requires
+    reached-requires
     same-length-7
     same-length-8
     returns-4)

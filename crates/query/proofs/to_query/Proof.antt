@@ -18,8 +18,11 @@ Inv-loop rule at n counters₀ scratch₀ to sp log left₀ walk₀ counters scr
 abbrev μ-loop : tie.MeasureT-loop
 μ-loop rule at n counters₀ scratch₀ to sp log left₀ walk₀ counters scratch left walk = left
 
+reached-requires : tie.Need-reached-requires Inv-loop μ-loop
+reached-requires c κs = search needs
+
 loop-holds : tie.Need-loop-holds Inv-loop μ-loop
-loop-holds c = let q = c .before .before .before .pre in (refl, refl, row-start (q .0) (q .1))
+loop-holds c = let q = c .before .before .before .before .pre in rw (c .reached .ensures) (refl, refl, row-start (q .0) (q .1))
 
 -- ---- a turn
 
@@ -36,7 +39,7 @@ abbrev turn : Flattened → In
 turn c = c .before .before .before
 
 abbrev start : Flattened → tie.Start Inv-loop μ-loop
-start c = turn c .before .before .before .before .before
+start c = turn c .before .before .before .before .before .before
 
 -- both slices are as long as at the start
 counters-kept : (c : Flattened) → length (c .flatten-fact .last .1 .1 .0) ≡ length (start c .args .counters .now)
@@ -94,6 +97,7 @@ to-query-spec =
     (tie.spec
     Inv-loop
     μ-loop
+    reached-requires
     loop-holds
     flatten-fact-requires
     same-length

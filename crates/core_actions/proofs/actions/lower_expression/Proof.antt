@@ -19,8 +19,8 @@ at-start c =
     begun (c .pre .0) (c .pre .1 .0) (c .pre .1 .1) (omega (arith, length-words (c .args .rule .now), c .good))
     (omega (arith, length-words (c .args .scratch .now), c .good))
 
-add-lower : tie.Need-add-lower
-add-lower c = omega (arith, at-start (c .before .before .before))
+add-next : tie.Need-add-next
+add-next c = omega (arith, at-start (c .before .before .before))
 
 lower-requires : tie.Need-lower-requires
 lower-requires c κs = let s = c .before .before .before .before .before in asks (at-start s) (s .args .at + 1) (omega arith)
@@ -60,8 +60,11 @@ returns c =
 abbrev else-low : tie.Else1 → tie.After-lower
 else-low c = c .before .before .before .before .before .before
 
-sub-t10 : tie.Need-sub-t10
-sub-t10 c = let l = else-low (c .before) in expression-logged (at-start (start l)) (at-lower l)
+sub-done-action : tie.Need-sub-done-action
+sub-done-action c = let l = else-low (c .before) in expression-logged (at-start (start l)) (at-lower l)
+
+done-action-requires : tie.Need-done-action-requires
+done-action-requires c κs = search needs
 
 same-length-3 : tie.Need-same-length-3
 same-length-3 c = search needs
@@ -70,8 +73,12 @@ same-length-4 : tie.Need-same-length-4
 same-length-4 c = search needs
 
 returns-2 : tie.Need-returns-2
-returns-2 c = let l = else-low (c .before) in expression-done (at-start (start l)) (at-lower l) (c .before .if1 .left)
+returns-2 c =
+    let e = c .before .before in
+    let l = else-low e in
+    rw (c .done-action .ensures) (expression-done (at-start (start l)) (at-lower l) (e .if1 .left))
 
 pub lower-expression-spec : {M : Type 1} → statement M
 lower-expression-spec =
-    tie.close (tie.spec add-lower lower-requires refused-action-requires same-length same-length-2 returns sub-t10 same-length-3 same-length-4 returns-2)
+    tie.close
+    (tie.spec add-next lower-requires refused-action-requires same-length same-length-2 returns sub-done-action done-action-requires same-length-3 same-length-4 returns-2)

@@ -23,10 +23,10 @@ at-start : (c : tie.Start) (v : ℕ) → v ≡ getD (words (c .args .rule .now))
 at-start c v is =
     record {
       begun =
-          begun (c .pre .0) (c .pre .1 .0) (c .pre .1 .1 .0) (omega (arith, length-words (c .args .rule .now), c .good))
+          begun (c .pre .0) (c .pre .1 .0) (c .pre .1 .1) (omega (arith, length-words (c .args .rule .now), c .good))
           (omega (arith, length-words (c .args .scratch .now), c .good));
       is = is;
-      end = c .pre .1 .1 .1;
+      end = c .pre .1 .2;
     }
 
 add-get : tie.Need-add-get
@@ -69,8 +69,8 @@ else-get c = c .before .before .before
 at-free : (c : tie.Else1) → Free (site (start (else-get c))) (else-get c .get .result)
 at-free c = is-free (at-get (else-get c)) (taken-as (else-get c .get .result) (c .before .taken .ensures)) (c .if1 .left)
 
-add-lower : tie.Need-add-lower
-add-lower c = omega (arith, at-get (else-get c) .begun)
+add-next : tie.Need-add-next
+add-next c = omega (arith, at-get (else-get c) .begun)
 
 lower-requires : tie.Need-lower-requires
 lower-requires c κs = expr-asks (at-get (else-get (c .before .before)))
@@ -127,25 +127,32 @@ put-requires c κs = let p = c .before .before .before in omega (arith, at-else 
 abbrev put-three : tie.After-put → tie.After-put-three
 put-three c = c .before .before .before .before
 
-sub-t12 : tie.Need-sub-t12
-sub-t12 c = at-else (three-else (put-three (c .before .before .before))) .logged
+sub-done-action : tie.Need-sub-done-action
+sub-done-action c = at-else (three-else (put-three (c .before .before .before))) .logged
 
-add-t28 : tie.Need-add-t28
-add-t28 c = omega (arith, at-else (three-else (put-three (c .before .before .before))))
+add-done-action : tie.Need-add-done-action
+add-done-action c = omega (arith, at-else (three-else (put-three (c .before .before .before))))
+
+done-action-requires : tie.Need-done-action-requires
+done-action-requires c κs = search needs
+
+abbrev end-put : tie.After-done-action → tie.After-put
+end-put c = c .before .before .before .before
 
 same-length-4 : tie.Need-same-length-4
-same-length-4 c = else-low (three-else (put-three (c .before .before .before))) .lower .kept .1 .1 .1 .1 .0
+same-length-4 c = else-low (three-else (put-three (end-put c))) .lower .kept .1 .1 .1 .1 .0
 
 same-length-5 : tie.Need-same-length-5
 same-length-5 c =
-    let p = c .before .before .before in
+    let p = end-put c in
     p .put .kept .0 ∙ put-three p .put-three .kept .0 ∙ else-low (three-else (put-three p)) .lower .kept .1 .1 .1 .1 .1 .0
 
 returns-3 : tie.Need-returns-3
 returns-3 c =
-    let p = c .before .before .before in
+    let p = end-put c in
     let q = three-else (put-three p) in
-    let-done (at-free (low-else (else-low q))) (at-lower (else-low q)) (q .if2 .left) (put-three p .put-three .ensures) (p .put .ensures)
+    rw (c .done-action .ensures)
+    (let-done (at-free (low-else (else-low q))) (at-lower (else-low q)) (q .if2 .left) (put-three p .put-three .ensures) (p .put .ensures))
 
 pub lower-let-spec : {M : Type 1} → statement M
 lower-let-spec =
@@ -158,7 +165,7 @@ lower-let-spec =
     refused-action-requires
     same-length
     returns
-    add-lower
+    add-next
     lower-requires
     refused-action-requires-2
     same-length-2
@@ -166,8 +173,9 @@ lower-let-spec =
     returns-2
     put-three-requires
     put-requires
-    sub-t12
-    add-t28
+    sub-done-action
+    add-done-action
+    done-action-requires
     same-length-4
     same-length-5
     returns-3)

@@ -42,15 +42,18 @@ put-two-requires c κs = omega (arith, at-get (c .before))
 abbrev put-get : tie.After-put-two → tie.After-get
 put-get c = c .before .before
 
-add-t11 : tie.Need-add-t11
-add-t11 c = omega (arith, at-get (put-get (c .before .before)))
+add-done-action : tie.Need-add-done-action
+add-done-action c = omega (arith, at-get (put-get (c .before .before)))
+
+done-action-requires : tie.Need-done-action-requires
+done-action-requires c κs = search needs
 
 same-length : tie.Need-same-length
 same-length c = search needs
 
 returns : tie.Need-returns
-returns c = panic-done (at-get (put-get (c .before .before))) (c .before .before .put-two .ensures)
+returns c = let p = c .before .before .before in rw (c .done-action .ensures) (panic-done (at-get (put-get p)) (p .put-two .ensures))
 
 pub lower-panic-spec : {M : Type 1} → statement M
 lower-panic-spec =
-    tie.close (tie.spec add-get get-requires put-two-requires add-t11 same-length returns)
+    tie.close (tie.spec add-get get-requires put-two-requires add-done-action done-action-requires same-length returns)

@@ -5,31 +5,40 @@ use Prim.Native.Nat.{_+_, _^_, _<_}
 use native.Mathlib.Omega.{arith}
 use Rattle.octets.specs.Words.{words}
 use Rattle.octets.proofs.Words.{length-words, length-words-kept}
-use Rattle.core_actions.proofs.Closing.{Used, closed-full, closed}
+use Rattle.walks.proofs.Uses.{Used, head-used}
+use Rattle.walks.proofs.Words.{head-says}
+use Rattle.core_actions.proofs.Closing.{closed-full, closed}
 use borrow.Author.Needs.{needs}
 use Rattle.core_actions.proofs.actions.put_change.Statement.{statement}
 use Rattle.core_actions.proofs.actions.put_change.Tie as tie
 
-sub-h : tie.Need-sub-h
-sub-h c = c .before .before .pre .high
+abbrev entry : tie.After-head-word → tie.Start
+entry c = c .before .before .before
+
+head-word-requires : tie.Need-head-word-requires
+head-word-requires c κs = let s = c .before .before in s .pre .0 .high
 
 take-requires : tie.Need-take-requires
 take-requires c κs =
-    let f = c .before .before .before .before .pre in
-    (f .head, f .counter, f .log)
+    let h = c .before .before in
+    let fits = entry h .pre .0 in
+    rw (head-says (h .head-word .ensures)) (fits .head, fits .counter, fits .log)
 
 -- ---- a fresh variable is taken
 
+abbrev word : tie.After-take → tie.After-head-word
+word c = c .before .before .before
+
 abbrev start : tie.After-take → tie.Start
-start c = c .before .before .before .before .before
+start c = entry (word c)
 
 at-take : (c : tie.After-take)
     → let a = start c .args in
-    Used (a .w) (a .n) (a .sp) (a .log) (words (a .scratch .now)) (words (a .counters .now)) (a .terms)
+    Used 2 (a .w) (a .n) (a .sp) (words (a .scratch .now)) (words (a .counters .now)) (a .terms)
     (words (c .take .last .1 .0)) (words (c .take .last .0)) (c .take .result)
 at-take c =
     let t = c .take in
-    record { fits = start c .pre; taken = t .ensures; size = length-words-kept _ _ (t .kept .1 .0); counters = length-words-kept _ _ (t .kept .0) }
+    head-used (start c .pre .0) (head-says (word c .head-word .ensures)) (t .ensures) (length-words-kept _ _ (t .kept .1 .0)) (length-words-kept _ _ (t .kept .0))
 
 -- ---- none is left
 
@@ -68,33 +77,39 @@ put-else c = c .before .before
 
 -- the log's next place is a place of the scratch
 log-fits : (c : tie.After-take) → start c .args .terms .log + 1 < 2 ^ 64
-log-fits c = omega (arith, start c .pre .log, length-words (start c .args .scratch .now), start c .good)
+log-fits c = omega (arith, start c .pre .0 .log, length-words (start c .args .scratch .now), start c .good)
 
-add-t22 : tie.Need-add-t22
-add-t22 c = omega (arith, log-fits (else-take (put-else (c .before .before .before))))
+add-done-action : tie.Need-add-done-action
+add-done-action c = omega (arith, log-fits (else-take (put-else (c .before .before .before))))
 
-sub-t24 : tie.Need-sub-t24
-sub-t24 c = start (else-take (put-else (c .before .before .before .before))) .pre .logged
+sub-done-action : tie.Need-sub-done-action
+sub-done-action c = start (else-take (put-else (c .before .before .before .before))) .pre .1
 
-add-t25 : tie.Need-add-t25
-add-t25 c = omega (arith, log-fits (else-take (put-else (c .before .before .before .before))))
+add-done-action-2 : tie.Need-add-done-action-2
+add-done-action-2 c = omega (arith, log-fits (else-take (put-else (c .before .before .before .before))))
+
+done-action-requires : tie.Need-done-action-requires
+done-action-requires c κs = search needs
+
+abbrev end-put : tie.After-done-action → tie.After-put-terms
+end-put c = c .before .before .before .before .before
 
 same-length-3 : tie.Need-same-length-3
 same-length-3 c = search needs
 
 same-length-4 : tie.Need-same-length-4
-same-length-4 c = let p = c .before .before .before .before in p .put-terms .kept .0 ∙ else-take (put-else p) .take .kept .1 .0
+same-length-4 c = let p = end-put c in p .put-terms .kept .0 ∙ else-take (put-else p) .take .kept .1 .0
 
 returns-2 : tie.Need-returns-2
 returns-2 c =
-    let p = c .before .before .before .before in
-    closed (at-take (else-take (put-else p))) _ _ (put-else p .if1 .left) (p .put-terms .ensures)
+    let p = end-put c in
+    rw (c .done-action .ensures) (closed (at-take (else-take (put-else p))) _ _ (put-else p .if1 .left) (p .put-terms .ensures))
 
 pub put-change-spec : {M : Type 1} → statement M
 put-change-spec =
     tie.close
     (tie.spec
-    sub-h
+    head-word-requires
     take-requires
     stopped-requires
     refused-action-requires
@@ -102,9 +117,10 @@ put-change-spec =
     same-length-2
     returns
     put-terms-requires
-    add-t22
-    sub-t24
-    add-t25
+    add-done-action
+    sub-done-action
+    add-done-action-2
+    done-action-requires
     same-length-3
     same-length-4
     returns-2)

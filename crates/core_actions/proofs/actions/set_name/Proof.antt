@@ -1,16 +1,17 @@
 -- A union of a name and a call that becomes a set: the name is one more term behind those of the call's arguments, so that the end of the action is that
 -- of any other with a head; it is refused where an argument, the name or the count is. Assumes nothing.
 use Prim.Native.Nat.{ℕ, _+_, _-_}
-use mathlib.Core.Path.{_≡_, refl, _∙_}
+use mathlib.Core.Path.{_≡_, refl, ap, _∙_}
 use native.Mathlib.Omega.{arith}
-use lib.ListN.{length, getD}
+use lib.ListN.{length, getD, set}
 use Rattle.octets.specs.Words.{words}
 use Rattle.octets.proofs.Words.{length-words, length-words-kept}
 use Rattle.rules.specs.Words.{maxDepth, countOf}
+use Rattle.walks.proofs.Words.{count-says}
 use Rattle.head_exprs.proofs.Scopes.{reads-as}
 use Rattle.head_exprs.proofs.Sites.{Site, site-of, begun, begun-as}
 use Rattle.core_actions.specs.Acts.{NameCallAt}
-use Rattle.core_actions.proofs.Changes.{exprs-ask, Argued, argued, Fine, is-fine}
+use Rattle.core_actions.proofs.Changes.{exprs-ask, Argued, argued, Fine, is-fine, fits-as}
 use Rattle.core_actions.proofs.NameSets.{name-call-at, Naming, args-refused, name-asks, name-refused, end-asks, set-ends}
 use borrow.Author.Needs.{needs}
 use Rattle.core_actions.proofs.actions.set_name.Statement.{statement}
@@ -53,25 +54,29 @@ get-requires-2 c κs = omega (arith, at-start (start c) _ _ refl refl .begun)
 at-get : (c : tie.After-get2) → Naming (site (start (c .before))) (c .before .get .result) (c .get2 .result)
 at-get c = at-start (start (c .before)) _ _ (c .before .get .ensures .is) (c .get2 .ensures .is)
 
-sub-n : tie.Need-sub-n
-sub-n c = at-get c .begun .tree .it .high
+head-word-requires : tie.Need-head-word-requires
+head-word-requires c κs = at-get c .begun .tree .it .high
+
+-- its count is that of the word
+counted : (c : tie.After-head-word) → c .head-word .result .count ≡ countOf (c .before .get2 .result)
+counted c = count-says (c .head-word .ensures)
 
 cast-n : tie.Need-cast-n
 cast-n c = search needs
 
 add-lower-all : tie.Need-add-lower-all
-add-lower-all c = omega (arith, at-get c .begun)
-
-sub-lower-all : tie.Need-sub-lower-all
-sub-lower-all c = search needs
+add-lower-all c = omega (arith, at-get (c .before .before) .begun)
 
 lower-all-requires : tie.Need-lower-all-requires
-lower-all-requires c κs = exprs-ask (at-get (c .before .before) .begun)
+lower-all-requires c κs = let h = c .before .before .before in exprs-ask (counted h) (at-get (h .before) .begun)
 
 -- ---- the arguments
 
+abbrev args-word : tie.After-lower-all → tie.After-head-word
+args-word c = c .before .before .before .before
+
 abbrev args-call : tie.After-lower-all → tie.After-get2
-args-call c = c .before .before .before
+args-call c = args-word c .before
 
 at-args : (c : tie.After-lower-all)
     → let a = c .lower-all in
@@ -79,7 +84,7 @@ at-args : (c : tie.After-lower-all)
     Argued (site (start (args-call c .before))) 3 (maxDepth - 1) (countOf w) w (words (a .last .1 .1 .1 .1 .1 .1 .0)) (words (a .last .1 .1 .1 .1 .1 .0)) (a .result)
 at-args c =
     let a = c .lower-all in
-    argued (at-get (args-call c) .begun) (length-words-kept _ _ (a .kept .1 .1 .1 .1 .1 .1 .0)) (length-words-kept _ _ (a .kept .1 .1 .1 .1 .1 .0)) (a .ensures)
+    argued (counted (args-word c)) (at-get (args-call c) .begun) (length-words-kept _ _ (a .kept .1 .1 .1 .1 .1 .1 .0)) (length-words-kept _ _ (a .kept .1 .1 .1 .1 .1 .0)) (a .ensures)
 
 -- ---- one of them is refused
 
@@ -118,10 +123,10 @@ abbrev then-else : tie.Then2 → tie.Else1
 then-else c = c .before .before .before
 
 add-put : tie.Need-add-put
-add-put c = omega (arith, at-else (then-else (c .before)))
+add-put c = let e = then-else (c .before) in omega (arith, at-else e, counted (args-word (else-args e)))
 
 put-requires : tie.Need-put-requires
-put-requires c κs = omega (arith, at-else (then-else (c .before)))
+put-requires c κs = let e = then-else (c .before) in omega (arith, at-else e, counted (args-word (else-args e)))
 
 -- ---- the name is put behind them, and the end of the action is written
 
@@ -131,18 +136,27 @@ put-then c = c .before .before
 at-put : (c : tie.After-put) → length (words (c .put .last .0)) ≡ length (words (else-args (then-else (put-then c)) .lower-all .last .1 .1 .1 .1 .1 .1 .0))
 at-put c = length-words-kept _ _ (c .put .kept .0)
 
+-- which leaves the scratch so
+pushed : (c : tie.After-put)
+    → let a = else-args (then-else (put-then c)) in
+    words (c .put .last .0) ≡ set (words (a .lower-all .last .1 .1 .1 .1 .1 .1 .0)) (start (args-call a .before) .args .sp + countOf (args-call a .get2 .result)) (args-call a .before .get .result)
+pushed c =
+    let a = else-args (then-else (put-then c)) in
+    c .put .ensures ∙ ap (λ (i : ℕ). set (words (a .lower-all .last .1 .1 .1 .1 .1 .1 .0)) (start (args-call a .before) .args .sp + i) (args-call a .before .get .result)) (counted (args-word a))
+
 add-put-change : tie.Need-add-put-change
 add-put-change c = omega (arith, at-else (then-else (put-then (c .before .before))))
 
 add-put-change-2 : tie.Need-add-put-change-2
-add-put-change-2 c = omega (arith, at-else (then-else (put-then (c .before .before))))
+add-put-change-2 c = let e = then-else (put-then (c .before .before)) in omega (arith, at-else e, counted (args-word (else-args e)))
 
 put-change-requires : tie.Need-put-change-requires
 put-change-requires c κs =
     let p = c .before .before .before .before in
     let d = put-then p in
     let a = else-args (then-else d) in
-    end-asks (at-get (args-call a)) (at-args a) (at-else (then-else d)) (reads-as (args-call a .before .get .result) (d .before .may-read .ensures)) (d .if2 .taken) (p .put .ensures) (at-put p)
+    fits-as (ap (λ (i : ℕ). i + 1) (counted (args-word a)))
+    (end-asks (at-get (args-call a)) (at-args a) (at-else (then-else d)) (reads-as (args-call a .before .get .result) (d .before .may-read .ensures)) (d .if2 .taken) (pushed p) (at-put p))
 
 abbrev change-put : tie.After-put-change → tie.After-put
 change-put c = c .before .before .before .before .before
@@ -166,8 +180,8 @@ returns-2 c =
     let p = change-put (end-change c) in
     let d = put-then p in
     let a = else-args (then-else d) in
-    set-ends (at-get (args-call a)) (at-args a) (at-else (then-else d)) (reads-as (args-call a .before .get .result) (d .before .may-read .ensures)) (d .if2 .taken) (p .put .ensures)
-    (end-change c .put-change .ensures)
+    set-ends (at-get (args-call a)) (at-args a) (at-else (then-else d)) (reads-as (args-call a .before .get .result) (d .before .may-read .ensures)) (d .if2 .taken) (pushed p)
+    (counted (args-word a)) (end-change c .put-change .ensures)
 
 -- ---- the name may not be read
 
@@ -201,10 +215,9 @@ set-name-spec =
     get-requires
     add-get-2
     get-requires-2
-    sub-n
+    head-word-requires
     cast-n
     add-lower-all
-    sub-lower-all
     lower-all-requires
     refused-action-requires
     same-length

@@ -23,8 +23,8 @@ at-start c =
     begun (c .pre .0) (c .pre .1 .0) (c .pre .1 .1) (omega (arith, length-words (c .args .rule .now), c .good))
     (omega (arith, length-words (c .args .scratch .now), c .good))
 
-add-lower : tie.Need-add-lower
-add-lower c = omega (arith, at-start (c .before .before .before))
+add-next : tie.Need-add-next
+add-next c = omega (arith, at-start (c .before .before .before))
 
 lower-requires : tie.Need-lower-requires
 lower-requires c κs = left-asks (at-start (c .before .before .before .before .before))
@@ -119,29 +119,35 @@ put-three-requires c κs = at-else2 (c .before) .words
 abbrev three-else : tie.After-put-three → tie.Else2
 three-else c = c .before .before
 
-sub-t12 : tie.Need-sub-t12
-sub-t12 c = at-else2 (three-else (c .before .before .before)) .logged
+sub-done-action : tie.Need-sub-done-action
+sub-done-action c = at-else2 (three-else (c .before .before .before)) .logged
 
-add-t25 : tie.Need-add-t25
-add-t25 c = omega (arith, at-else2 (three-else (c .before .before .before)))
+add-done-action : tie.Need-add-done-action
+add-done-action c = omega (arith, at-else2 (three-else (c .before .before .before)))
+
+done-action-requires : tie.Need-done-action-requires
+done-action-requires c κs = search needs
+
+abbrev end-put : tie.After-done-action → tie.After-put-three
+end-put c = c .before .before .before .before
 
 same-length-5 : tie.Need-same-length-5
-same-length-5 c = counters-kept (else-right (three-else (c .before .before .before)))
+same-length-5 c = counters-kept (else-right (three-else (end-put c)))
 
 same-length-6 : tie.Need-same-length-6
-same-length-6 c = let p = c .before .before .before in p .put-three .kept .0 ∙ scratch-kept (else-right (three-else p))
+same-length-6 c = let p = end-put c in p .put-three .kept .0 ∙ scratch-kept (else-right (three-else p))
 
 returns-3 : tie.Need-returns-3
 returns-3 c =
-    let p = c .before .before .before in
+    let p = end-put c in
     let q = three-else p in
-    union-done (at-else1 (right-else (else-right q))) (at-right (else-right q)) (q .if2 .left) (p .put-three .ensures)
+    rw (c .done-action .ensures) (union-done (at-else1 (right-else (else-right q))) (at-right (else-right q)) (q .if2 .left) (p .put-three .ensures))
 
 pub unite-spec : {M : Type 1} → statement M
 unite-spec =
     tie.close
     (tie.spec
-    add-lower
+    add-next
     lower-requires
     refused-action-requires
     same-length
@@ -153,8 +159,9 @@ unite-spec =
     same-length-4
     returns-2
     put-three-requires
-    sub-t12
-    add-t25
+    sub-done-action
+    add-done-action
+    done-action-requires
     same-length-5
     same-length-6
     returns-3)

@@ -29,7 +29,7 @@ lower-change-requires : tie.Need-lower-change-requires
 lower-change-requires c κs =
     let t = c .before .before in
     let g = at-mode (t .before) in
-    (left-asks g (t .if1 .taken), (g .room, (g .scopeRoom, omega arith)))
+    (left-asks g (t .if1 .taken), (g .room, g .scopeRoom, omega arith))
 
 same-length : tie.Need-same-length
 same-length c = search needs
