@@ -1,4 +1,5 @@
-// Reads what flat rules hold, atoms and actions: whether their words fit, which is refusal 5, and whether each atom has the terms it needs, which are refusals 11 and 12.
+// Reads what flat rules hold, atoms and actions: whether their words fit, which is refusal 5, and whether each atom has the terms it needs, which are
+// refusals 11 and 12.
 use words::Atom;
 use words::FRESH_BASE;
 use words::HeadOrEq;

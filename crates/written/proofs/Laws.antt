@@ -8,7 +8,7 @@ use native.Mathlib.Omega.{arith}
 use lib.ListN.{length, getD}
 use lib.Dec.{ltb, eqb, lit<}
 use lib.Count.{leadingZeros}
-use borrow.Author.Tests.{ltb-true, ltb-false, lt-ltb, le-ltb, ne-eqb, eq-eqb}
+use borrow.Author.Tests.{ltb-true, ltb-false, lt-ltb, le-ltb, ne-eqb, eq-eqb, eqb-true}
 use Rattle.rules.specs.Words.{limit12, limit16, maxDepth, nameBase, literalBase, headBase, equalityWord, actionWord, isNameWord, isLiteralWord, isHeadWord}
 use Rattle.rules.specs.Words.{isEqualityWord, countOf, Code, aLet, aSet, aPanic, codeOf}
 use Rattle.rules.specs.Refusals.{Res, ok, refuse, _>>=_, unfit, tooDeep}
@@ -19,11 +19,13 @@ use Rattle.words.specs.Word.{kind}
 use Rattle.words.specs.declared.Word.the-variants.{Name, Literal, Head, Equality, Action}
 use Rattle.words.proofs.Ranges.{kind-from, kind-below, true-within, false-below, false-above, heads-below}
 use Rattle.words.proofs.WordLaws.{wordOf, name-kind, literal-kind, equality-kind, said}
+use Rattle.meaning.proofs.Lists.{and-left, and-right}
 use Rattle.written.specs.declared.Walk.{Walk}
 use Rattle.written.specs.declared.Start.{Start}
 use Rattle.written.specs.declared.Start.the-variants.{Takes, Other}
 use Rattle.written.specs.Written.{withHeads, walk, walkOf, leafEnd, startSays, taken, takenAt, Starts}
-use Rattle.written.proofs.Walking.{made, then-made, moved, just-one, last-one}
+use Rattle.written.proofs.Walking.{made, then-made, moved, just-one, last-one, left-start, left-stops, left-next, left-on, none-left}
+use Rattle.written.proofs.Ends.{exprs}
 use Rattle.words.proofs.WordAt.{Here, There, NotKind}
 use Rattle.written.proofs.Expected.{kind-fits, kind-unfit, heads-most, with-below, head-other, head-high, head-fits, head-count}
 use Rattle.written.proofs.Expected.{no-code, as-code, change-code, NoneOf, last-code}
@@ -76,6 +78,46 @@ module _ {s : Sig} {ws : List ℕ} {p n : ℕ} (b : Starts s ws p n) where
       go isLeaf h = let none : n ≡ 0 = cc in rw none refl
       go isCall h = let same : n ≡ countOf (getD ws p 0) = cc in rw same (sym (made (readMany (readExpr s ws d) (countOf (getD ws p 0)) (suc p)) _))
       go isBad h = cc
+
+-- ---- several expressions
+
+-- what is left of them, `left` from `next` on, each up to `deep` deep: it answers as the whole does, and begins no lower and no deeper
+pub record Rest (s : Sig) (ws : List ℕ) (depth count at deep left next : ℕ) : Type 0 where
+  pub same : walkOf (readMany (readExpr s ws deep) left next) ≡ walkOf (readMany (readExpr s ws depth) count at)
+  pub on : at ≤ next
+  pub down : deep ≤ depth
+
+pub rest-start : {s : Sig} {ws : List ℕ} {depth count at : ℕ} → Rest s ws depth count at depth count at
+rest-start = record { same = refl; on = omega arith; down = omega arith }
+
+-- what the code asks before it reads the arguments of the last one in its place: none is left behind it, and it may have arguments
+pub last-told : (left n deep : ℕ) → (eqb left 0 && ltb 0 n) && ltb 0 deep ≡ true → (left ≡ 0) × (0 < deep)
+last-told left n deep h =
+    let both = and-left (eqb left 0 && ltb 0 n) (ltb 0 deep) h in
+    (eqb-true left 0 (and-left (eqb left 0) (ltb 0 n) both), ltb-true 0 deep (and-right (eqb left 0 && ltb 0 n) (ltb 0 deep) h))
+
+module _ {s : Sig} {ws : List ℕ} {depth count at deep left next : ℕ} (r : Rest s ws depth count at deep left next) where
+  pub rest-end : left ≡ 0 → walk 0 next ≡ walkOf (readMany (readExpr s ws depth) count at)
+  rest-end z = none-left (exprs s ws deep) left next z ∙ r .same
+
+  module _ {w : Walk} (e : w ≡ walkOf (readExpr s ws deep next)) where
+    pub rest-stops : 0 < left → ¬ (w .refused ≡ 0) → w ≡ walkOf (readMany (readExpr s ws depth) count at)
+    rest-stops some h = left-stops (left-start {k = exprs s ws deep}) some e h ∙ r .same
+
+    pub rest-on : w .refused ≡ 0 → next < w .at
+    rest-on h = left-on (left-start {k = exprs s ws deep} {count = left} {at = next}) e h
+
+    pub rest-next : 0 < left → w .refused ≡ 0 → Rest s ws depth count at deep (left - 1) (w .at)
+    rest-next some h =
+        let further = rest-on h in
+        record { same = left-next (left-start {k = exprs s ws deep}) some e h .same ∙ r .same; on = omega (arith, r .on); down = r .down }
+
+  -- the last one's arguments stand for it
+  pub rest-last : {n : ℕ} → Starts s ws next n → 0 < left → left - 1 ≡ 0 → 0 < deep → Rest s ws depth count at (deep - 1) n (next + 1)
+  rest-last {n} b some last more =
+      let one : left ≡ 1 = omega arith in
+      let here = ap (λ (k : ℕ). walkOf (readMany (readExpr s ws deep) k next)) one ∙ just-one (readExpr s ws deep) next in
+      record { same = one-deeper b deep (λ z. omega arith) ∙ sym here ∙ r .same; on = omega (arith, r .on); down = omega (arith, r .down) }
 
 -- ---- how it begins, by the range that its word lies in
 

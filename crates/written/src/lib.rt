@@ -92,12 +92,14 @@ fn expression(rule: &[u8], heads: u32, at: usize, count: u32, depth: u32) -> Wal
     arguments(rule, heads, next, count, depth - 1)
 }
 
-// `count` expressions, one after the other, each of which may hold expressions `depth` deep. Each is taken by its first word, or refused there.
+// `count` expressions, one after the other, each of which may hold expressions `depth` deep. Each is taken by its first word, or refused there. Behind the
+// arguments of the last one nothing is left to read, so that they are read in its place, without a call.
 fn arguments(rule: &[u8], heads: u32, at: usize, count: u32, depth: u32) -> Walk
     ensures { λ r. ⌜ r ≡ walkOf (readMany (readExpr (withHeads heads) (words (now (rule .entry))) depth) count at) ⌝ }
 {
     let mut next = at;
     let mut left = count;
+    let mut deep = depth;
     while 0 < left {
         let Start::Takes(some) = start_at(rule, heads, next) else {
             return Walk {
@@ -106,11 +108,17 @@ fn arguments(rule: &[u8], heads: u32, at: usize, count: u32, depth: u32) -> Walk
             };
         };
         left -= 1;
-        let read = expression(rule, heads, next, some, depth);
-        if read.refused != 0 {
-            return read;
+        if (left == 0) & (0 < some) & (0 < deep) {
+            next += 1;
+            left = some;
+            deep -= 1;
+        } else {
+            let read = expression(rule, heads, next, some, deep);
+            if read.refused != 0 {
+                return read;
+            }
+            next = read.at;
         }
-        next = read.at;
     }
     Walk {
         refused: 0,
