@@ -2,7 +2,7 @@
 -- their cycle. Each expression is taken by how it begins, and what is left of a row answers as the whole does: its next one is read, or, where that is the
 -- last, its arguments stand for it. Assumes nothing.
 use mathlib.Core.Path.{_≡_, _∙_}
-use Prim.Native.Nat.{ℕ, _+_, _-_, _≤_, _<_}
+use Prim.Native.Nat.{ℕ, _+_, _-_, _<_}
 use native.Mathlib.Omega.{arith}
 use lib.ListN.{length}
 use borrow.Author.Needs.{needs}

@@ -1,8 +1,7 @@
 -- The count of leading zeros is a range of numbers: it tells a leaf from a head, and by the end of its kind whether a leaf fits. Assumes nothing.
 use mathlib.Core.Path.{refl}
-use Prim.Native.Nat.{_^_, _≤_, _<_}
+use Prim.Native.Nat.{_≤_, _<_}
 use native.Mathlib.Omega.{arith}
-use lib.Count.{leadingZeros}
 use borrow.Author.Needs.{needs}
 use Rattle.octets.specs.Words.{words}
 use Rattle.rules.specs.Words.{headBase, literalBase}
