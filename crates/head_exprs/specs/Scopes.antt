@@ -11,6 +11,10 @@ use Rattle.rules.specs.Words.{limit12, nameBase, freshBase}
 use Rattle.rules.specs.Signature.{Sig, elem}
 use Rattle.head_exprs.specs.declared.scope.Scope.{Scope}
 
+-- where no name is let
+abbrev pub firstScope : (globals body first : ℕ) → Scope
+firstScope g b f = record { globals = g; body = b; first = f; names = 0 }
+
 unfoldable pub inScope : List ℕ → Scope → ℕ → Bool
 inScope s c w = elem w (part s 0 (c .body)) || elem w (part s (c .first) (c .names))
 

@@ -1,7 +1,7 @@
 // Which names are bound: those among the words of the body's atoms, and those let so far.
 ghost use mathlib.Core.Path.{_≡_};
 ghost use Rattle.octets.specs.Words.{words};
-ghost use Rattle.head_exprs.specs.Scopes.{inScope, mayRead, isTaken, ScopeFits};
+ghost use Rattle.head_exprs.specs.Scopes.{firstScope, inScope, mayRead, isTaken, ScopeFits};
 
 // Names below `globals` are globals. The body's words are the first `body` of the scratch; the `names` words from `first` on are let.
 pub struct Scope {
@@ -9,6 +9,18 @@ pub struct Scope {
     pub body: usize,
     pub first: usize,
     pub names: usize,
+}
+
+// The scope with which a head starts: no name is let.
+pub fn first_scope(globals: u32, body: usize, first: usize) -> Scope
+    ensures { λ r. ⌜ r ≡ firstScope globals body first ⌝ }
+{
+    Scope {
+        globals,
+        body,
+        first,
+        names: 0,
+    }
 }
 
 // Whether the variable w is bound.

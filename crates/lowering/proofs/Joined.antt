@@ -23,12 +23,12 @@ use Rattle.walks.proofs.Frames.{kept-wide, kept-then, restored}
 use Rattle.walks.proofs.Steps.{high, Went, went}
 use Rattle.walks.proofs.Read.{moved}
 use Rattle.query.specs.Flattened.{queryPiece, query, FactsAt}
-use Rattle.head_exprs.specs.Scopes.{Scoped, ScopeRoom, Names}
+use Rattle.head_exprs.specs.Scopes.{firstScope, Scoped, ScopeRoom, Names}
 use Rattle.head_exprs.specs.declared.scope.Scope.{Scope}
 use Rattle.head_exprs.proofs.Body.{scope-first}
 use Rattle.core_actions.specs.Acts.{ActionsAt, donePiece, Gave}
 use Rattle.core_actions.specs.declared.actions.Acted.{Acted}
-use Rattle.lowering.specs.Lowered.{Good, refusal, Lowers}
+use Rattle.lowering.specs.Lowered.{Good, accepted, refusal, Lowers}
 use Rattle.lowering.specs.declared.Lowering.{Lowering}
 use Rattle.lowering.proofs.SignatureWords.{SignatureWords, signature-words}
 use Rattle.lowering.proofs.RuleWords.{RuleWords, rule-words}
@@ -141,7 +141,7 @@ pub record Ready {gs ws cs s : List ℕ} {n w : ℕ} {k : Begun gs ws cs s n w} 
 
 module _ {gs ws cs s : List ℕ} {n w : ℕ} {k : Begun gs ws cs s n w} {s1 cs1 : List ℕ} {b : Walk} {f : Flattened k s1 cs1 b} {g : ℕ} (y : Ready f g) where
   abbrev scope : Scope
-  scope = record { globals = g; body = b .to; first = 28 * n; names = 0 }
+  scope = firstScope g (b .to) (28 * n)
 
   pub body-went : Went 0 (Facts k .size) 1 0 (30 * n) b
   body-went = went (queryPiece (toQuery (Facts k .value) cs)) (told f) (y .fine)
@@ -192,9 +192,14 @@ module _ {gs ws cs s : List ℕ} {n w : ℕ} {k : Begun gs ws cs s n w} {s1 cs1 
 -- ---- the head is lowered: h, with s2 and cs2 left behind
 
 module _ {gs ws cs s : List ℕ} {n w : ℕ} {k : Begun gs ws cs s n w} {s1 cs1 : List ℕ} {b : Walk} {f : Flattened k s1 cs1 b} {g : ℕ} (y : Ready f g) (s2 cs2 : List ℕ) (h : Acted) where
+  -- under a scope
+  abbrev pub LowerUnder : Scope → Type 0
+  LowerUnder c =
+      (x : ActionsAt (k .good .sig) ws (actionsOf w) (b .next)) (bound : List ℕ) → Scoped (k .good .sig) bound s1 c
+      → Walked 0 (Gave h) (donePiece (toCoreActions (k .good .sig) bound (x .value) cs1)) (x .size) (b .next) (24 * n) (c .first + c .names) (b .log) s1 cs1 s2 cs2 (h .walk)
+
   abbrev pub Lower : Type 0
-  Lower = (x : ActionsAt (k .good .sig) ws (actionsOf w) (b .next)) (bound : List ℕ) → Scoped (k .good .sig) bound s1 (scope y)
-      → HeadWalk y s2 cs2 h (toCoreActions (k .good .sig) bound (x .value) cs1) (x .size)
+  Lower = LowerUnder (scope y)
 
   pub record Headed : Type 0 where
     pub lower : Lower
@@ -204,8 +209,9 @@ module _ {gs ws cs s : List ℕ} {n w : ℕ} {k : Begun gs ws cs s n w} {s1 cs1 
     pub logFrom : 30 * n ≤ h .walk .log
     pub logTo : h .walk .log ≤ 31 * n
 
-  pub headed : length s2 ≡ length s1 → Lower → Headed
-  headed es lower =
+  pub headed : {c : Scope} → c ≡ scope y → length s2 ≡ length s1 → LowerUnder c → Headed
+  headed is es under =
+      let lower : Lower = subst LowerUnder is under in
       let kept = lower (actions-at y) (names-at y .bound) (names-at y .scoped) .kept in
       let u = body-went y in
       let i = Actions k .inside in
@@ -249,7 +255,7 @@ module _ {gs ws cs s : List ℕ} {n w : ℕ} {k : Begun gs ws cs s n w} {s1 cs1 
 
   -- both are fine
   abbrev result : Lowering
-  result = record { refused = 0; place = 0; body = b .to; head = h .walk .to - 24 * n; actions = h .count; log = h .walk .log - 30 * n }
+  result = accepted b h (24 * n) (30 * n)
 
   pub both-done : h .walk .refused ≡ 0 → Answers k s2 cs2 result
   both-done fine = by-cases cs2 result (λ q is z x u. go q is z x u)

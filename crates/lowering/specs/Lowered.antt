@@ -3,7 +3,7 @@
 -- Assumes nothing: these are definitions.
 use mathlib.Core.Path.{_≡_}
 use mathlib.Core.List.{List}
-use Prim.Native.Nat.{ℕ, _+_, _*_, _<_, _≤_}
+use Prim.Native.Nat.{ℕ, _+_, _-_, _*_, _<_, _≤_}
 use lib.ListN.{length}
 use Rattle.octets.specs.Regions.{part, At}
 use Rattle.rules.specs.Refusals.{Res, ok, refuse}
@@ -12,6 +12,8 @@ use Rattle.rules.specs.Written.{Rule, readWritten}
 use Rattle.rules.specs.Flat.{atomWords, actionWords, wordsOf}
 use Rattle.rules.specs.ToCoreActions.{CoreRule}
 use Rattle.walks.specs.Log.{undone, total}
+use Rattle.walks.specs.declared.Walk.{Walk}
+use Rattle.core_actions.specs.declared.actions.Acted.{Acted}
 use Rattle.lowering.specs.declared.Lowering.{Lowering}
 
 -- signature and rule were read, there is a counter for each head, and room
@@ -38,6 +40,10 @@ pub record Made (c : CoreRule) (n : ℕ) (cs s′ cs′ : List ℕ) (r : Lowerin
   pub log : r .log + total cs ≡ total cs′
   pub logFits : r .log ≤ n
   pub undo : undone (part s′ (30 * n) (r .log)) cs′ ≡ cs
+
+-- the answer of two walks that are done, of which the head wrote from `to` on, and both logged from `log` on
+abbrev pub accepted : Walk → Acted → (to log : ℕ) → Lowering
+accepted b h to log = record { refused = 0; place = 0; body = b .to; head = h .walk .to - to; actions = h .count; log = h .walk .log - log }
 
 -- the answer of a refusal: its number and place alone
 abbrev pub refusal : (number place : ℕ) → Lowering

@@ -55,11 +55,11 @@ get-requires c κs = at-count c .read .some
 sub-counts : tie.Need-sub-counts
 sub-counts c = at-get c .read .header
 
-cast-to-query : tie.Need-cast-to-query
-cast-to-query c = search needs
+mul-stack : tie.Need-mul-stack
+mul-stack c = omega (arith, at-count c)
 
-mul-to-query : tie.Need-mul-to-query
-mul-to-query c = omega (arith, at-get (c .before .before))
+cast-facts : tie.Need-cast-facts
+cast-facts c = search needs
 
 to-query-requires : tie.Need-to-query-requires
 to-query-requires c κs = let k = at-get (c .before .before) in (record { sig = k .good .sig; known = (k .read .facts, k .counted) }, body-room k)
@@ -76,22 +76,24 @@ at-query c =
 abbrev then-query : tie.Then1 → tie.After-to-query
 then-query c = c .before .before .before .before .before .before
 
-sub-restore : tie.Need-sub-restore
-sub-restore c = at-query (then-query (c .before .before .before)) .logFrom
+refuse-requires : tie.Need-refuse-requires
+refuse-requires c κs = let f = at-query (then-query (c .before .before)) in (f .logFrom, omega (arith, f))
 
-restore-requires : tie.Need-restore-requires
-restore-requires c κs = omega (arith, at-query (then-query (c .before .before .before)))
+abbrev refused : tie.After-refuse → tie.Then1
+refused c = c .before .before .before
 
 same-length : tie.Need-same-length
-same-length c = c .before .before .restore .kept .0 ∙ then-query (c .before .before .before .before .before .before) .to-query .kept .1 .1 .1 .0
+same-length c = let r = c .before .before in r .refuse .kept .1 .0 ∙ then-query (refused r) .to-query .kept .1 .1 .1 .0
 
 same-length-2 : tie.Need-same-length-2
 same-length-2 c = search needs
 
 returns : tie.Need-returns
 returns c =
-    let t = c .before .before .before .before .before .before in
-    body-back (at-query (then-query t)) (t .if1 .taken) (c .before .before .restore .ensures)
+    let r = c .before .before in
+    let t = refused r in
+    let e = r .refuse .ensures in
+    rw (e .0) (body-back (at-query (then-query t)) (t .if1 .taken) (e .1))
 
 -- ---- the body is fine
 
@@ -108,86 +110,97 @@ at-get2 c = record { fine = c .before .if1 .left; globals = ap (λ (u : ℕ). u 
 get-requires-2 : tie.Need-get-requires-2
 get-requires-2 c κs = omega (arith, at-get (else-get c) .signature .signed .inside)
 
-sub-t25 : tie.Need-sub-t25
-sub-t25 c = omega (arith, at-get (else-get (c .before)) .signature .globals, c .get2 .ensures .is)
+sub-globals : tie.Need-sub-globals
+sub-globals c = omega (arith, at-get (else-get (c .before)) .signature .globals, c .get2 .ensures .is)
 
-mul-to-core-actions : tie.Need-mul-to-core-actions
-mul-to-core-actions c = omega (arith, at-get (else-get (c .before)))
+first-scope-requires : tie.Need-first-scope-requires
+first-scope-requires c κs = search needs
+
+abbrev scope-get : tie.After-first-scope → tie.After-get
+scope-get c = else-get (c .before .before)
 
 cast-to-core-actions : tie.Need-cast-to-core-actions
 cast-to-core-actions c = search needs
 
-mul-to-core-actions-2 : tie.Need-mul-to-core-actions-2
-mul-to-core-actions-2 c = omega (arith, at-get (else-get (c .before .before .before)))
+mul-to-core-actions : tie.Need-mul-to-core-actions
+mul-to-core-actions c = omega (arith, at-get (scope-get (c .before .before)))
 
 to-core-actions-requires : tie.Need-to-core-actions-requires
 to-core-actions-requires c κs =
-    let k = at-get (else-get (c .before .before .before)) in
-    let y = at-get2 (c .before .before) in
-    (record { sig = k .good .sig; known = (actions-at y, head-counted y, names-at y, k .signature .signed) }, (head-room y, head-scope-room y))
+    let f = c .before .before in
+    let k = at-get (scope-get f) in
+    let y = at-get2 (f .before) in
+    rw (f .first-scope .ensures) (record { sig = k .good .sig; known = (actions-at y, head-counted y, names-at y, k .signature .signed) }, (head-room y, head-scope-room y))
+
+abbrev head-scope : tie.After-to-core-actions → tie.After-first-scope
+head-scope c = c .before .before .before
 
 -- the head is lowered
 at-actions : (c : tie.After-to-core-actions)
-    → let a = c .to-core-actions in Headed (at-get2 (c .before .before .before)) (words (a .last .1 .1 .1 .1 .1 .1 .0)) (words (a .last .1 .1 .1 .1 .1 .0)) (a .result)
+    → let a = c .to-core-actions in Headed (at-get2 (head-scope c .before)) (words (a .last .1 .1 .1 .1 .1 .1 .0)) (words (a .last .1 .1 .1 .1 .1 .0)) (a .result)
 at-actions c =
-    let k = at-get (else-get (c .before .before .before .before)) in
-    let y = at-get2 (c .before .before .before) in
+    let f = head-scope c in
+    let k = at-get (scope-get f) in
+    let y = at-get2 (f .before) in
     let a = c .to-core-actions in
-    headed y _ _ _ (length-words-kept _ _ (a .kept .1 .1 .1 .1 .1 .1 .0)) (λ x bound sc. a .ensures (k .good .sig) x bound (head-counted y) sc (k .signature .signed) .0)
+    headed y _ _ _ (f .first-scope .ensures) (length-words-kept _ _ (a .kept .1 .1 .1 .1 .1 .1 .0))
+    (λ x bound sc. a .ensures (k .good .sig) x bound (head-counted y) sc (k .signature .signed) .0)
+
+abbrev head-query : tie.After-to-core-actions → tie.After-to-query
+head-query c = else-query (head-scope c .before .before)
 
 -- both slices are as long as at the start
 counters-kept : (c : tie.After-to-core-actions)
-    → length (c .to-core-actions .last .1 .1 .1 .1 .1 .0) ≡ length (start (else-get (c .before .before .before .before) .before) .args .counters .now)
-counters-kept c = c .to-core-actions .kept .1 .1 .1 .1 .1 .0 ∙ else-query (c .before .before .before .before) .to-query .kept .1 .1 .1 .0
+    → length (c .to-core-actions .last .1 .1 .1 .1 .1 .0) ≡ length (start (scope-get (head-scope c) .before) .args .counters .now)
+counters-kept c = c .to-core-actions .kept .1 .1 .1 .1 .1 .0 ∙ head-query c .to-query .kept .1 .1 .1 .0
 
 scratch-kept : (c : tie.After-to-core-actions)
-    → length (c .to-core-actions .last .1 .1 .1 .1 .1 .1 .0) ≡ length (start (else-get (c .before .before .before .before) .before) .args .scratch .now)
-scratch-kept c = c .to-core-actions .kept .1 .1 .1 .1 .1 .1 .0 ∙ else-query (c .before .before .before .before) .to-query .kept .1 .1 .1 .1 .0
+    → length (c .to-core-actions .last .1 .1 .1 .1 .1 .1 .0) ≡ length (start (scope-get (head-scope c) .before) .args .scratch .now)
+scratch-kept c = c .to-core-actions .kept .1 .1 .1 .1 .1 .1 .0 ∙ head-query c .to-query .kept .1 .1 .1 .1 .0
 
 -- ---- the head is refused
 
 abbrev then-actions : tie.Then2 → tie.After-to-core-actions
 then-actions c = c .before .before .before .before .before .before
 
-sub-restore-2 : tie.Need-sub-restore-2
-sub-restore-2 c = at-actions (then-actions (c .before .before .before)) .logFrom
+refuse-requires-2 : tie.Need-refuse-requires-2
+refuse-requires-2 c κs = let m = at-actions (then-actions (c .before .before)) in (m .logFrom, omega (arith, m))
 
-restore-requires-2 : tie.Need-restore-requires-2
-restore-requires-2 c κs = omega (arith, at-actions (then-actions (c .before .before .before)))
+abbrev head-refused : tie.After-refuse2 → tie.Then2
+head-refused c = c .before .before .before
 
 same-length-3 : tie.Need-same-length-3
-same-length-3 c = c .before .before .restore2 .kept .0 ∙ counters-kept (then-actions (c .before .before .before .before .before .before))
+same-length-3 c = let r = c .before .before in r .refuse2 .kept .1 .0 ∙ counters-kept (then-actions (head-refused r))
 
 same-length-4 : tie.Need-same-length-4
-same-length-4 c = scratch-kept (then-actions (c .before .before .before .before .before .before))
+same-length-4 c = scratch-kept (then-actions (head-refused (c .before .before)))
 
 returns-2 : tie.Need-returns-2
 returns-2 c =
-    let t = c .before .before .before .before .before .before in
-    head-back (at-actions (then-actions t)) (t .if2 .taken) (c .before .before .restore2 .ensures)
+    let r = c .before .before in
+    let t = head-refused r in
+    let e = r .refuse2 .ensures in
+    rw (e .0) (head-back (at-actions (then-actions t)) (t .if2 .taken) (e .1))
 
 -- ---- both are fine
 
 abbrev else-actions : tie.Else2 → tie.After-to-core-actions
 else-actions c = c .before .before .before .before .before .before
 
-mul-t12 : tie.Need-mul-t12
-mul-t12 c = omega (arith, at-get (else-get (else-actions c .before .before .before .before)))
+mul-made : tie.Need-mul-made
+mul-made c = omega (arith, at-get (scope-get (head-scope (else-actions c))))
 
-sub-t17 : tie.Need-sub-t17
-sub-t17 c = head-ends (at-actions (else-actions (c .before))) (c .before .if2 .left)
-
-sub-t36 : tie.Need-sub-t36
-sub-t36 c = at-actions (else-actions (c .before .before)) .logFrom
+made-requires : tie.Need-made-requires
+made-requires c κs = let m = at-actions (else-actions c) in (head-ends m (c .if2 .left), m .logFrom)
 
 same-length-5 : tie.Need-same-length-5
-same-length-5 c = counters-kept (else-actions (c .before .before))
+same-length-5 c = counters-kept (else-actions (c .before))
 
 same-length-6 : tie.Need-same-length-6
-same-length-6 c = scratch-kept (else-actions (c .before .before))
+same-length-6 c = scratch-kept (else-actions (c .before))
 
 returns-3 : tie.Need-returns-3
-returns-3 c = both-done (at-actions (else-actions (c .before .before))) (c .before .before .if2 .left)
+returns-3 c = let e = c .before in rw (c .made .ensures) (both-done (at-actions (else-actions e)) (e .if2 .left))
 
 pub to-core-rule-spec : {M : Type 1} → statement M
 to-core-rule-spec =
@@ -195,30 +208,27 @@ to-core-rule-spec =
     (tie.spec
     count-requires
     mul-log
+    mul-stack
     get-requires
     sub-counts
-    cast-to-query
-    mul-to-query
+    cast-facts
     to-query-requires
-    sub-restore
-    restore-requires
+    refuse-requires
     same-length
     same-length-2
     returns
     get-requires-2
-    sub-t25
-    mul-to-core-actions
+    sub-globals
+    first-scope-requires
     cast-to-core-actions
-    mul-to-core-actions-2
+    mul-to-core-actions
     to-core-actions-requires
-    sub-restore-2
-    restore-requires-2
+    refuse-requires-2
     same-length-3
     same-length-4
     returns-2
-    mul-t12
-    sub-t17
-    sub-t36
+    mul-made
+    made-requires
     same-length-5
     same-length-6
     returns-3)
