@@ -16,15 +16,11 @@ use Rattle.walks.proofs.Steps.{high, went, none-walked, walk-then, retold}
 use Rattle.walks.proofs.Read.{moved, row-cases, no-row-cases}
 use Rattle.walks.proofs.Rows.{Going, going-next}
 use Rattle.walks.proofs.Words.{words-append}
-use Rattle.head_exprs.specs.Scopes.{Scoped}
+use Rattle.head_exprs.specs.Scopes.{having, Scoped}
 use Rattle.head_exprs.specs.declared.scope.Scope.{Scope}
 use Rattle.core_actions.specs.Acts.{donePiece, ActionAt, ActionsAt, Acts, NamesAfter}
 use Rattle.core_actions.specs.declared.actions.Acted.{Acted}
 use Rattle.core_actions.proofs.ReadActions.{action-on, action-some}
-
--- the scope with this many names let
-abbrev pub having : Scope → ℕ → Scope
-having c n = record { globals = c .globals; body = c .body; first = c .first; names = n }
 
 -- each flat action has a word
 count-words : (xs : List CoreAction) → length xs ≤ length (wordsOf actionWords xs)

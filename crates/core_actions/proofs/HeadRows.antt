@@ -1,5 +1,5 @@
 -- The row of a head's actions, as the loop over it walks it: what is so between two turns, what a turn's call asks, and each way out. Assumes nothing.
-use mathlib.Core.Path.{_≡_, refl, _∙_}
+use mathlib.Core.Path.{_≡_, refl, _∙_, subst}
 use mathlib.Core.List.{List}
 use Prim.Native.Nat.{ℕ, _+_, _-_, _^_, _≤_, _<_}
 use native.Mathlib.Omega.{arith}
@@ -10,17 +10,18 @@ use Rattle.rules.specs.ToCoreActions.{Done, lowerAction, toCoreActions}
 use Rattle.walks.specs.Steps.{Piece, Walked, Room, Under, Counted}
 use Rattle.walks.specs.declared.Walk.{Walk}
 use Rattle.walks.proofs.Asks.{counted-kept}
-use Rattle.walks.proofs.Steps.{went, retold, none-told, halted}
+use Rattle.walks.proofs.Steps.{went, retold, halted}
 use Rattle.walks.proofs.Rows.{Going, going-start, going-room}
-use Rattle.head_exprs.specs.Scopes.{Scoped, ScopeRoom, Names}
+use Rattle.head_exprs.specs.Scopes.{having, Scoped, ScopeRoom, Names}
 use Rattle.head_exprs.specs.declared.scope.Scope.{Scope}
 use Rattle.head_exprs.proofs.Sites.{Site, site-of, RoomAt, ScopeRoomAt}
+use Rattle.head_exprs.proofs.Arguments.{here-on}
 use Rattle.head_exprs.proofs.Expressions.{standing}
 use Rattle.core_actions.specs.Acts.{donePiece, ActionAt, ActionsAt, Acts, refusedAction, Gave, NamesAfter, Signed}
 use Rattle.core_actions.specs.declared.actions.Acted.{Acted}
 use Rattle.core_actions.proofs.Does.{KnownSigned, DoesAction}
 use Rattle.core_actions.proofs.ReadActions.{action-inside}
-use Rattle.core_actions.proofs.ActionRows.{having, acts-few, Left, left-all, left-none, left-names, first-action, left-stop, left-next, left-going}
+use Rattle.core_actions.proofs.ActionRows.{acts-few, Left, left-all, left-none, left-names, first-action, left-stop, left-next, left-going}
 
 -- the head: the words of the signature, the rule, the scratch and the counters, n actions from `at` on, and where they are written
 pub record Head : Type 0 where
@@ -52,9 +53,13 @@ module _ (h : Head) where
       → Walked 0 (Gave r) (donePiece (toCoreActions sig bound (x .value) (h .cs))) (x .size) (h .at) (h .to) sp (h .lg) (h .s) (h .cs) s′ cs′ (r .walk)
       × NamesAfter (toCoreActions sig bound (x .value) (h .cs)) bound (h .scope) r
 
-  -- what the next action is given, with these names let
+  -- what the next action is given under a scope
+  abbrev pub turn-under : Scope → ℕ → List ℕ → List ℕ → Walk → Site
+  turn-under c names s1 cs1 w = site-of (h .ws) s1 cs1 (w .next) (w .to) (h .scope .first + names) (w .log) c
+
+  -- with these names let
   abbrev pub turn : ℕ → List ℕ → List ℕ → Walk → Site
-  turn names s1 cs1 w = site-of (h .ws) s1 cs1 (w .next) (w .to) (h .scope .first + names) (w .log) (having (h .scope) names)
+  turn names s1 cs1 w = turn-under (having (h .scope) names) names s1 cs1 w
 
 -- where the walk is refused, no name is let
 no-names : {T : Piece → Type 0} {k at to sp lg : ℕ} {s cs s′ cs′ : List ℕ} {a : Walk} (bound : List ℕ) (c : Scope) (x : Res Done)
@@ -136,7 +141,10 @@ module _ {h : Head} {left names count : ℕ} {s1 cs1 : List ℕ} {w : Walk} (row
     names-below = omega (arith, turn-room .stack, turn-room .log, action-inside (row .known .sig) (h .ws) (w .next) first, row .scratch, row .fits)
 
     -- it is lowered: a, with s2 and cs2 left behind
-    module _ {s2 cs2 : List ℕ} {a : Acted} (does : DoesAction (turn h names s1 cs1 w) (h .gs) s2 cs2 a) where
+    module _ {c : Scope} (is : c ≡ having (h .scope) names) {s2 cs2 : List ℕ} {a : Acted} (under : DoesAction (turn-under h c names s1 cs1 w) (h .gs) s2 cs2 a) where
+      does : DoesAction (turn h names s1 cs1 w) (h .gs) s2 cs2 a
+      does = subst (λ (c : Scope). DoesAction (turn-under h c names s1 cs1 w) (h .gs) s2 cs2 a) is under
+
       -- one that is refused refuses the row
       pub row-stop : (a .walk .refused ≡ 0 → ⊥) → Answers h s2 cs2 (refusedAction (a .walk))
       row-stop bad sig x bound n sc sg =
@@ -165,7 +173,7 @@ module _ {h : Head} {left names count : ℕ} {s1 cs1 : List ℕ} {w : Walk} (row
             let r = turn-room in
             omega (arith, few .1, row .written, g .upTo, first .inside, r .words, r .stack, r .log, row .scratch, row .fits)
 
-        pub row-next : length cs2 ≡ length cs1 → length s2 ≡ length s1 → Row h (left - 1) (names + a .names) (count + a .count) s2 cs2 (a .walk)
+        pub row-next : length cs2 ≡ length cs1 → length s2 ≡ length s1 → Row h (left - 1) (names + a .names) (count + a .count) s2 cs2 (standing (a .walk .next) (a .walk .to) (a .walk .log))
         row-next ec es =
             let q = row .known in
             record {
@@ -176,12 +184,15 @@ module _ {h : Head} {left names count : ℕ} {s1 cs1 : List ℕ} {w : Walk} (row
               scratch = es ∙ row .scratch;
               counters = ec ∙ row .counters;
               going =
-                  left-going (q .sig) (q .known .2 .bound) (h .ws) (h .n) (h .at) (h .to) (h .lg) (h .scope) (h .s) (h .cs) (q .known .0) left names count s1 cs1 w here some turn-room s2 cs2 a
-                  (λ y. does (q .sig) y (here .now) (counted-kept (q .known .1) (row .counters)) (here .scoped) (q .known .3)) (row .room) (row .going) fine;
-              silent = none-told (donePiece (lowerAction (row .known .sig) (here .now) (first .value) cs1)) (acts .piece) (λ p t. t .1);
+                  here-on
+                  (left-going (q .sig) (q .known .2 .bound) (h .ws) (h .n) (h .at) (h .to) (h .lg) (h .scope) (h .s) (h .cs) (q .known .0) left names count s1 cs1 w here some turn-room s2 cs2 a
+                  (λ y. does (q .sig) y (here .now) (counted-kept (q .known .1) (row .counters)) (here .scoped) (q .known .3)) (row .room) (row .going) fine);
+              silent = refl;
               written = omega (arith, few .1, row .written);
               rest =
                   λ sig x bound n sc sg. let l = row .rest sig x bound n sc sg in
+                  let m =
                   left-next sig bound (h .ws) (h .n) (h .at) (h .to) (h .lg) (h .scope) (h .s) (h .cs) x left names count s1 cs1 w l some turn-room s2 cs2 a
-                  (λ y. does sig y (l .now) (counted-kept n (row .counters)) (l .scoped) sg) fine;
+                  (λ y. does sig y (l .now) (counted-kept n (row .counters)) (l .scoped) sg) fine in
+                  record { rest = m .rest; now = m .now; scoped = m .scoped; let′ = m .let′; last = m .last; whole = m .whole };
             }

@@ -12,10 +12,10 @@ use Rattle.rules.specs.Signature.{Sig, heads, isConstructor, isName}
 use Rattle.rules.specs.Written.{Expr, Exprs, leaf, call, readAction, readRow}
 use Rattle.rules.specs.Flat.{actionWords, wordsOf}
 use Rattle.rules.specs.ToQuery.{Fresh, fresh}
-use Rattle.rules.specs.ToCoreActions.{Done}
-use Rattle.walks.specs.Steps.{Piece, reachedAt, Walked, UseFits, ReadAt, ExprAt, ExprsAt}
+use Rattle.rules.specs.ToCoreActions.{Done, toCoreActions}
+use Rattle.walks.specs.Steps.{Piece, reachedAt, Walked, UseFits, Room, Counted, ReadAt, ExprAt, ExprsAt}
 use Rattle.walks.specs.declared.Walk.{Walk}
-use Rattle.head_exprs.specs.Scopes.{Scoped, grown}
+use Rattle.head_exprs.specs.Scopes.{Scoped, ScopeRoom, grown}
 use Rattle.head_exprs.specs.Lowered.{loweredAll}
 use Rattle.head_exprs.specs.declared.scope.Scope.{Scope}
 use Rattle.core_actions.specs.declared.actions.Acted.{Acted}
@@ -130,3 +130,16 @@ setMode sig (call p h es) (call q g fs) = 0
 -- how many expressions stand under the first word of an expression
 abbrev pub arityOf : ℕ → ℕ
 arityOf w = cond (ltb w literalBase) (countOf w) 0
+
+-- ---- a row of actions
+
+-- room for the n words of a rule from `at` on, whose stack starts behind the names of the scope
+abbrev pub RowRoom : (n at to lg : ℕ) → Scope → (len : ℕ) → Type 0
+RowRoom n at to lg c len = Room n at to (c .first + c .names) lg len × ScopeRoom n at to (c .first + c .names) c
+
+-- the n actions from `at` on are lowered, whichever a signature that the words gs say reads there, and whatever is bound
+abbrev pub ActsAll : (gs ws : List ℕ) (n at to lg : ℕ) → Scope → (s cs s′ cs′ : List ℕ) → Acted → Type 0
+ActsAll gs ws n at to lg c s cs s′ cs′ r =
+    (sig : Sig) (x : ActionsAt sig ws n at) (bound : List ℕ) → Counted sig cs → Scoped sig bound s c → Signed sig gs
+    → Walked 0 (Gave r) (donePiece (toCoreActions sig bound (x .value) cs)) (x .size) at to (c .first + c .names) lg s cs s′ cs′ (r .walk)
+    × NamesAfter (toCoreActions sig bound (x .value) cs) bound c r

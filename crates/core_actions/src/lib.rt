@@ -8,6 +8,7 @@ pub mod unions; // unions.rt: unions, and those that become sets
 
 use crate::actions::Acted;
 use crate::actions::apart;
+use crate::actions::done_action;
 use crate::actions::lower_change;
 use crate::actions::lower_expression;
 use crate::actions::lower_let;
@@ -15,16 +16,17 @@ use crate::actions::lower_panic;
 use crate::actions::refused_action;
 use crate::unions::lower_union;
 use head_exprs::scope::Scope;
+use head_exprs::scope::with_names;
 ghost use mathlib.Core.Path.{_≡_};
 ghost use mathlib.Core.List.{List};
 ghost use Prim.Native.Nat.{ℕ, _+_};
 ghost use lib.ListN.{length};
 ghost use Rattle.octets.specs.Words.{words};
 ghost use Rattle.rules.specs.Signature.{Sig};
-ghost use Rattle.rules.specs.ToCoreActions.{lowerAction, toCoreActions};
-ghost use Rattle.walks.specs.Steps.{Walked, Room, Under, Counted};
+ghost use Rattle.rules.specs.ToCoreActions.{lowerAction};
+ghost use Rattle.walks.specs.Steps.{Room, Under, Counted};
 ghost use Rattle.head_exprs.specs.Scopes.{Scoped, ScopeRoom, Names};
-ghost use Rattle.core_actions.specs.Acts.{donePiece, ActionAt, ActionsAt, Acts, Gave, NamesAfter, Signed};
+ghost use Rattle.core_actions.specs.Acts.{ActionAt, ActionsAt, Acts, ActsAll, RowRoom, Signed};
 
 // A word that does not fit.
 const UNFIT: u32 = 5;
@@ -77,43 +79,29 @@ pub fn to_core_actions(
 ) -> Acted
     requires { ⌜ Under (λ sig. ActionsAt sig (words (now rule)) n at × Counted sig (words (now counters)) × Names sig (words (now scratch)) scope
         × Signed sig (words (now signature))) ⌝ }
-    requires { ⌜ Room (length (words (now rule))) at to (scope .first + scope .names) log (length (words (now scratch))) ⌝ }
-    requires { ⌜ ScopeRoom (length (words (now rule))) at to (scope .first + scope .names) scope ⌝ }
-    ensures { λ r. ⌜ ((sig : Sig) (x : ActionsAt sig (words (now (rule .entry))) n at) (bound : List ℕ)
-        → Counted sig (words (now (counters .entry))) → Scoped sig bound (words (now (scratch .entry))) scope → Signed sig (words (now (signature .entry)))
-        → Walked 0 (Gave r) (donePiece (toCoreActions sig bound (x .value) (words (now (counters .entry))))) (x .size)
-        at to (scope .first + scope .names) log (words (now (scratch .entry))) (words (now (counters .entry))) (words (now (scratch .exit))) (words (now (counters .exit))) (r .walk)
-        × NamesAfter (toCoreActions sig bound (x .value) (words (now (counters .entry)))) bound scope r) ⌝ }
+    requires { ⌜ RowRoom (length (words (now rule))) at to log scope (length (words (now scratch))) ⌝ }
+    ensures { λ r. ⌜ ActsAll (words (now (signature .entry))) (words (now (rule .entry))) n at to log scope (words (now (scratch .entry)))
+        (words (now (counters .entry))) (words (now (scratch .exit))) (words (now (counters .exit))) r ⌝ }
 {
     let mut left = n;
+    let mut next = at;
+    let mut end = to;
+    let mut uses = log;
     let mut names = scope.names;
     let mut count = 0;
-    let mut walk = walks::reached(at, to, log, 0);
     while 0 < left {
-        let wider = Scope {
-            globals: scope.globals,
-            body: scope.body,
-            first: scope.first,
-            names,
-        };
-        let one = lower_action(
-            signature,
-            rule,
-            walk.next,
-            wider,
-            counters,
-            scratch,
-            walk.to,
-            scope.first + names,
-            walk.log,
-        );
-        walk = one.walk;
-        if walk.refused != 0 {
-            return refused_action(walk);
+        let now = with_names(scope, names);
+        let sp = scope.first + names;
+        let one = lower_action(signature, rule, next, now, counters, scratch, end, sp, uses);
+        if one.walk.refused != 0 {
+            return refused_action(one.walk);
         }
+        next = one.walk.next;
+        end = one.walk.to;
+        uses = one.walk.log;
         names += one.names;
         count += one.count;
         left -= 1;
     }
-    Acted { walk, names, count }
+    done_action(next, end, uses, names, count)
 }

@@ -47,7 +47,7 @@ pub record Row (k : Site) (d n left top : ℕ) (s1 cs1 : List ℕ) (w : Walk) : 
       (k .ws) d n (k .at) (k .to) (k .sp) (k .lg) (k .s) (k .cs) (t .it) left top s1 cs1 w
 
 -- a walk on its way, by the places that it has come to
-here-on : {at to sp lg top : ℕ} {s cs s1 cs1 : List ℕ} {w : Walk} → Going at to sp lg s cs top s1 cs1 w → Going at to sp lg s cs top s1 cs1 (standing (w .next) (w .to) (w .log))
+pub here-on : {at to sp lg top : ℕ} {s cs s1 cs1 : List ℕ} {w : Walk} → Going at to sp lg s cs top s1 cs1 w → Going at to sp lg s cs top s1 cs1 (standing (w .next) (w .to) (w .log))
 here-on g =
     record { done = g .done; fine = refl; next = g .next; words = g .words; wordsTo = g .wordsTo; stack = g .stack; stackTo = g .stackTo; kept = g .kept }
 

@@ -15,6 +15,10 @@ use Rattle.head_exprs.specs.declared.scope.Scope.{Scope}
 abbrev pub firstScope : (globals body first : ℕ) → Scope
 firstScope g b f = record { globals = g; body = b; first = f; names = 0 }
 
+-- the scope with this many names let
+abbrev pub having : Scope → ℕ → Scope
+having c n = record { globals = c .globals; body = c .body; first = c .first; names = n }
+
 unfoldable pub inScope : List ℕ → Scope → ℕ → Bool
 inScope s c w = elem w (part s 0 (c .body)) || elem w (part s (c .first) (c .names))
 

@@ -1,7 +1,7 @@
 // Which names are bound: those among the words of the body's atoms, and those let so far.
 ghost use mathlib.Core.Path.{_≡_};
 ghost use Rattle.octets.specs.Words.{words};
-ghost use Rattle.head_exprs.specs.Scopes.{firstScope, inScope, mayRead, isTaken, ScopeFits};
+ghost use Rattle.head_exprs.specs.Scopes.{firstScope, having, inScope, mayRead, isTaken, ScopeFits};
 
 // Names below `globals` are globals. The body's words are the first `body` of the scratch; the `names` words from `first` on are let.
 pub struct Scope {
@@ -20,6 +20,18 @@ pub fn first_scope(globals: u32, body: usize, first: usize) -> Scope
         body,
         first,
         names: 0,
+    }
+}
+
+// The scope with so many names let.
+pub fn with_names(scope: Scope, names: usize) -> Scope
+    ensures { λ r. ⌜ r ≡ having scope names ⌝ }
+{
+    Scope {
+        globals: scope.globals,
+        body: scope.body,
+        first: scope.first,
+        names,
     }
 }
 

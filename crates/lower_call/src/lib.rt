@@ -19,11 +19,6 @@ ghost use Rattle.rules.specs.Calls.{wholeWords, lower};
 ghost use Rattle.answers.specs.Answers.{GivesBoth, scratchWritten, Beyond};
 ghost use Rattle.lower_call.specs.Lower.{WrittenUnder, LowerAsks, LowersTo};
 
-// Where lowering left the head and the log of the counters' uses in the scratch, in words for each word of the rule.
-const HEAD: usize = 24;
-
-const LOG: usize = 30;
-
 // The bytes of scratch that are lent on for each word of the rule: 32 words.
 const LENT: usize = 128;
 
@@ -75,7 +70,7 @@ fn lower_good(
         body,
         core.actions,
         scratch,
-        HEAD * n,
+        lowering::HEAD_AT * n,
         core.head,
     );
     let lowered = Lowered {
@@ -86,7 +81,7 @@ fn lower_good(
         passes,
     };
     if octets::count(output) < needed {
-        walks::restore(counters, scratch, LOG * n, core.log);
+        walks::restore(counters, scratch, lowering::LOG_AT * n, core.log);
         return lowered;
     }
     lowered

@@ -17,11 +17,11 @@ ghost use Rattle.lowering.specs.Lowered.{Good, refusal, accepted, Lowers
 
 // Where the parts of a rule of n words start in the scratch, in steps of n words. The body starts at 0 and has at most 3 n words; settling takes
 // 8 words for each of them, so that the head comes 24 n words behind.
-const HEAD_AT: usize = 24;
+pub const HEAD_AT: usize = 24;
 
 const STACK_AT: usize = 28;
 
-const LOG_AT: usize = 30;
+pub const LOG_AT: usize = 30;
 
 // The answer. Where `refused` is 0: the words of the body and of the head, how many actions these are, and how many uses are logged. Else
 // `refused` is the refusal's number and `place` its place, and the others are 0.
