@@ -8,7 +8,7 @@ use lib.ListN.{length, getD, take}
 use lib.Dec.{eqb, ltb}
 use borrow.Author.Tests.{eq-eqb, ne-eqb, eqb-true, ltb-true, ltb-false}
 use Rattle.answers.specs.declared.Answer.{Answer}
-use Rattle.replay.specs.Differences.{differ, alike, bytesDiffer, answersDiffer, callsDiffer}
+use Rattle.replay.specs.Differences.{differ, alike, bytesDiffer, callsDiffer}
 
 -- ---- the search for the first byte that is not alike
 

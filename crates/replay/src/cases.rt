@@ -20,7 +20,7 @@ pub fn lent(front: &[u8; 48], at: usize, most: usize) -> usize
     if n < most { n } else { most }
 }
 
-// What the Rust answered.
+// The answer that the case has.
 pub fn expected(front: &[u8; 48]) -> Answer {
     Answer {
         number: number(front, 7) as u64,

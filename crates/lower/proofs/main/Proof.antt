@@ -23,7 +23,6 @@ print-program-requires c κs =
     )
 
 -- what has no name here follows from the lengths of the buffers alone
-
 pub main-spec : {M : Type 1} → statement M
 main-spec =
     tie.close

@@ -22,7 +22,6 @@ returns-2 : tie.Need-returns-2 Inv-loop μ-loop
 returns-2 c = counts _ _ (omega arith)
 
 -- what has no name here follows from the invariant alone
-
 pub read-input-spec : {M : Type 1} → statement M
 read-input-spec =
     tie.close

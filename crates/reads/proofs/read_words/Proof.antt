@@ -39,7 +39,6 @@ returns-4 : tie.Need-returns-4 Inv-loop μ-loop
 returns-4 c = counts _ _ (omega arith)
 
 -- what has no name here follows from the invariant alone
-
 pub read-words-spec : {M : Type 1} → statement M
 read-words-spec =
     tie.close

@@ -11,7 +11,6 @@ abbrev μ-loop : tie.MeasureT-loop
 μ-loop what cases case₀ differ₀ t6 t7 case differ = cases - case
 
 -- what has no name here follows from the invariant alone
-
 pub replay-list-spec : {M : Type 1} → statement M
 replay-list-spec =
     tie.close

@@ -53,7 +53,6 @@ compare-case-requires c κs =
     simp length-take (omega (arith, l .lent .ensures), omega (arith, l .before .before .before .before .pre, e .call-named .kept .1 .1 .1 .0))
 
 -- what has no name here follows from what the slices are asked
-
 pub run-case-spec : {M : Type 1} → statement M
 run-case-spec =
     tie.close

@@ -23,7 +23,6 @@ returns c =
     λ i. d .before .before .before .answers .ensures .0 i + output i + counters i
 
 -- what has no name here follows from the contract alone
-
 pub compare-spec : {M : Type 1} → statement M
 compare-spec =
     tie.close
