@@ -16,7 +16,7 @@ use Rattle.rules.specs.Written.{Rule, readWritten}
 use Rattle.rules.specs.Flat.{FlatRule, readFlat}
 use Rattle.signature.specs.Signature.{signOf}
 use Rattle.signature.specs.declared.Signature.{Signature}
-use Rattle.written.specs.declared.Walk.{Walk}
+use Rattle.written.specs.declared.Ending.{Ending}
 use Rattle.written.specs.Written.{withHeads, wholeOf}
 use Rattle.records.proofs.WrittenWhole.{written-with}
 use Rattle.records.proofs.FlatWhole.{flat-with}
@@ -217,25 +217,25 @@ module _ {R : Type 0} {f : Front R} {r : Signature} where
     pub right-length : b ≡ true → Reached f r (from-record f)
     right-length e = pass h (ap (λ (b : Bool). left f true true b (h .sig)) (sym test ∙ e))
 
-  module _ (h : Reached f r (from-record f)) {w : Walk} (walk : w ≡ wholeOf (f .rule) (f .read (withHeads (r .heads)) (f .rule))) where
-    walk-is : w ≡ wholeOf (f .rule) (f .read (h .sig) (f .rule))
-    walk-is =
-        walk ∙ ap (λ (k : ℕ). wholeOf (f .rule) (f .read (withHeads k) (f .rule))) (ap (λ (x : Signature). x .heads) (h .told))
+  module _ (h : Reached f r (from-record f)) {w : Ending} (ending : w ≡ wholeOf (f .rule) (f .read (withHeads (r .heads)) (f .rule))) where
+    ending-is : w ≡ wholeOf (f .rule) (f .read (h .sig) (f .rule))
+    ending-is =
+        ending ∙ ap (λ (k : ℕ). wholeOf (f .rule) (f .read (withHeads k) (f .rule))) (ap (λ (x : Signature). x .heads) (h .told))
         ∙ ap (wholeOf (f .rule)) (f .by-heads (h .sig) (f .rule) (signature-sound (f .signature) (h .sig) (h .signature) .few-heads))
 
     pub bad-record : (w .refused ≡ 0 → ⊥) → {t : Signature} → t ≡ signOf (refuse (w .refused) (w .at)) → t ≡ signOf (front f)
-    bad-record bad {t} e = go (f .read (h .sig) (f .rule)) walk-is (h .is)
+    bad-record bad {t} e = go (f .read (h .sig) (f .rule)) ending-is (h .is)
       where
         go : (x : Res R) → w ≡ wholeOf (f .rule) x → front f ≡ after f (signed f) (f .counters) (h .sig) true true true x → t ≡ signOf (front f)
-        go (ok v) z i = absurd (bad (ap (λ (y : Walk). y .refused) z))
-        go (refuse n p) z i = e ∙ ap (λ (y : Walk). signOf (refuse (y .refused) (y .at))) z ∙ ap signOf (sym i)
+        go (ok v) z i = absurd (bad (ap (λ (y : Ending). y .refused) z))
+        go (refuse n p) z i = e ∙ ap (λ (y : Ending). signOf (refuse (y .refused) (y .at))) z ∙ ap signOf (sym i)
 
     pub good-record : w .refused ≡ 0 → r ≡ signOf (front f)
-    good-record good = go (f .read (h .sig) (f .rule)) walk-is (f .some (h .sig) (f .rule)) (h .is)
+    good-record good = go (f .read (h .sig) (f .rule)) ending-is (f .some (h .sig) (f .rule)) (h .is)
       where
         go : (x : Res R) → w ≡ wholeOf (f .rule) x → Among Some x → front f ≡ after f (signed f) (f .counters) (h .sig) true true true x → r ≡ signOf (front f)
         go (ok v) z some i = h .told ∙ ap signOf (sym i)
-        go (refuse n p) z some i = absurd (some (sym (ap (λ (y : Walk). y .refused) z) ∙ good))
+        go (refuse n p) z some i = absurd (some (sym (ap (λ (y : Ending). y .refused) z) ∙ good))
 
 -- lowering has a counter for each head
 module _ {sw rw : List ℕ} {m n : ℕ} {r : Signature} (h : Reached (written sw rw m n) r (from-counters (written sw rw m n))) where

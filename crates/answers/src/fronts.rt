@@ -1,8 +1,8 @@
 // The tests in front of the work, in the order of 01, "Turned back". They give the signature, or in its place the first refusal.
 use signature::Signature;
+use signature::turned_back;
 ghost use mathlib.Core.Path.{_≡_};
 ghost use Rattle.octets.specs.Words.{words};
-ghost use Rattle.rules.specs.Refusals.{refuse};
 ghost use Rattle.signature.specs.Signature.{signOf};
 ghost use Rattle.answers.specs.Fronts.{flatFront, writtenFront};
 
@@ -15,20 +15,6 @@ const BAD_LENGTH: usize = 4;
 
 // The words of scratch that settling and lowering ask for.
 pub const SCRATCH_WORDS: usize = 16384;
-
-// A signature's place for a refusal that comes behind it.
-fn turned_back(number: usize, place: usize) -> Signature
-    ensures { λ r. ⌜ r ≡ signOf (refuse number place) ⌝ }
-{
-    Signature {
-        refused: number,
-        place,
-        heads: 0,
-        globals: 0,
-        equals: 0,
-        flag: false,
-    }
-}
 
 // The tests in front of settling and of free variables: signature, scratch, length, record.
 pub fn flat_front(signature: &[u8], rule: &[u8], scratch: usize) -> Signature

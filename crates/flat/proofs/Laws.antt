@@ -25,8 +25,8 @@ use Rattle.words.proofs.AtomLaws.{atom-head, atom-equality}
 use Rattle.meaning.proofs.Lists.{and-left}
 use Rattle.meaning.proofs.Results.{ok-inj}
 use Rattle.flat.specs.Flat.{AtomNumbers, atomNumbers, numbersFrom, takenSays, isTermAt, termAt, firstSays, firstAt, readBehind}
-use Rattle.written.specs.declared.Walk.{Walk}
-use Rattle.written.specs.Written.{withHeads, withGlobals, walk, walkOf}
+use Rattle.written.specs.declared.Ending.{Ending}
+use Rattle.written.specs.Written.{withHeads, withGlobals, ending, endingOf}
 use Rattle.written.proofs.Walking.{Went, stops, made, both, row, then-then}
 use Rattle.words.proofs.WordAt.{Here, There, NotKind}
 use Rattle.written.proofs.Expected.{word-fits, word-unfit, heads-with, heads-most, head-with, head-other, head-high, head-fits, head-count}
@@ -39,12 +39,12 @@ use Rattle.flat.specs.declared.Taken.the-variants as Taken
 -- ---- what an action may bind
 
 module _ (H : ℕ) {ws : List ℕ} {p : ℕ} where
-  pub target-name : NotKind ws p 0 → walkOf (readWord ws isNameWord p) ≡ walkOf (readWord ws (isTarget (withHeads H)) p)
+  pub target-name : NotKind ws p 0 → endingOf (readWord ws isNameWord p) ≡ endingOf (readWord ws (isTarget (withHeads H)) p)
   target-name n = go (ltb p (length ws)) refl
     where
       go : (b : Bool) → ltb p (length ws) ≡ b
-          → walkOf (demand {A = Read ℕ} (b && isNameWord (getD ws p 0)) unfit p (record { value = getD ws p 0; at = suc p }))
-          ≡ walkOf (demand {A = Read ℕ} (b && isTarget (withHeads H) (getD ws p 0)) unfit p (record { value = getD ws p 0; at = suc p }))
+          → endingOf (demand {A = Read ℕ} (b && isNameWord (getD ws p 0)) unfit p (record { value = getD ws p 0; at = suc p }))
+          ≡ endingOf (demand {A = Read ℕ} (b && isTarget (withHeads H) (getD ws p 0)) unfit p (record { value = getD ws p 0; at = suc p }))
       go true e = rw (no-fresh (getD ws p 0) (n .other (ltb-true p (length ws) e)) (heads (withHeads H)))
       go false e = refl
 
@@ -52,12 +52,12 @@ module _ (H : ℕ) {ws : List ℕ} {p : ℕ} where
     below : ltb h (min H limit12) ≡ isFreshWord (heads (withHeads H)) (getD ws p 0)
     below = sym (fresh-below (getD ws p 0) h n (t .says) (heads (withHeads H)) ∙ rw (heads-with H) refl)
 
-    pub target-fresh : h < H → h < limit12 → walk 0 (p + 1) ≡ walkOf (readWord ws (isTarget (withHeads H)) p)
+    pub target-fresh : h < H → h < limit12 → ending 0 (p + 1) ≡ endingOf (readWord ws (isTarget (withHeads H)) p)
     target-fresh low small =
         let fresh = sym below ∙ lt-ltb h (min H limit12) (le-min low small) in
         rw (word-fits (isTarget (withHeads H)) ws p (t .inside) (rw fresh refl), add-one p) refl
 
-    pub target-high : min H limit12 ≤ h → walk unfit p ≡ walkOf (readWord ws (isTarget (withHeads H)) p)
+    pub target-high : min H limit12 ≤ h → ending unfit p ≡ endingOf (readWord ws (isTarget (withHeads H)) p)
     target-high high =
         let none = sym below ∙ le-ltb h (min H limit12) high in
         rw (word-unfit (isTarget (withHeads H)) ws p (λ l. rw none (name-kind (getD ws p 0) ∙ rw (t .says) refl))) refl
@@ -119,29 +119,29 @@ module _ (s : Sig) (ws : List ℕ) (p : ℕ) {x : Taken.the-data} (read : takenS
   pub term-inside : {t : Term} → x ≡ Taken.Term t → p < length ws
   term-inside is = ltb-true p (length ws) (and-left (ltb p (length ws)) (isTerm s (getD ws p 0)) (is-there is))
 
-  pub term-taken : {t : Term} → x ≡ Taken.Term t → walk 0 (p + 1) ≡ walkOf (readTerm s ws p)
+  pub term-taken : {t : Term} → x ≡ Taken.Term t → ending 0 (p + 1) ≡ endingOf (readTerm s ws p)
   term-taken is = rw (add-one p, is-there is) refl
 
-  pub term-refused : x ≡ Taken.Nothing → walk unfit p ≡ walkOf (readTerm s ws p)
+  pub term-refused : x ≡ Taken.Nothing → ending unfit p ≡ endingOf (readTerm s ws p)
   term-refused is = go (isTermAt s ws p) (ap (λ (y : Taken.the-data). takenSays y p) (sym is) ∙ read)
     where
       go : (b : Bool) → takenSays Taken.Nothing p ≡ demand b unfit p (record { numberIs = termNumberOf (s .globals) (getD ws p 0); wordIs = getD ws p 0 })
-          → walk unfit p ≡ walkOf (demand {A = Read ℕ} b unfit p (record { value = getD ws p 0; at = suc p }))
+          → ending unfit p ≡ endingOf (demand {A = Read ℕ} b unfit p (record { value = getD ws p 0; at = suc p }))
       go true e = let z : _≡_ {A = ℕ} 0 1 = cc in absurd (omega arith)
       go false e = refl
 
 -- ---- rows
 
 module _ {A : Type 0} (ws : List ℕ) (one : Reader A) (went : (p : ℕ) → Went ws p 1 (one p)) where
-  more : (n p : ℕ) → walkOf (readRow one (suc n) p) ≡ walkOf (_>>=_ (one p) (λ x. readRow one n (x .at)))
+  more : (n p : ℕ) → endingOf (readRow one (suc n) p) ≡ endingOf (_>>=_ (one p) (λ x. readRow one n (x .at)))
   more = row ws one went .more
 
   -- a row and one more: a row that is one longer
   pub row-last : {B : Type 0} (n p : ℕ) (f : Read (List A) → Read A → B)
-      → walkOf (readRow one (suc n) p) ≡ walkOf (_>>=_ (readRow one n p) (λ xs. _>>=_ (one (xs .at)) (λ x. ok (record { value = f xs x; at = x .at }))))
+      → endingOf (readRow one (suc n) p) ≡ endingOf (_>>=_ (readRow one n p) (λ xs. _>>=_ (one (xs .at)) (λ x. ok (record { value = f xs x; at = x .at }))))
   row-last {B} zero p f = more zero p ∙ go (one p) ∙ sym (made (one p) _)
     where
-      go : (y : Res (Read A)) → walkOf (_>>=_ y (λ x. readRow one zero (x .at))) ≡ walkOf y
+      go : (y : Res (Read A)) → endingOf (_>>=_ y (λ x. readRow one zero (x .at))) ≡ endingOf y
       go (ok x) = refl
       go (refuse n q) = refl
   row-last {B} (suc n) p f = more (suc n) p ∙ go (one p) (λ x. row-last n (x .at) (λ xs y. f (put x xs) y))
@@ -153,17 +153,17 @@ module _ {A : Type 0} (ws : List ℕ) (one : Reader A) (went : (p : ℕ) → Wen
       last : (Read A → B) → Read (List A) → Res (Read B)
       last g xs = _>>=_ (one (xs .at)) (λ z. ok (record { value = g z; at = z .at }))
 
-      go : (y : Res (Read A)) → ((x : Read A) → walkOf (readRow one (suc n) (x .at)) ≡ walkOf (_>>=_ (readRow one n (x .at)) (λ xs. last (f (put x xs)) xs)))
-          → walkOf (_>>=_ y (λ x. readRow one (suc n) (x .at))) ≡ walkOf (_>>=_ (_>>=_ y (λ x. _>>=_ (readRow one n (x .at)) (λ xs. ok (put x xs)))) (λ xs. last (f xs) xs))
-      go (ok x) h = h x ∙ ap walkOf (then-then (readRow one n (x .at)) _ _)
+      go : (y : Res (Read A)) → ((x : Read A) → endingOf (readRow one (suc n) (x .at)) ≡ endingOf (_>>=_ (readRow one n (x .at)) (λ xs. last (f (put x xs)) xs)))
+          → endingOf (_>>=_ y (λ x. readRow one (suc n) (x .at))) ≡ endingOf (_>>=_ (_>>=_ y (λ x. _>>=_ (readRow one n (x .at)) (λ xs. ok (put x xs)))) (λ xs. last (f xs) xs))
+      go (ok x) h = h x ∙ ap endingOf (then-then (readRow one n (x .at)) _ _)
       go (refuse n q) h = refl
 
   -- one and one more
   pub row-pair : {B : Type 0} (p : ℕ) (f : Read A → Read A → B)
-      → walkOf (readRow one 2 p) ≡ walkOf (_>>=_ (one p) (λ a. _>>=_ (one (a .at)) (λ b. ok (record { value = f a b; at = b .at }))))
+      → endingOf (readRow one 2 p) ≡ endingOf (_>>=_ (one p) (λ a. _>>=_ (one (a .at)) (λ b. ok (record { value = f a b; at = b .at }))))
   row-pair {B} p f = more 1 p ∙ go (one p)
     where
-      go : (y : Res (Read A)) → walkOf (_>>=_ y (λ x. readRow one 1 (x .at))) ≡ walkOf (_>>=_ y (λ a. _>>=_ (one (a .at)) (λ b. ok (record { value = f a b; at = b .at }))))
+      go : (y : Res (Read A)) → endingOf (_>>=_ y (λ x. readRow one 1 (x .at))) ≡ endingOf (_>>=_ y (λ a. _>>=_ (one (a .at)) (λ b. ok (record { value = f a b; at = b .at }))))
       go (ok x) = row-last 0 (x .at) (λ xs b. f x b)
       go (refuse n q) = refl
 
@@ -262,7 +262,7 @@ module _ (H : ℕ) (ws : List ℕ) (p : ℕ) where
   abbrev w : ℕ
   w = getD ws p 0
 
-  pub atom-other : {x : First.the-data} → firstSays x p ≡ firstAt ws p → x ≡ First.Other → walk unfit p ≡ walkOf (readAtom s ws p)
+  pub atom-other : {x : First.the-data} → firstSays x p ≡ firstAt ws p → x ≡ First.Other → ending unfit p ≡ endingOf (readAtom s ws p)
   atom-other read is = go (ltb p (length ws)) refl
     where
       out : p < length ws → equalityBase ≤ w → w < literalBase → ⊥
@@ -279,7 +279,7 @@ module _ (H : ℕ) (ws : List ℕ) (p : ℕ) where
           absurd (out i (omega arith) (omega arith))
       no-table i false e = refl
 
-      go : (b : Bool) → ltb p (length ws) ≡ b → walk unfit p ≡ walkOf (readAtomShape s ws (cond b (atomShape s w) isNone) w p)
+      go : (b : Bool) → ltb p (length ws) ≡ b → ending unfit p ≡ endingOf (readAtomShape s ws (cond b (atomShape s w) isNone) w p)
       go true e =
           let i = ltb-true p (length ws) e in
           rw (no-equality i (isEqualityWord w) refl, no-table i (isHeadWord (heads s) w) refl)
@@ -314,13 +314,13 @@ module _ (H : ℕ) {ws : List ℕ} {p : ℕ} {a : Begun} (t : AtomAt ws p a) (is
       let count = atom-equality (t .says) low .1 in
       (true-within equalityBase equalityBase w (t .low) (omega arith), omega (arith, t .low))
 
-  pub pair-goes : a .count ≡ 2 → walkOf (readRow (readTerm (withHeads H) ws) (a .count) (a .terms)) ≡ walkOf (readAtom (withHeads H) ws p)
+  pub pair-goes : a .count ≡ 2 → endingOf (readRow (readTerm (withHeads H) ws) (a .count) (a .terms)) ≡ endingOf (readAtom (withHeads H) ws p)
   pair-goes two =
       let e = equality-is-word in
       rw (two, t .says .termsAt, add-one p, lt-ltb p (length ws) (t .inside), e .0, eq-eqb (getD ws p 0) equalityWord (omega arith))
       (row-pair ws (readTerm (withHeads H) ws) (went-term (withHeads H) ws) (suc p) _)
 
-  pub odd-refused : ¬ (a .count ≡ 2) → walk notTwo p ≡ walkOf (readAtom (withHeads H) ws p)
+  pub odd-refused : ¬ (a .count ≡ 2) → ending notTwo p ≡ endingOf (readAtom (withHeads H) ws p)
   odd-refused odd =
       let e = equality-is-word in
       rw (lt-ltb p (length ws) (t .inside), e .0, ne-eqb (getD ws p 0) equalityWord (λ same. odd (omega arith)))
@@ -338,56 +338,56 @@ module _ (H : ℕ) {ws : List ℕ} {p h : ℕ} {a : Begun} (t : AtomAt ws p a) (
       let says : wordOf w ≡ Said.Head h (countOf w) = is-head w inside ∙ ap (λ n. Said.Head n (countOf w)) number in
       (false-above equalityBase equalityBase w (omega arith), head-with H w h (countOf w) says, sym (same .1))
 
-  pub head-refused : H ≤ h → walk unfit p ≡ walkOf (readAtom (withHeads H) ws p)
+  pub head-refused : H ≤ h → ending unfit p ≡ endingOf (readAtom (withHeads H) ws p)
   head-refused high =
       let e = table-word in
       rw (lt-ltb p (length ws) (t .inside), e .0, e .1, le-ltb h H high)
 
-  pub empty-refused : h < H → a .count ≡ 0 → walk noTerms p ≡ walkOf (readAtom (withHeads H) ws p)
+  pub empty-refused : h < H → a .count ≡ 0 → ending noTerms p ≡ endingOf (readAtom (withHeads H) ws p)
   empty-refused low none =
       let e = table-word in
       rw (lt-ltb p (length ws) (t .inside), e .0, e .1, lt-ltb h H low, eq-eqb (countOf (getD ws p 0)) 0 (omega arith))
 
-  pub table-goes : h < H → ¬ (a .count ≡ 0) → walkOf (readRow (readTerm (withHeads H) ws) (a .count) (a .terms)) ≡ walkOf (readAtom (withHeads H) ws p)
+  pub table-goes : h < H → ¬ (a .count ≡ 0) → endingOf (readRow (readTerm (withHeads H) ws) (a .count) (a .terms)) ≡ endingOf (readAtom (withHeads H) ws p)
   table-goes low some =
       let e = table-word in
       let n : ℕ = countOf (getD ws p 0) in
       let up : a .count ≡ suc (n - 1) = omega arith in
       rw (t .says .termsAt, add-one p, lt-ltb p (length ws) (t .inside), e .0, e .1, lt-ltb h H low, ne-eqb n 0 (λ z. some (omega arith)))
-      (ap (λ n. walkOf (readRow (readTerm (withHeads H) ws) n (suc p))) up ∙ row-last ws (readTerm (withHeads H) ws) (went-term (withHeads H) ws) (n - 1) (suc p) _)
+      (ap (λ n. endingOf (readRow (readTerm (withHeads H) ws) n (suc p))) up ∙ row-last ws (readTerm (withHeads H) ws) (went-term (withHeads H) ws) (n - 1) (suc p) _)
 
 -- ---- a kind 3 word and its terms
 
 module _ (H : ℕ) {ws : List ℕ} {p : ℕ} where
-  pub terms-other : NotKind ws p 3 → walk unfit p ≡ walkOf (readTerms (withHeads H) ws p)
+  pub terms-other : NotKind ws p 3 → ending unfit p ≡ endingOf (readTerms (withHeads H) ws p)
   terms-other n = rw (head-other H n) refl
 
   module _ {h n : ℕ} (t : There ws p (Said.Head h n)) where
-    pub terms-high : H ≤ h → walk unfit p ≡ walkOf (readTerms (withHeads H) ws p)
+    pub terms-high : H ≤ h → ending unfit p ≡ endingOf (readTerms (withHeads H) ws p)
     terms-high high = rw (head-high H t high) refl
 
-    pub terms-go : h < H → walkOf (readRow (readTerm (withHeads H) ws) n (p + 1)) ≡ walkOf (readTerms (withHeads H) ws p)
+    pub terms-go : h < H → endingOf (readRow (readTerm (withHeads H) ws) n (p + 1)) ≡ endingOf (readTerms (withHeads H) ws p)
     terms-go low = rw (head-fits H t low, add-one p, ← head-count t) (sym (made (readRow (readTerm (withHeads H) ws) (countOf (getD ws p 0)) (suc p)) _))
 
 -- ---- what stands behind an action word: one thing, then another
 
 module _ (s : Sig) (ws : List ℕ) (q : ℕ) where
-  pub let-stops : {w : Walk} → w ≡ walkOf (readWord ws (isTarget s) q) → ¬ (w .refused ≡ 0) → w ≡ walkOf (readBehind s ws aLet q)
+  pub let-stops : {w : Ending} → w ≡ endingOf (readWord ws (isTarget s) q) → ¬ (w .refused ≡ 0) → w ≡ endingOf (readBehind s ws aLet q)
   let-stops e h = stops (readWord ws (isTarget s) q) _ e h
 
-  pub let-goes : {w z : Walk} → w ≡ walkOf (readWord ws (isTarget s) q) → w .refused ≡ 0 → z ≡ walkOf (readTerm s ws (w .at)) → z ≡ walkOf (readBehind s ws aLet q)
+  pub let-goes : {w z : Ending} → w ≡ endingOf (readWord ws (isTarget s) q) → w .refused ≡ 0 → z ≡ endingOf (readTerm s ws (w .at)) → z ≡ endingOf (readBehind s ws aLet q)
   let-goes e h g = both ws q 1 (readWord ws (isTarget s) q) (readTerm s ws) _ (went-target s ws q) e h g
 
-  pub set-stops : {w : Walk} → w ≡ walkOf (readTerms s ws q) → ¬ (w .refused ≡ 0) → w ≡ walkOf (readBehind s ws aSet q)
+  pub set-stops : {w : Ending} → w ≡ endingOf (readTerms s ws q) → ¬ (w .refused ≡ 0) → w ≡ endingOf (readBehind s ws aSet q)
   set-stops e h = stops (readTerms s ws q) _ e h
 
-  pub set-goes : {w z : Walk} → w ≡ walkOf (readTerms s ws q) → w .refused ≡ 0 → z ≡ walkOf (readTerm s ws (w .at)) → z ≡ walkOf (readBehind s ws aSet q)
+  pub set-goes : {w z : Ending} → w ≡ endingOf (readTerms s ws q) → w .refused ≡ 0 → z ≡ endingOf (readTerm s ws (w .at)) → z ≡ endingOf (readBehind s ws aSet q)
   set-goes e h g = both ws q 1 (readTerms s ws q) (readTerm s ws) _ (went-terms s ws q) e h g
 
-  pub call-stops : {w : Walk} → w ≡ walkOf (readWord ws (isTarget s) q) → ¬ (w .refused ≡ 0) → w ≡ walkOf (readBehind s ws aCall q)
+  pub call-stops : {w : Ending} → w ≡ endingOf (readWord ws (isTarget s) q) → ¬ (w .refused ≡ 0) → w ≡ endingOf (readBehind s ws aCall q)
   call-stops e h = stops (readWord ws (isTarget s) q) _ e h
 
-  pub call-goes : {w z : Walk} → w ≡ walkOf (readWord ws (isTarget s) q) → w .refused ≡ 0 → z ≡ walkOf (readTerms s ws (w .at)) → z ≡ walkOf (readBehind s ws aCall q)
+  pub call-goes : {w z : Ending} → w ≡ endingOf (readWord ws (isTarget s) q) → w .refused ≡ 0 → z ≡ endingOf (readTerms s ws (w .at)) → z ≡ endingOf (readBehind s ws aCall q)
   call-goes e h g = both ws q 1 (readWord ws (isTarget s) q) (readTerms s ws) _ (went-target s ws q) e h g
 
 -- ---- an action, by its code
@@ -397,24 +397,24 @@ abbrev by : Sig → List ℕ → ℕ → Code → Res (Read CoreAction)
 by s ws p k = readCoreCode s ws p k (suc p)
 
 module _ (s : Sig) {ws : List ℕ} {p : ℕ} where
-  pub action-other : NotKind ws p 6 → walk unfit p ≡ walkOf (readCoreAction s ws p)
+  pub action-other : NotKind ws p 6 → ending unfit p ≡ endingOf (readCoreAction s ws p)
   action-other n = rw (no-code n) refl
 
-  module _ {n : ℕ} (t : There ws p (Said.Action n)) {z : Walk} where
-    pub action-by : (m : ℕ) → n ≡ m → z ≡ walkOf (readCoreCode s ws p (codeOf (actionWord m)) (p + 1)) → z ≡ walkOf (readCoreAction s ws p)
+  module _ {n : ℕ} (t : There ws p (Said.Action n)) {z : Ending} where
+    pub action-by : (m : ℕ) → n ≡ m → z ≡ endingOf (readCoreCode s ws p (codeOf (actionWord m)) (p + 1)) → z ≡ endingOf (readCoreAction s ws p)
     action-by m same e = as-code (by s ws p) t m same (rw (add-one p) at e)
 
-    pub change-goes : 3 ≤ n → n < 5 → z ≡ walkOf (readTerms s ws (p + 1)) → z ≡ walkOf (readCoreAction s ws p)
+    pub change-goes : 3 ≤ n → n < 5 → z ≡ endingOf (readTerms s ws (p + 1)) → z ≡ endingOf (readCoreAction s ws p)
     change-goes lo hi e =
-        let here : z ≡ walkOf (readTerms s ws (suc p)) = rw (add-one p) at e in
+        let here : z ≡ endingOf (readTerms s ws (suc p)) = rw (add-one p) at e in
         change-code (by s ws p) t lo hi (here ∙ sym (made (readTerms s ws (suc p)) _)) (here ∙ sym (made (readTerms s ws (suc p)) _))
 
-    pub union-goes : n ≡ 5 → z ≡ walkOf (readRow (readTerm s ws) 2 (p + 1)) → z ≡ walkOf (readCoreAction s ws p)
+    pub union-goes : n ≡ 5 → z ≡ endingOf (readRow (readTerm s ws) 2 (p + 1)) → z ≡ endingOf (readCoreAction s ws p)
     union-goes five e = action-by 5 five (e ∙ row-pair ws (readTerm s ws) (went-term s ws) (p + 1) _)
 
-    pub panic-goes : n ≡ 6 → z ≡ walkOf (readWord ws isLiteralWord (p + 1)) → z ≡ walkOf (readCoreAction s ws p)
+    pub panic-goes : n ≡ 6 → z ≡ endingOf (readWord ws isLiteralWord (p + 1)) → z ≡ endingOf (readCoreAction s ws p)
     panic-goes six e = action-by 6 six (e ∙ sym (made (readWord ws isLiteralWord (p + 1)) _))
 
   -- 8 is not flat, and the other numbers are no codes
-  pub action-none : {n : ℕ} → There ws p (Said.Action n) → NoneOf n 7 → walk unfit p ≡ walkOf (readCoreAction s ws p)
+  pub action-none : {n : ℕ} → There ws p (Said.Action n) → NoneOf n 7 → ending unfit p ≡ endingOf (readCoreAction s ws p)
   action-none t k = last-code (by s ws p) t 7 k (λ e. absurd (k .last e)) (λ e. refl) refl

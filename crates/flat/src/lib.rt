@@ -10,14 +10,14 @@ use words::NAME_BASE;
 use words::Term;
 use words::Word;
 use words::word_at;
+use written::Ending;
 use written::UNFIT;
-use written::Walk;
 ghost use mathlib.Core.Path.{_≡_};
 ghost use Rattle.octets.specs.Words.{words};
 ghost use Rattle.rules.specs.Words.{isNameWord, isLiteralWord, aLet, aSet, aCall};
 ghost use Rattle.rules.specs.Written.{readWord, readRow};
 ghost use Rattle.rules.specs.Flat.{isTarget, readTerm, readTerms, readAtom, readCoreAction};
-ghost use Rattle.written.specs.Written.{withHeads, withGlobals, walkOf};
+ghost use Rattle.written.specs.Written.{withHeads, withGlobals, endingOf};
 ghost use Rattle.flat.specs.Flat.{takenSays, termAt, firstSays, firstAt, readBehind};
 
 // The refusals' numbers.
@@ -28,48 +28,48 @@ const NOT_TWO: usize = 12;
 // ---- terms
 
 // A literal.
-fn literal(rule: &[u8], at: usize) -> Walk
-    ensures { λ r. ⌜ r ≡ walkOf (readWord (words (now (rule .entry))) isLiteralWord at) ⌝ }
+fn literal(rule: &[u8], at: usize) -> Ending
+    ensures { λ r. ⌜ r ≡ endingOf (readWord (words (now (rule .entry))) isLiteralWord at) ⌝ }
 {
     let w = word_at(rule, at);
     let Word::Literal(_) = w else {
-        return Walk { refused: UNFIT, at };
+        return Ending { refused: UNFIT, at };
     };
-    Walk {
+    Ending {
         refused: 0,
         at: at + 1,
     }
 }
 
 // A variable's or a global's name.
-fn name(rule: &[u8], at: usize) -> Walk
-    ensures { λ r. ⌜ r ≡ walkOf (readWord (words (now (rule .entry))) isNameWord at) ⌝ }
+fn name(rule: &[u8], at: usize) -> Ending
+    ensures { λ r. ⌜ r ≡ endingOf (readWord (words (now (rule .entry))) isNameWord at) ⌝ }
 {
     let w = word_at(rule, at);
     let Word::Name(_) = w else {
-        return Walk { refused: UNFIT, at };
+        return Ending { refused: UNFIT, at };
     };
-    Walk {
+    Ending {
         refused: 0,
         at: at + 1,
     }
 }
 
 // What an action may bind: a fresh variable of a head below H, which is at most 4,096, or a name.
-fn target(rule: &[u8], heads: u32, at: usize) -> Walk
-    ensures { λ r. ⌜ r ≡ walkOf (readWord (words (now (rule .entry))) (isTarget (withHeads heads)) at) ⌝ }
+fn target(rule: &[u8], heads: u32, at: usize) -> Ending
+    ensures { λ r. ⌜ r ≡ endingOf (readWord (words (now (rule .entry))) (isTarget (withHeads heads)) at) ⌝ }
 {
     let w = word_at(rule, at);
     let Word::Fresh(head, _) = w else {
         return name(rule, at);
     };
     if heads <= head {
-        return Walk { refused: UNFIT, at };
+        return Ending { refused: UNFIT, at };
     }
     if LIMIT_12 <= head {
-        return Walk { refused: UNFIT, at };
+        return Ending { refused: UNFIT, at };
     }
-    Walk {
+    Ending {
         refused: 0,
         at: at + 1,
     }
@@ -119,29 +119,29 @@ fn term_at(rule: &[u8], heads: u32, globals: u32, at: usize) -> Taken
 }
 
 // A term: what may be bound, or a literal.
-fn term(rule: &[u8], heads: u32, globals: u32, at: usize) -> Walk
-    ensures { λ r. ⌜ r ≡ walkOf (readTerm (withHeads heads) (words (now (rule .entry))) at) ⌝ }
+fn term(rule: &[u8], heads: u32, globals: u32, at: usize) -> Ending
+    ensures { λ r. ⌜ r ≡ endingOf (readTerm (withHeads heads) (words (now (rule .entry))) at) ⌝ }
 {
     let taken = term_at(rule, heads, globals, at);
     let Taken::Term(_) = taken else {
-        return Walk { refused: UNFIT, at };
+        return Ending { refused: UNFIT, at };
     };
-    Walk {
+    Ending {
         refused: 0,
         at: at + 1,
     }
 }
 
 // `count` terms, one after the other, each of one word.
-fn terms(rule: &[u8], heads: u32, globals: u32, at: usize, count: u32) -> Walk
-    ensures { λ r. ⌜ r ≡ walkOf (readRow (readTerm (withHeads heads) (words (now (rule .entry)))) count at) ⌝ }
+fn terms(rule: &[u8], heads: u32, globals: u32, at: usize, count: u32) -> Ending
+    ensures { λ r. ⌜ r ≡ endingOf (readRow (readTerm (withHeads heads) (words (now (rule .entry)))) count at) ⌝ }
 {
     let mut next = at;
     let mut left = count;
     while 0 < left {
         let taken = term_at(rule, heads, globals, next);
         let Taken::Term(_) = taken else {
-            return Walk {
+            return Ending {
                 refused: UNFIT,
                 at: next,
             };
@@ -149,7 +149,7 @@ fn terms(rule: &[u8], heads: u32, globals: u32, at: usize, count: u32) -> Walk
         next += 1;
         left -= 1;
     }
-    Walk {
+    Ending {
         refused: 0,
         at: next,
     }
@@ -178,12 +178,12 @@ fn first_at(rule: &[u8], at: usize) -> First
 }
 
 // An atom: a head below H with one term or more, or the equality of two. A word that does not fit is a 5, whatever its count.
-pub fn atom(rule: &[u8], heads: u32, globals: u32, at: usize) -> Walk
-    ensures { λ r. ⌜ r ≡ walkOf (readAtom (withHeads heads) (words (now (rule .entry))) at) ⌝ }
+pub fn atom(rule: &[u8], heads: u32, globals: u32, at: usize) -> Ending
+    ensures { λ r. ⌜ r ≡ endingOf (readAtom (withHeads heads) (words (now (rule .entry))) at) ⌝ }
 {
     let first = first_at(rule, at);
     let First::Atom(atom) = first else {
-        return Walk { refused: UNFIT, at };
+        return Ending { refused: UNFIT, at };
     };
     let head = atom.head;
     let count = atom.count;
@@ -192,7 +192,7 @@ pub fn atom(rule: &[u8], heads: u32, globals: u32, at: usize) -> Walk
             if count == 2 {
                 terms(rule, heads, globals, atom.terms, count)
             } else {
-                Walk {
+                Ending {
                     refused: NOT_TWO,
                     at,
                 }
@@ -200,10 +200,10 @@ pub fn atom(rule: &[u8], heads: u32, globals: u32, at: usize) -> Walk
         }
         HeadOrEq::Head(number) => {
             if heads <= number {
-                return Walk { refused: UNFIT, at };
+                return Ending { refused: UNFIT, at };
             }
             if count == 0 {
-                return Walk {
+                return Ending {
                     refused: NO_TERMS,
                     at,
                 };
@@ -216,23 +216,23 @@ pub fn atom(rule: &[u8], heads: u32, globals: u32, at: usize) -> Walk
 // ---- actions
 
 // A kind 3 word and its terms.
-fn head_terms(rule: &[u8], heads: u32, globals: u32, at: usize) -> Walk
-    ensures { λ r. ⌜ r ≡ walkOf (readTerms (withHeads heads) (words (now (rule .entry))) at) ⌝ }
+fn head_terms(rule: &[u8], heads: u32, globals: u32, at: usize) -> Ending
+    ensures { λ r. ⌜ r ≡ endingOf (readTerms (withHeads heads) (words (now (rule .entry))) at) ⌝ }
 {
     let w = word_at(rule, at);
     let Word::Head(head, count) = w else {
-        return Walk { refused: UNFIT, at };
+        return Ending { refused: UNFIT, at };
     };
     if head < heads {
         terms(rule, heads, globals, at + 1, count)
     } else {
-        Walk { refused: UNFIT, at }
+        Ending { refused: UNFIT, at }
     }
 }
 
 // What a let binds, and its term.
-fn let_action(rule: &[u8], heads: u32, globals: u32, at: usize) -> Walk
-    ensures { λ r. ⌜ r ≡ walkOf (readBehind (withHeads heads) (words (now (rule .entry))) aLet at) ⌝ }
+fn let_action(rule: &[u8], heads: u32, globals: u32, at: usize) -> Ending
+    ensures { λ r. ⌜ r ≡ endingOf (readBehind (withHeads heads) (words (now (rule .entry))) aLet at) ⌝ }
 {
     let bound = target(rule, heads, at);
     if bound.refused != 0 {
@@ -242,8 +242,8 @@ fn let_action(rule: &[u8], heads: u32, globals: u32, at: usize) -> Walk
 }
 
 // A set's kind 3 word with its terms, and the value.
-fn set_action(rule: &[u8], heads: u32, globals: u32, at: usize) -> Walk
-    ensures { λ r. ⌜ r ≡ walkOf (readBehind (withHeads heads) (words (now (rule .entry))) aSet at) ⌝ }
+fn set_action(rule: &[u8], heads: u32, globals: u32, at: usize) -> Ending
+    ensures { λ r. ⌜ r ≡ endingOf (readBehind (withHeads heads) (words (now (rule .entry))) aSet at) ⌝ }
 {
     let inputs = head_terms(rule, heads, globals, at);
     if inputs.refused != 0 {
@@ -253,8 +253,8 @@ fn set_action(rule: &[u8], heads: u32, globals: u32, at: usize) -> Walk
 }
 
 // What a call's answer is bound to, and its kind 3 word with its terms.
-fn call_action(rule: &[u8], heads: u32, globals: u32, at: usize) -> Walk
-    ensures { λ r. ⌜ r ≡ walkOf (readBehind (withHeads heads) (words (now (rule .entry))) aCall at) ⌝ }
+fn call_action(rule: &[u8], heads: u32, globals: u32, at: usize) -> Ending
+    ensures { λ r. ⌜ r ≡ endingOf (readBehind (withHeads heads) (words (now (rule .entry))) aCall at) ⌝ }
 {
     let bound = target(rule, heads, at);
     if bound.refused != 0 {
@@ -264,12 +264,12 @@ fn call_action(rule: &[u8], heads: u32, globals: u32, at: usize) -> Walk
 }
 
 // An action: its code, and what the code asks for. Action 8 is not flat.
-pub fn action(rule: &[u8], heads: u32, globals: u32, at: usize) -> Walk
-    ensures { λ r. ⌜ r ≡ walkOf (readCoreAction (withHeads heads) (words (now (rule .entry))) at) ⌝ }
+pub fn action(rule: &[u8], heads: u32, globals: u32, at: usize) -> Ending
+    ensures { λ r. ⌜ r ≡ endingOf (readCoreAction (withHeads heads) (words (now (rule .entry))) at) ⌝ }
 {
     let w = word_at(rule, at);
     let Word::Action(code) = w else {
-        return Walk { refused: UNFIT, at };
+        return Ending { refused: UNFIT, at };
     };
     let next = at + 1;
     match code {
@@ -279,6 +279,6 @@ pub fn action(rule: &[u8], heads: u32, globals: u32, at: usize) -> Walk
         5 => terms(rule, heads, globals, next, 2),
         6 => literal(rule, next),
         7 => call_action(rule, heads, globals, next),
-        _ => Walk { refused: UNFIT, at },
+        _ => Ending { refused: UNFIT, at },
     }
 }

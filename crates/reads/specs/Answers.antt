@@ -12,7 +12,7 @@ use Rattle.rules.specs.Written.{Rule, readWritten}
 use Rattle.rules.specs.Flat.{FlatRule, readFlat}
 use Rattle.rules.specs.Calls.{lengthFits}
 use Rattle.signature.specs.declared.Signature.{Signature}
-use Rattle.written.specs.declared.Walk.{Walk}
+use Rattle.written.specs.declared.Ending.{Ending}
 use Rattle.signature.specs.Signature.{signOf}
 use Rattle.written.specs.Written.{withHeads, wholeOf}
 use Rattle.reads.specs.declared.Answer.{Answer}
@@ -36,7 +36,7 @@ abbrev pub signatureAnswer : ℕ → Signature → Answer
 signatureAnswer H s = record { refused = s .refused; place = s .place; heads = cond (eqb (s .refused) 0) (s .heads) H }
 
 -- a rule leaves H
-abbrev pub ruleAnswer : ℕ → Walk → Answer
+abbrev pub ruleAnswer : ℕ → Ending → Answer
 ruleAnswer H w = record { refused = w .refused; place = w .at; heads = H }
 
 -- the letters of the readers: `s` and `w`; a third reader has all others
@@ -46,7 +46,7 @@ forSignature = 115
 abbrev pub forWritten : ℕ
 forWritten = 119
 
-abbrev pub wholeRule : (letter H : ℕ) → List ℕ → Walk
+abbrev pub wholeRule : (letter H : ℕ) → List ℕ → Ending
 wholeRule letter H ws = cond (eqb letter forWritten) (wholeOf ws (writtenAlone H ws)) (wholeOf ws (flatAlone H ws))
 
 abbrev pub answerOf : (letter H : ℕ) → List ℕ → Answer

@@ -4,7 +4,7 @@
 // A line is a letter for the reader, then the record's words, a space before each. A signature that reads well sets H for the rules
 // behind it. Empty lines and those that begin with `#` are copied, so that what is printed can be read beside what was read.
 use lines::reading::Line;
-use written::Walk;
+use written::Ending;
 ghost use mathlib.Core.Path.{_≡_};
 ghost use Prim.Native.Nat.{_+_, _<_, _≤_};
 ghost use lib.ListN.{length};
@@ -98,26 +98,26 @@ fn signature(bytes: &[u8], heads: u32) -> Answer
 }
 
 // What a written rule comes to: its length is tested before its words.
-fn written_rule(bytes: &[u8], heads: u32) -> Walk
+fn written_rule(bytes: &[u8], heads: u32) -> Ending
     ensures { λ r. ⌜ r ≡ wholeOf (words (now (bytes .entry))) (writtenAlone heads (words (now (bytes .entry)))) ⌝ }
 {
     if records::length_fits(bytes, records::MAX_WRITTEN) {
         return records::written(bytes, heads);
     }
-    Walk {
+    Ending {
         refused: BAD_LENGTH,
         at: 0,
     }
 }
 
 // What a flat rule comes to, likewise. Which of its names are globals does not matter to that.
-fn flat_rule(bytes: &[u8], heads: u32) -> Walk
+fn flat_rule(bytes: &[u8], heads: u32) -> Ending
     ensures { λ r. ⌜ r ≡ wholeOf (words (now (bytes .entry))) (flatAlone heads (words (now (bytes .entry)))) ⌝ }
 {
     if records::length_fits(bytes, records::MAX_FLAT) {
         return records::flat(bytes, heads, 0);
     }
-    Walk {
+    Ending {
         refused: BAD_LENGTH,
         at: 0,
     }
@@ -129,7 +129,7 @@ fn is_reader(letter: u8) -> bool {
 }
 
 // What a rule comes to, by the letter of its reader.
-fn read_rule(letter: u8, bytes: &[u8], heads: u32) -> Walk
+fn read_rule(letter: u8, bytes: &[u8], heads: u32) -> Ending
     ensures { λ r. ⌜ r ≡ wholeRule letter heads (words (now (bytes .entry))) ⌝ }
 {
     if letter == b'w' {

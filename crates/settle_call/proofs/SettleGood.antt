@@ -22,8 +22,8 @@ use Rattle.meaning.proofs.Results.{bind-ok, demand-ok}
 use Rattle.meaning.proofs.ReadSizes.{row-size, word-size}
 use Rattle.meaning.proofs.ReadFlatSizes.{total-words, atom-size, flat-size}
 use Rattle.meaning.proofs.ResultBounds.{settled-counts}
-use Rattle.written.specs.Written.{withHeads, walk, walkOf}
-use Rattle.written.specs.declared.Walk.{Walk}
+use Rattle.written.specs.Written.{withHeads, ending, endingOf}
+use Rattle.written.specs.declared.Ending.{Ending}
 use Rattle.signature.specs.declared.Signature.{Signature}
 use Rattle.records.proofs.FlatWords.{word-read, row-spelled, atom-spelled, action-spelled, flat-spelled}
 use Rattle.records.proofs.FlatWhole.{flat-with}
@@ -42,7 +42,7 @@ record Parted (t : Sig) (ws : List ℕ) (f : FlatRule) : Type 0 where
   header : isHeaderWord (getD ws 0 0) ≡ true
   atoms : length (f .atoms) ≡ factsOf (getD ws 0 0)
   actions : length (f .actions) ≡ actionsOf (getD ws 0 0)
-  ends : walkOf (readRow (readAtom t ws) (factsOf (getD ws 0 0)) 1) ≡ walk 0 (1 + length (wordsOf atomWords (f .atoms)))
+  ends : endingOf (readRow (readAtom t ws) (factsOf (getD ws 0 0)) 1) ≡ ending 0 (1 + length (wordsOf atomWords (f .atoms)))
 
 parted : (t : Sig) (ws : List ℕ) (f : FlatRule) → readFlat t ws ≡ ok f → Parted t ws f
 parted t ws f e =
@@ -62,9 +62,9 @@ parted t ws f e =
       atoms = y .1 ∙ ap factsOf (k .0);
       actions = z .1 ∙ ap actionsOf (k .0);
       ends =
-          ap (λ (n : ℕ). walkOf (readRow (readAtom t ws) (factsOf n) 1)) (sym (k .0))
-          ∙ ap (λ (n : ℕ). walkOf (readRow (readAtom t ws) (factsOf (h .0 .value)) n)) (sym (k .1))
-          ∙ ap walkOf (a .1) ∙ ap (walk 0) at-is;
+          ap (λ (n : ℕ). endingOf (readRow (readAtom t ws) (factsOf n) 1)) (sym (k .0))
+          ∙ ap (λ (n : ℕ). endingOf (readRow (readAtom t ws) (factsOf (h .0 .value)) n)) (sym (k .1))
+          ∙ ap endingOf (a .1) ∙ ap (ending 0) at-is;
     })
 
 at-whole : (l : List ℕ) → At l l 0
@@ -124,10 +124,10 @@ pub record Found {ws : List ℕ} {g : Signature} {l : List ℕ} {w : ℕ} (b : B
   pub short : length ws ≤ maxFlat
 
 module _ {ws : List ℕ} {g : Signature} {l : List ℕ} {w : ℕ} (b : Begun ws g l w) where
-  pub found : {r : Walk} → r ≡ walkOf (readRow (readAtom (withHeads (g .heads)) ws) ((w - headerBase) / limit12) 1) → Found b (r .at)
+  pub found : {r : Ending} → r ≡ endingOf (readRow (readAtom (withHeads (g .heads)) ws) ((w - headerBase) / limit12) 1) → Found b (r .at)
   found {r} walked =
       let ends : (t : SomeFlat ws g) → r .at ≡ 1 + length (atomsThere t) =
-      λ t. ap (λ (v : Walk). v .at) (walked ∙ ap (λ (n : ℕ). walkOf (readRow (readAtom (withHeads (g .heads)) ws) (factsOf n) 1)) (b .is) ∙ known t .ends) in
+      λ t. ap (λ (v : Ending). v .at) (walked ∙ ap (λ (n : ℕ). endingOf (readRow (readAtom (withHeads (g .heads)) ws) (factsOf n) 1)) (b .is) ∙ known t .ends) in
       let e = ends (b .some) in
       let s = size (b .some) in
       record { ends = ends; from = omega arith; inside = omega arith; short = b .some .under .short }

@@ -8,7 +8,7 @@ ghost use Prim.Native.Nat.{_+_, _-_, _≤_};
 ghost use lib.ListN.{length};
 ghost use Rattle.octets.specs.Words.{words};
 ghost use Rattle.rules.specs.Signature.{readSignature, payloadAt};
-ghost use Rattle.rules.specs.Refusals.{refuse, badSignature};
+ghost use Rattle.rules.specs.Refusals.{refuse};
 ghost use Rattle.rules.specs.Words.{signatureBase, within};
 ghost use Rattle.signature.specs.Signature.{signOf, payloadSays, allKinds, firstBad, Begins};
 
@@ -47,11 +47,12 @@ fn wide(n: u32) -> usize
     n as usize
 }
 
-fn turned_back(place: usize) -> Signature
-    ensures { λ r. ⌜ r ≡ signOf (refuse badSignature place) ⌝ }
+// A refusal in the place of a signature: its own, or one that comes behind it.
+pub fn turned_back(number: usize, place: usize) -> Signature
+    ensures { λ r. ⌜ r ≡ signOf (refuse number place) ⌝ }
 {
     Signature {
-        refused: BAD_SIGNATURE,
+        refused: number,
         place,
         heads: 0,
         globals: 0,
@@ -146,10 +147,10 @@ fn read_kinds(signature: &[u8], heads: u32, globals: u32, equals: u32, flag: u32
     let end = 4 + wide(heads);
     let bad = first_bad(signature, end);
     if bad < end {
-        return turned_back(bad);
+        return turned_back(BAD_SIGNATURE, bad);
     }
     if end < octets::count(signature) {
-        return turned_back(end);
+        return turned_back(BAD_SIGNATURE, end);
     }
     if octets::get(signature, 4 + wide(equals)) == PRIMITIVE {
         Signature {
@@ -161,7 +162,7 @@ fn read_kinds(signature: &[u8], heads: u32, globals: u32, equals: u32, flag: u32
             flag: flag == 1,
         }
     } else {
-        turned_back(2)
+        turned_back(BAD_SIGNATURE, 2)
     }
 }
 
@@ -170,16 +171,16 @@ pub fn read(signature: &[u8]) -> Signature
     ensures { λ r. ⌜ r ≡ signOf (readSignature (words (now (signature .entry)))) ⌝ }
 {
     let Payload::Fits(heads) = payload_at(signature, 1, LIMIT_12, 0) else {
-        return turned_back(0);
+        return turned_back(BAD_SIGNATURE, 0);
     };
     let Payload::Fits(globals) = payload_at(signature, 0, GLOBALS, 1) else {
-        return turned_back(1);
+        return turned_back(BAD_SIGNATURE, 1);
     };
     let Payload::Fits(equals) = payload_at(signature, 0, heads, 2) else {
-        return turned_back(2);
+        return turned_back(BAD_SIGNATURE, 2);
     };
     let Payload::Fits(flag) = payload_at(signature, 0, 2, 3) else {
-        return turned_back(3);
+        return turned_back(BAD_SIGNATURE, 3);
     };
     read_kinds(signature, heads, globals, equals, flag)
 }

@@ -19,8 +19,8 @@ use Rattle.words.specs.declared.Word.{Word}
 use Rattle.words.specs.declared.Word.the-variants.{Head, Header, Action}
 use Rattle.words.proofs.WordAt.{There, NotKind}
 use Rattle.words.proofs.WordLaws.{wordOf, header-kind, header-numbers, head-numbers, head-below, no-head, no-action, said}
-use Rattle.written.specs.declared.Walk.{Walk}
-use Rattle.written.specs.Written.{withHeads, walk, walkOf}
+use Rattle.written.specs.declared.Ending.{Ending}
+use Rattle.written.specs.Written.{withHeads, ending, endingOf}
 use Rattle.written.proofs.Walking.{Went, went-then, went-made, went-word, went-row, stops, both, then-same, then-then, Whole}
 
 -- ---- it is taken, or refused
@@ -44,10 +44,10 @@ module _ (fits : ℕ → Bool) where
     pub kind-unfit : NotKind ws p k → readWord ws fits p ≡ refuse unfit p
     kind-unfit n = word-unfit ws p (λ l. test (getD ws p 0) ∙ n .other l)
 
-    pub kind-taken : {x : Word} → There ws p x → eqb (kind x) k ≡ true → walk 0 (p + 1) ≡ walkOf (readWord ws fits p)
+    pub kind-taken : {x : Word} → There ws p x → eqb (kind x) k ≡ true → ending 0 (p + 1) ≡ endingOf (readWord ws fits p)
     kind-taken t same = rw (kind-fits t same, add-one p) refl
 
-    pub kind-refused : NotKind ws p k → walk unfit p ≡ walkOf (readWord ws fits p)
+    pub kind-refused : NotKind ws p k → ending unfit p ≡ endingOf (readWord ws fits p)
     kind-refused n = rw (kind-unfit n) refl
 
 -- ---- a head below H
@@ -124,19 +124,19 @@ module _ {ws : List ℕ} {p : ℕ} where
   code-there {n} t = rw (lt-ltb p (length ws) (t .inside), said (getD ws p 0) (t .says) (lit< tt) .0) refl
 
   -- the walk by the code that the word says is the walk over the action
-  module _ {A : Type 0} (by : Code → Res (Read A)) {n : ℕ} (t : There ws p (Action n)) {z : Walk} where
-    pub by-code : z ≡ walkOf (by (codeOf (actionWord n))) → z ≡ walkOf (by (codeAt ws p))
-    by-code e = e ∙ ap (λ (k : Code). walkOf (by k)) (sym (code-there t))
+  module _ {A : Type 0} (by : Code → Res (Read A)) {n : ℕ} (t : There ws p (Action n)) {z : Ending} where
+    pub by-code : z ≡ endingOf (by (codeOf (actionWord n))) → z ≡ endingOf (by (codeAt ws p))
+    by-code e = e ∙ ap (λ (k : Code). endingOf (by k)) (sym (code-there t))
 
-    pub as-code : (m : ℕ) → n ≡ m → z ≡ walkOf (by (codeOf (actionWord m))) → z ≡ walkOf (by (codeAt ws p))
-    as-code m same e = by-code (e ∙ ap (λ (k : ℕ). walkOf (by (codeOf (actionWord k)))) (sym same))
+    pub as-code : (m : ℕ) → n ≡ m → z ≡ endingOf (by (codeOf (actionWord m))) → z ≡ endingOf (by (codeAt ws p))
+    as-code m same e = by-code (e ∙ ap (λ (k : ℕ). endingOf (by (codeOf (actionWord k)))) (sym same))
 
     -- 3 and 4, of which the code asks the same
-    pub change-code : 3 ≤ n → n < 5 → z ≡ walkOf (by aDelete) → z ≡ walkOf (by aSubsume) → z ≡ walkOf (by (codeAt ws p))
+    pub change-code : 3 ≤ n → n < 5 → z ≡ endingOf (by aDelete) → z ≡ endingOf (by aSubsume) → z ≡ endingOf (by (codeAt ws p))
     change-code lo hi d s = ⊎-elim (λ (same : 3 ≡ n). as-code 3 (sym same) d) (λ (l : 3 < n). as-code 4 (let same : n ≡ 4 = omega arith in same) s) (eq-or-lt-of-le lo)
 
     -- none of 1 to 6
-    pub last-code : (m : ℕ) → NoneOf n m → (n ≡ 7 → z ≡ walkOf (by aCall)) → (n ≡ 8 → z ≡ walkOf (by anExpression)) → z ≡ walkOf (by noCode) → z ≡ walkOf (by (codeAt ws p))
+    pub last-code : (m : ℕ) → NoneOf n m → (n ≡ 7 → z ≡ endingOf (by aCall)) → (n ≡ 8 → z ≡ endingOf (by anExpression)) → z ≡ endingOf (by noCode) → z ≡ endingOf (by (codeAt ws p))
     last-code m k seven eight none = by-code (go (eqb (actionWord n) (actionWord 7)) refl (eqb (actionWord n) (actionWord 8)) refl)
       where
         not-code : (j : ℕ) → ¬ (n ≡ j) → eqb (actionWord n) (actionWord j) ≡ false
@@ -145,10 +145,10 @@ module _ {ws : List ℕ} {p : ℕ} where
         rest : codeOf (actionWord n) ≡ cond (eqb (actionWord n) (actionWord 7)) aCall (cond (eqb (actionWord n) (actionWord 8)) anExpression noCode)
         rest = simp (not-code 1 (k .one), not-code 2 (k .two), not-code 3 (k .three), not-code 4 (k .four), not-code 5 (k .five), not-code 6 (k .six))
 
-        go : (b : Bool) → eqb (actionWord n) (actionWord 7) ≡ b → (c : Bool) → eqb (actionWord n) (actionWord 8) ≡ c → z ≡ walkOf (by (codeOf (actionWord n)))
-        go true e c f = seven (let s = eqb-true (actionWord n) (actionWord 7) e in omega arith) ∙ ap (λ (k : Code). walkOf (by k)) (sym (rest ∙ rw e refl))
-        go false e true f = eight (let s = eqb-true (actionWord n) (actionWord 8) f in omega arith) ∙ ap (λ (k : Code). walkOf (by k)) (sym (rest ∙ rw (e, f) refl))
-        go false e false f = none ∙ ap (λ (k : Code). walkOf (by k)) (sym (rest ∙ rw (e, f) refl))
+        go : (b : Bool) → eqb (actionWord n) (actionWord 7) ≡ b → (c : Bool) → eqb (actionWord n) (actionWord 8) ≡ c → z ≡ endingOf (by (codeOf (actionWord n)))
+        go true e c f = seven (let s = eqb-true (actionWord n) (actionWord 7) e in omega arith) ∙ ap (λ (k : Code). endingOf (by k)) (sym (rest ∙ rw e refl))
+        go false e true f = eight (let s = eqb-true (actionWord n) (actionWord 8) f in omega arith) ∙ ap (λ (k : Code). endingOf (by k)) (sym (rest ∙ rw (e, f) refl))
+        go false e false f = none ∙ ap (λ (k : Code). endingOf (by k)) (sym (rest ∙ rw (e, f) refl))
 
 -- ---- a rule: its header, a row of one thing, and a row of another
 
@@ -172,7 +172,7 @@ module _ {A B C : Type 0} (ws : List ℕ) (f : List A → List B → C) (one : R
   abbrev read : Reader C
   read = readHeaded ws f one two
 
-  pub header-other : {p : ℕ} → NotKind ws p 5 → walk unfit p ≡ walkOf (read p)
+  pub header-other : {p : ℕ} → NotKind ws p 5 → ending unfit p ≡ endingOf (read p)
   header-other n = rw (kind-unfit isHeaderWord 5 header-kind n) refl
 
   module _ {p a b : ℕ} (t : There ws p (Header a b)) where
@@ -184,10 +184,10 @@ module _ {A B C : Type 0} (ws : List ℕ) (f : List A → List B → C) (one : R
         let n = header-numbers (getD ws p 0) a b (t .says) in
         rw (kind-fits isHeaderWord 5 header-kind t refl, n .0, n .1) refl
 
-    pub first-stops : {w : Walk} → w ≡ walkOf (readRow one a (p + 1)) → ¬ (w .refused ≡ 0) → w ≡ walkOf (read p)
+    pub first-stops : {w : Ending} → w ≡ endingOf (readRow one a (p + 1)) → ¬ (w .refused ≡ 0) → w ≡ endingOf (read p)
     first-stops e h = rw header-read (stops (readRow one a (suc p)) rest (rw (add-one p) at e) h)
 
-    pub then-second : {w z : Walk} → w ≡ walkOf (readRow one a (p + 1)) → w .refused ≡ 0 → z ≡ walkOf (readRow two b (w .at)) → z ≡ walkOf (read p)
+    pub then-second : {w z : Ending} → w ≡ endingOf (readRow one a (p + 1)) → w .refused ≡ 0 → z ≡ endingOf (readRow two b (w .at)) → z ≡ endingOf (read p)
     then-second e h g =
         rw header-read
         (both ws (suc p) 0 (readRow one a (suc p)) (readRow two b) (λ xs ys. f (xs .value) (ys .value)) (went-row ws one went a (suc p)) (rw (add-one p) at e) h g)

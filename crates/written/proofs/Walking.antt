@@ -9,8 +9,8 @@ use lib.Dec.{ltb, lit≤}
 use borrow.Author.Tests.{ltb-true, le-leb, lt-leb}
 use Rattle.rules.specs.Refusals.{Res, ok, refuse, _>>=_, demand, unfit}
 use Rattle.rules.specs.Written.{Expr, Exprs, _then_, Read, Reader, readWord, readMany, readRow, allRead}
-use Rattle.written.specs.declared.Walk.{Walk}
-use Rattle.written.specs.Written.{walk, walkOf, wholeOf}
+use Rattle.written.specs.declared.Ending.{Ending}
+use Rattle.written.specs.Written.{ending, endingOf, wholeOf}
 
 -- ---- where a reading ends
 
@@ -64,31 +64,31 @@ module _ (ws : List ℕ) where
 -- ---- a walk follows the reading
 
 -- a refusal is the whole answer
-pub stops : {A B : Type 0} (x : Res (Read A)) (f : Read A → Res (Read B)) {w : Walk} → w ≡ walkOf x → ¬ (w .refused ≡ 0) → w ≡ walkOf (_>>=_ x f)
-stops (ok r) f e h = absurd (h (ap (λ (v : Walk). v .refused) e))
+pub stops : {A B : Type 0} (x : Res (Read A)) (f : Read A → Res (Read B)) {w : Ending} → w ≡ endingOf x → ¬ (w .refused ≡ 0) → w ≡ endingOf (_>>=_ x f)
+stops (ok r) f e h = absurd (h (ap (λ (v : Ending). v .refused) e))
 stops (refuse n p) f e h = e
 
 -- and else the answer is that of the rest
-pub goes : {A B : Type 0} (ws : List ℕ) (p j : ℕ) (x : Res (Read A)) (f : Read A → Res (Read B)) {w z : Walk}
-    → Went ws p j x → w ≡ walkOf x → w .refused ≡ 0 → ((r : Read A) → r .at ≡ w .at → z ≡ walkOf (f r)) → z ≡ walkOf (_>>=_ x f)
-goes ws p j (ok r) f l e h g = g r (sym (ap (λ (v : Walk). v .at) e))
-goes ws p j (refuse n q) f l e h g = let z : n ≡ 0 = sym (ap (λ (v : Walk). v .refused) e) ∙ h in absurd (omega arith)
+pub goes : {A B : Type 0} (ws : List ℕ) (p j : ℕ) (x : Res (Read A)) (f : Read A → Res (Read B)) {w z : Ending}
+    → Went ws p j x → w ≡ endingOf x → w .refused ≡ 0 → ((r : Read A) → r .at ≡ w .at → z ≡ endingOf (f r)) → z ≡ endingOf (_>>=_ x f)
+goes ws p j (ok r) f l e h g = g r (sym (ap (λ (v : Ending). v .at) e))
+goes ws p j (refuse n q) f l e h g = let z : n ≡ 0 = sym (ap (λ (v : Ending). v .refused) e) ∙ h in absurd (omega arith)
 
 -- and where it begins again is known
-walk-ends : {A : Type 0} (ws : List ℕ) (p j : ℕ) (x : Res (Read A)) {w : Walk}
-    → Went ws p j x → w ≡ walkOf x → w .refused ≡ 0 → (p + j ≤ w .at) × (w .at - p ≤ length ws - p)
-walk-ends ws p j (ok r) l e h = let same = ap (λ (v : Walk). v .at) e in (omega arith, omega arith)
-walk-ends ws p j (refuse n q) l e h = let z : n ≡ 0 = sym (ap (λ (v : Walk). v .refused) e) ∙ h in absurd (omega arith)
+ending-ends : {A : Type 0} (ws : List ℕ) (p j : ℕ) (x : Res (Read A)) {w : Ending}
+    → Went ws p j x → w ≡ endingOf x → w .refused ≡ 0 → (p + j ≤ w .at) × (w .at - p ≤ length ws - p)
+ending-ends ws p j (ok r) l e h = let same = ap (λ (v : Ending). v .at) e in (omega arith, omega arith)
+ending-ends ws p j (refuse n q) l e h = let z : n ≡ 0 = sym (ap (λ (v : Ending). v .refused) e) ∙ h in absurd (omega arith)
 
 -- a value made of what was read ends where the reading did
-pub made : {A B : Type 0} (x : Res (Read A)) (f : Read A → B) → walkOf (_>>=_ x (λ r. ok (record { value = f r; at = r .at }))) ≡ walkOf x
+pub made : {A B : Type 0} (x : Res (Read A)) (f : Read A → B) → endingOf (_>>=_ x (λ r. ok (record { value = f r; at = r .at }))) ≡ endingOf x
 made (ok r) f = refl
 made (refuse n p) f = refl
 
 -- one thing, then another, and a value made of both
-pub both : {A B C : Type 0} (ws : List ℕ) (p j : ℕ) (x : Res (Read A)) (one : Reader B) (f : Read A → Read B → C) {w z : Walk}
-    → Went ws p j x → w ≡ walkOf x → w .refused ≡ 0 → z ≡ walkOf (one (w .at))
-    → z ≡ walkOf (_>>=_ x (λ a. _>>=_ (one (a .at)) (λ b. ok (record { value = f a b; at = b .at }))))
+pub both : {A B C : Type 0} (ws : List ℕ) (p j : ℕ) (x : Res (Read A)) (one : Reader B) (f : Read A → Read B → C) {w z : Ending}
+    → Went ws p j x → w ≡ endingOf x → w .refused ≡ 0 → z ≡ endingOf (one (w .at))
+    → z ≡ endingOf (_>>=_ x (λ a. _>>=_ (one (a .at)) (λ b. ok (record { value = f a b; at = b .at }))))
 both ws p j x one f l e h g =
     goes ws p j x (λ a. _>>=_ (one (a .at)) (λ b. ok (record { value = f a b; at = b .at }))) l e h (λ r same. rw (made (one (r .at)) (f r), same) g)
 
@@ -97,11 +97,11 @@ both ws p j x one f l e h g =
 -- a reader of n things, taken apart at the first
 pub record Several {A B : Type 0} (ws : List ℕ) (one : Reader A) (several : ℕ → Reader B) : Type 0 where
   pub went : (p : ℕ) → Went ws p 1 (one p)
-  pub none : (p : ℕ) → walkOf (several 0 p) ≡ walk 0 p
-  pub more : (n p : ℕ) → walkOf (several (suc n) p) ≡ walkOf (_>>=_ (one p) (λ x. several n (x .at)))
+  pub none : (p : ℕ) → endingOf (several 0 p) ≡ ending 0 p
+  pub more : (n p : ℕ) → endingOf (several (suc n) p) ≡ endingOf (_>>=_ (one p) (λ x. several n (x .at)))
 
 pub then-made : {A B C : Type 0} (x : Res (Read A)) (one : Reader B) (f : Read A → Read B → C)
-    → walkOf (_>>=_ x (λ a. _>>=_ (one (a .at)) (λ b. ok (record { value = f a b; at = b .at })))) ≡ walkOf (_>>=_ x (λ a. one (a .at)))
+    → endingOf (_>>=_ x (λ a. _>>=_ (one (a .at)) (λ b. ok (record { value = f a b; at = b .at })))) ≡ endingOf (_>>=_ x (λ a. one (a .at)))
 then-made (ok a) one f = made (one (a .at)) (f a)
 then-made (refuse n p) one f = refl
 
@@ -113,7 +113,7 @@ row ws one went = record { went = went; none = λ p. refl; more = λ n p. then-m
 
 -- of `count` from `at` on, `left` are still to be read from `next` on: the rest answers as the whole does
 pub record Left {A B : Type 0} {ws : List ℕ} {one : Reader A} {several : ℕ → Reader B} (k : Several ws one several) (count at left next : ℕ) : Type 0 where
-  pub same : walkOf (several left next) ≡ walkOf (several count at)
+  pub same : endingOf (several left next) ≡ endingOf (several count at)
 
 module _ {A B : Type 0} {ws : List ℕ} {one : Reader A} {several : ℕ → Reader B} {k : Several ws one several} where
   pub left-start : {count at : ℕ} → Left k count at count at
@@ -121,57 +121,57 @@ module _ {A B : Type 0} {ws : List ℕ} {one : Reader A} {several : ℕ → Read
 
   -- the walk over the next of them
   module _ {count at left next : ℕ} (l : Left k count at left next) where
-    pub left-stops : {w : Walk} → 0 < left → w ≡ walkOf (one next) → ¬ (w .refused ≡ 0) → w ≡ walkOf (several count at)
+    pub left-stops : {w : Ending} → 0 < left → w ≡ endingOf (one next) → ¬ (w .refused ≡ 0) → w ≡ endingOf (several count at)
     left-stops {w} some e h = go left some ∙ l .same
       where
-        go : (n : ℕ) → 0 < n → w ≡ walkOf (several n next)
+        go : (n : ℕ) → 0 < n → w ≡ endingOf (several n next)
         go zero z = absurd (omega arith)
         go (suc n) z = stops (one next) (λ x. several n (x .at)) e h ∙ sym (k .more n next)
 
-    pub left-next : {w : Walk} → 0 < left → w ≡ walkOf (one next) → w .refused ≡ 0 → Left k count at (left - 1) (w .at)
+    pub left-next : {w : Ending} → 0 < left → w ≡ endingOf (one next) → w .refused ≡ 0 → Left k count at (left - 1) (w .at)
     left-next {w} some e h = record { same = go left some ∙ l .same }
       where
-        go : (n : ℕ) → 0 < n → walkOf (several (n - 1) (w .at)) ≡ walkOf (several n next)
+        go : (n : ℕ) → 0 < n → endingOf (several (n - 1) (w .at)) ≡ endingOf (several n next)
         go zero z = absurd (omega arith)
         go (suc n) z =
             let down : suc n - 1 ≡ n = omega arith in
             goes ws next 1 (one next) (λ x. several n (x .at)) (k .went next) e h (λ r same. rw (down, same)) ∙ sym (k .more n next)
 
     -- and the one after it stands behind
-    pub left-on : {w : Walk} → w ≡ walkOf (one next) → w .refused ≡ 0 → next < w .at
-    left-on e h = omega (arith, walk-ends ws next 1 (one next) (k .went next) e h .0)
+    pub left-on : {w : Ending} → w ≡ endingOf (one next) → w .refused ≡ 0 → next < w .at
+    left-on e h = omega (arith, ending-ends ws next 1 (one next) (k .went next) e h .0)
 
-    pub left-end : left ≡ 0 → walk 0 next ≡ walkOf (several count at)
-    left-end none = sym (k .none next) ∙ ap (λ (n : ℕ). walkOf (several n next)) (sym none) ∙ l .same
+    pub left-end : left ≡ 0 → ending 0 next ≡ endingOf (several count at)
+    left-end none = sym (k .none next) ∙ ap (λ (n : ℕ). endingOf (several n next)) (sym none) ∙ l .same
 
 -- none is to be read
-pub none-left : {A B : Type 0} {ws : List ℕ} {one : Reader A} {several : ℕ → Reader B} (k : Several ws one several) (n p : ℕ) → n ≡ 0 → walk 0 p ≡ walkOf (several n p)
+pub none-left : {A B : Type 0} {ws : List ℕ} {one : Reader A} {several : ℕ → Reader B} (k : Several ws one several) (n p : ℕ) → n ≡ 0 → ending 0 p ≡ endingOf (several n p)
 none-left k n p z = left-end {k = k} (left-start {k = k}) z
 
 -- ---- a row of expressions, and one more
 
 -- what is read behind a value begins where that was made
 pub moved : {A B C : Type 0} (x : Res (Read A)) (f : Read A → B) (one : Reader C)
-    → walkOf (_>>=_ {A = Read B} (_>>=_ x (λ a. ok (record { value = f a; at = a .at }))) (λ b. one (b .at))) ≡ walkOf (_>>=_ x (λ a. one (a .at)))
+    → endingOf (_>>=_ {A = Read B} (_>>=_ x (λ a. ok (record { value = f a; at = a .at }))) (λ b. one (b .at))) ≡ endingOf (_>>=_ x (λ a. one (a .at)))
 moved (ok a) f one = refl
 moved (refuse n p) f one = refl
 
 -- one expression
-pub just-one : (one : Reader Expr) (p : ℕ) → walkOf (readMany one 1 p) ≡ walkOf (one p)
+pub just-one : (one : Reader Expr) (p : ℕ) → endingOf (readMany one 1 p) ≡ endingOf (one p)
 just-one one p = go (one p)
   where
-    go : (x : Res (Read Expr)) → walkOf (_>>=_ x (λ e. _>>=_ (readMany one 0 (e .at)) (λ es. ok (record { value = e .value then es .value; at = es .at })))) ≡ walkOf x
+    go : (x : Res (Read Expr)) → endingOf (_>>=_ x (λ e. _>>=_ (readMany one 0 (e .at)) (λ es. ok (record { value = e .value then es .value; at = es .at })))) ≡ endingOf x
     go (ok r) = refl
     go (refuse n q) = refl
 
 -- what is read behind a row is one more of it
-pub last-one : (one : Reader Expr) (n p : ℕ) → walkOf (_>>=_ (readMany one n p) (λ es. one (es .at))) ≡ walkOf (readMany one (suc n) p)
+pub last-one : (one : Reader Expr) (n p : ℕ) → endingOf (_>>=_ (readMany one n p) (λ es. one (es .at))) ≡ endingOf (readMany one (suc n) p)
 last-one one zero p = sym (just-one one p)
 last-one one (suc n) p = go (one p) (λ q. last-one one n q)
   where
-    go : (x : Res (Read Expr)) → ((q : ℕ) → walkOf (_>>=_ (readMany one n q) (λ es. one (es .at))) ≡ walkOf (readMany one (suc n) q))
-        → walkOf (_>>=_ {A = Read Exprs} (_>>=_ x (λ e. _>>=_ (readMany one n (e .at)) (λ es. ok (record { value = e .value then es .value; at = es .at })))) (λ es. one (es .at)))
-        ≡ walkOf (_>>=_ x (λ e. _>>=_ (readMany one (suc n) (e .at)) (λ es. ok (record { value = e .value then es .value; at = es .at }))))
+    go : (x : Res (Read Expr)) → ((q : ℕ) → endingOf (_>>=_ (readMany one n q) (λ es. one (es .at))) ≡ endingOf (readMany one (suc n) q))
+        → endingOf (_>>=_ {A = Read Exprs} (_>>=_ x (λ e. _>>=_ (readMany one n (e .at)) (λ es. ok (record { value = e .value then es .value; at = es .at })))) (λ es. one (es .at)))
+        ≡ endingOf (_>>=_ x (λ e. _>>=_ (readMany one (suc n) (e .at)) (λ es. ok (record { value = e .value then es .value; at = es .at }))))
     go (ok e) h = moved (readMany one n (e .at)) _ one ∙ h (e .at) ∙ sym (made (readMany one (suc n) (e .at)) _)
     go (refuse m q) h = refl
 
@@ -191,27 +191,27 @@ pub record Whole {A : Type 0} (ws : List ℕ) (x : Res (Read A)) (y : Res A) : T
   pub went : Went ws 0 1 x
   pub is : y ≡ _>>=_ x (allRead ws)
 
-module _ {A : Type 0} {ws : List ℕ} {x : Res (Read A)} {y : Res A} (k : Whole ws x y) {w : Walk} (e : w ≡ walkOf x) where
+module _ {A : Type 0} {ws : List ℕ} {x : Res (Read A)} {y : Res A} (k : Whole ws x y) {w : Ending} (e : w ≡ endingOf x) where
   pub whole-stops : ¬ (w .refused ≡ 0) → w ≡ wholeOf ws y
   whole-stops h = rw (k .is) (go x e)
     where
-      go : (y : Res (Read A)) → w ≡ walkOf y → w ≡ wholeOf ws (_>>=_ y (allRead ws))
-      go (ok r) k = absurd (h (ap (λ (v : Walk). v .refused) k))
+      go : (y : Res (Read A)) → w ≡ endingOf y → w ≡ wholeOf ws (_>>=_ y (allRead ws))
+      go (ok r) k = absurd (h (ap (λ (v : Ending). v .refused) k))
       go (refuse n p) k = k
 
-  pub surplus : w .refused ≡ 0 → w .at < length ws → walk unfit (w .at) ≡ wholeOf ws y
+  pub surplus : w .refused ≡ 0 → w .at < length ws → ending unfit (w .at) ≡ wholeOf ws y
   surplus h l = rw (k .is) (go x (k .went) e)
     where
-      go : (y : Res (Read A)) → Went ws 0 1 y → w ≡ walkOf y → walk unfit (w .at) ≡ wholeOf ws (_>>=_ y (allRead ws))
-      go (ok r) g k = let same : w .at ≡ r .at = ap (λ (v : Walk). v .at) k in rw (same, lt-leb (length ws) (r .at) (omega arith)) refl
-      go (refuse n p) g k = let z : n ≡ 0 = sym (ap (λ (v : Walk). v .refused) k) ∙ h in absurd (omega arith)
+      go : (y : Res (Read A)) → Went ws 0 1 y → w ≡ endingOf y → ending unfit (w .at) ≡ wholeOf ws (_>>=_ y (allRead ws))
+      go (ok r) g k = let same : w .at ≡ r .at = ap (λ (v : Ending). v .at) k in rw (same, lt-leb (length ws) (r .at) (omega arith)) refl
+      go (refuse n p) g k = let z : n ≡ 0 = sym (ap (λ (v : Ending). v .refused) k) ∙ h in absurd (omega arith)
 
   pub all-read : w .refused ≡ 0 → length ws ≤ w .at → w ≡ wholeOf ws y
   all-read h l = rw (k .is) (go x (k .went) e)
     where
-      go : (y : Res (Read A)) → Went ws 0 1 y → w ≡ walkOf y → w ≡ wholeOf ws (_>>=_ y (allRead ws))
+      go : (y : Res (Read A)) → Went ws 0 1 y → w ≡ endingOf y → w ≡ wholeOf ws (_>>=_ y (allRead ws))
       go (ok r) g k =
-          let same : w .at ≡ r .at = ap (λ (v : Walk). v .at) k in
+          let same : w .at ≡ r .at = ap (λ (v : Ending). v .at) k in
           let end : r .at ≡ length ws = omega arith in
           k ∙ rw (le-leb (length ws) (r .at) (omega arith), end) refl
-      go (refuse n p) g k = let z : n ≡ 0 = sym (ap (λ (v : Walk). v .refused) k) ∙ h in absurd (omega arith)
+      go (refuse n p) g k = let z : n ≡ 0 = sym (ap (λ (v : Ending). v .refused) k) ∙ h in absurd (omega arith)

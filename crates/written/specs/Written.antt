@@ -11,7 +11,7 @@ use Rattle.rules.specs.Words.{limit12, limit16, nameBase, literalBase, countOf}
 use Rattle.rules.specs.Refusals.{Res, ok, refuse, unfit}
 use Rattle.rules.specs.Signature.{Sig}
 use Rattle.rules.specs.Written.{Read, Shape, isLeaf, isCall, isBad, shapeAt}
-use Rattle.written.specs.declared.Walk.{Walk}
+use Rattle.written.specs.declared.Ending.{Ending}
 use Rattle.written.specs.declared.Start.{Start}
 use Rattle.written.specs.declared.Start.the-variants.{Takes, Other}
 
@@ -25,18 +25,18 @@ withHeads H = withGlobals H 0
 
 -- ---- the answers
 
-abbrev pub walk : (refused at : ℕ) → Walk
-walk n p = record { refused = n; at = p }
+abbrev pub ending : (refused at : ℕ) → Ending
+ending n p = record { refused = n; at = p }
 
 -- where a reading ends, or its refusal
-abbrev pub walkOf : {A : Type 0} → Res (Read A) → Walk
-walkOf (ok r) = walk 0 (r .at)
-walkOf (refuse n p) = walk n p
+abbrev pub endingOf : {A : Type 0} → Res (Read A) → Ending
+endingOf (ok r) = ending 0 (r .at)
+endingOf (refuse n p) = ending n p
 
 -- a whole record ends with its words
-abbrev pub wholeOf : {A : Type 0} → List ℕ → Res A → Walk
-wholeOf ws (ok r) = walk 0 (length ws)
-wholeOf ws (refuse n p) = walk n p
+abbrev pub wholeOf : {A : Type 0} → List ℕ → Res A → Ending
+wholeOf ws (ok r) = ending 0 (length ws)
+wholeOf ws (refuse n p) = ending n p
 
 -- ---- how an expression begins
 

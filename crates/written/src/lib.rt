@@ -13,7 +13,7 @@ ghost use lib.ListN.{length};
 ghost use Rattle.octets.specs.Words.{words};
 ghost use Rattle.rules.specs.Words.{maxDepth, aLet, aSet, aPanic};
 ghost use Rattle.rules.specs.Written.{readMany, readExpr, readTarget, readEqual, readFact, readCode, readAction};
-ghost use Rattle.written.specs.Written.{withHeads, walkOf, leafEnd, startSays, takenAt, Starts};
+ghost use Rattle.written.specs.Written.{withHeads, endingOf, leafEnd, startSays, takenAt, Starts};
 
 // The refusals' numbers.
 pub const UNFIT: usize = 5;
@@ -25,9 +25,9 @@ const NAME_END: u32 = NAME_BASE + LIMIT_12;
 
 const LITERAL_END: u32 = LITERAL_BASE + LIMIT_16;
 
-// What a walk answers: with 0, the index after what it read; else a refusal's number and place. The number is as wide as the place, so that there is no gap
+// Where a reading ends: with 0, at the index behind what was read; else a refusal's number and place. The number is as wide as the place, so that there is no gap
 // between them: a processor waits where a struct with a gap is copied soon after it was written.
-pub struct Walk {
+pub struct Ending {
     pub refused: usize,
     pub at: usize,
 }
@@ -72,19 +72,19 @@ fn start_at(rule: &[u8], heads: u32, at: usize) -> Start
 }
 
 // The expression whose word, at an index, takes `count` arguments, if it may hold expressions `depth` deep.
-fn expression(rule: &[u8], heads: u32, at: usize, count: u32, depth: u32) -> Walk
+fn expression(rule: &[u8], heads: u32, at: usize, count: u32, depth: u32) -> Ending
     requires { ⌜ Starts (withHeads heads) (words (now rule)) at count ⌝ }
-    ensures { λ r. ⌜ r ≡ walkOf (readExpr (withHeads heads) (words (now (rule .entry))) depth at) ⌝ }
+    ensures { λ r. ⌜ r ≡ endingOf (readExpr (withHeads heads) (words (now (rule .entry))) depth at) ⌝ }
 {
     if depth == 0 {
-        return Walk {
+        return Ending {
             refused: TOO_DEEP,
             at,
         };
     }
     let next = at + 1;
     if count == 0 {
-        return Walk {
+        return Ending {
             refused: 0,
             at: next,
         };
@@ -94,15 +94,15 @@ fn expression(rule: &[u8], heads: u32, at: usize, count: u32, depth: u32) -> Wal
 
 // `count` expressions, one after the other, each of which may hold expressions `depth` deep. Each is taken by its first word, or refused there. Behind the
 // arguments of the last one nothing is left to read, so that they are read in its place, without a call.
-fn arguments(rule: &[u8], heads: u32, at: usize, count: u32, depth: u32) -> Walk
-    ensures { λ r. ⌜ r ≡ walkOf (readMany (readExpr (withHeads heads) (words (now (rule .entry))) depth) count at) ⌝ }
+fn arguments(rule: &[u8], heads: u32, at: usize, count: u32, depth: u32) -> Ending
+    ensures { λ r. ⌜ r ≡ endingOf (readMany (readExpr (withHeads heads) (words (now (rule .entry))) depth) count at) ⌝ }
 {
     let mut next = at;
     let mut left = count;
     let mut deep = depth;
     while 0 < left {
         let Start::Takes(some) = start_at(rule, heads, next) else {
-            return Walk {
+            return Ending {
                 refused: UNFIT,
                 at: next,
             };
@@ -120,22 +120,22 @@ fn arguments(rule: &[u8], heads: u32, at: usize, count: u32, depth: u32) -> Walk
             next = read.at;
         }
     }
-    Walk {
+    Ending {
         refused: 0,
         at: next,
     }
 }
 
 // An expression that stands in no other. Most have no arguments or few: what begins here is told at once, and only arguments are walked.
-fn outermost(rule: &[u8], heads: u32, at: usize) -> Walk
-    ensures { λ r. ⌜ r ≡ walkOf (readExpr (withHeads heads) (words (now (rule .entry))) maxDepth at) ⌝ }
+fn outermost(rule: &[u8], heads: u32, at: usize) -> Ending
+    ensures { λ r. ⌜ r ≡ endingOf (readExpr (withHeads heads) (words (now (rule .entry))) maxDepth at) ⌝ }
 {
     let Start::Takes(some) = start_at(rule, heads, at) else {
-        return Walk { refused: UNFIT, at };
+        return Ending { refused: UNFIT, at };
     };
     let next = at + 1;
     if some == 0 {
-        return Walk {
+        return Ending {
             refused: 0,
             at: next,
         };
@@ -144,16 +144,16 @@ fn outermost(rule: &[u8], heads: u32, at: usize) -> Walk
 }
 
 // The two expressions behind the word at an index, which is an equality's or a union's.
-fn pair(rule: &[u8], heads: u32, at: usize) -> Walk
+fn pair(rule: &[u8], heads: u32, at: usize) -> Ending
     requires { ⌜ at < length (words (now rule)) ⌝ }
-    ensures { λ r. ⌜ r ≡ walkOf (readEqual (withHeads heads) (words (now (rule .entry))) at) ⌝ }
+    ensures { λ r. ⌜ r ≡ endingOf (readEqual (withHeads heads) (words (now (rule .entry))) at) ⌝ }
 {
     arguments(rule, heads, at + 1, 2, MAX_DEPTH)
 }
 
 // A fact: an expression, or an equality of two.
-pub fn fact(rule: &[u8], heads: u32, at: usize) -> Walk
-    ensures { λ r. ⌜ r ≡ walkOf (readFact (withHeads heads) (words (now (rule .entry))) at) ⌝ }
+pub fn fact(rule: &[u8], heads: u32, at: usize) -> Ending
+    ensures { λ r. ⌜ r ≡ endingOf (readFact (withHeads heads) (words (now (rule .entry))) at) ⌝ }
 {
     let w = word_at(rule, at);
     let Word::Equality(count) = w else {
@@ -162,34 +162,34 @@ pub fn fact(rule: &[u8], heads: u32, at: usize) -> Walk
     if count == 2 {
         pair(rule, heads, at)
     } else {
-        Walk { refused: UNFIT, at }
+        Ending { refused: UNFIT, at }
     }
 }
 
 // The kind 3 word of a set, a delete or a subsume, and its arguments.
-fn target(rule: &[u8], heads: u32, at: usize) -> Walk
-    ensures { λ r. ⌜ r ≡ walkOf (readTarget (withHeads heads) (words (now (rule .entry))) at) ⌝ }
+fn target(rule: &[u8], heads: u32, at: usize) -> Ending
+    ensures { λ r. ⌜ r ≡ endingOf (readTarget (withHeads heads) (words (now (rule .entry))) at) ⌝ }
 {
     let w = word_at(rule, at);
     let Word::Head(head, count) = w else {
-        return Walk { refused: UNFIT, at };
+        return Ending { refused: UNFIT, at };
     };
     if head < heads {
         arguments(rule, heads, at + 1, count, MAX_DEPTH)
     } else {
-        Walk { refused: UNFIT, at }
+        Ending { refused: UNFIT, at }
     }
 }
 
 // A let, whose action word is at an index: a name and an expression.
-fn let_action(rule: &[u8], heads: u32, at: usize) -> Walk
+fn let_action(rule: &[u8], heads: u32, at: usize) -> Ending
     requires { ⌜ at < length (words (now rule)) ⌝ }
-    ensures { λ r. ⌜ r ≡ walkOf (readCode (withHeads heads) (words (now (rule .entry))) at aLet (at + 1)) ⌝ }
+    ensures { λ r. ⌜ r ≡ endingOf (readCode (withHeads heads) (words (now (rule .entry))) at aLet (at + 1)) ⌝ }
 {
     let name = at + 1;
     let w = word_at(rule, name);
     let Word::Name(_) = w else {
-        return Walk {
+        return Ending {
             refused: UNFIT,
             at: name,
         };
@@ -198,14 +198,14 @@ fn let_action(rule: &[u8], heads: u32, at: usize) -> Walk
 }
 
 // A set: a kind 3 word, its arguments and a value. The value is read with the arguments, as one more of them.
-fn set_action(rule: &[u8], heads: u32, at: usize) -> Walk
+fn set_action(rule: &[u8], heads: u32, at: usize) -> Ending
     requires { ⌜ at < length (words (now rule)) ⌝ }
-    ensures { λ r. ⌜ r ≡ walkOf (readCode (withHeads heads) (words (now (rule .entry))) at aSet (at + 1)) ⌝ }
+    ensures { λ r. ⌜ r ≡ endingOf (readCode (withHeads heads) (words (now (rule .entry))) at aSet (at + 1)) ⌝ }
 {
     let set = at + 1;
     let w = word_at(rule, set);
     let Word::Head(head, count) = w else {
-        return Walk {
+        return Ending {
             refused: UNFIT,
             at: set,
         };
@@ -213,7 +213,7 @@ fn set_action(rule: &[u8], heads: u32, at: usize) -> Walk
     if head < heads {
         arguments(rule, heads, set + 1, count + 1, MAX_DEPTH)
     } else {
-        Walk {
+        Ending {
             refused: UNFIT,
             at: set,
         }
@@ -221,31 +221,31 @@ fn set_action(rule: &[u8], heads: u32, at: usize) -> Walk
 }
 
 // A panic: a literal.
-fn panic_action(rule: &[u8], heads: u32, at: usize) -> Walk
+fn panic_action(rule: &[u8], heads: u32, at: usize) -> Ending
     requires { ⌜ at < length (words (now rule)) ⌝ }
-    ensures { λ r. ⌜ r ≡ walkOf (readCode (withHeads heads) (words (now (rule .entry))) at aPanic (at + 1)) ⌝ }
+    ensures { λ r. ⌜ r ≡ endingOf (readCode (withHeads heads) (words (now (rule .entry))) at aPanic (at + 1)) ⌝ }
 {
     let message = at + 1;
     let w = word_at(rule, message);
     let Word::Literal(_) = w else {
-        return Walk {
+        return Ending {
             refused: UNFIT,
             at: message,
         };
     };
-    Walk {
+    Ending {
         refused: 0,
         at: message + 1,
     }
 }
 
 // An action: its code, and what the code asks for. Action 7 is not written.
-pub fn action(rule: &[u8], heads: u32, at: usize) -> Walk
-    ensures { λ r. ⌜ r ≡ walkOf (readAction (withHeads heads) (words (now (rule .entry))) at) ⌝ }
+pub fn action(rule: &[u8], heads: u32, at: usize) -> Ending
+    ensures { λ r. ⌜ r ≡ endingOf (readAction (withHeads heads) (words (now (rule .entry))) at) ⌝ }
 {
     let w = word_at(rule, at);
     let Word::Action(code) = w else {
-        return Walk { refused: UNFIT, at };
+        return Ending { refused: UNFIT, at };
     };
     match code {
         1 => let_action(rule, heads, at),
@@ -254,6 +254,6 @@ pub fn action(rule: &[u8], heads: u32, at: usize) -> Walk
         5 => pair(rule, heads, at),
         6 => panic_action(rule, heads, at),
         8 => outermost(rule, heads, at + 1),
-        _ => Walk { refused: UNFIT, at },
+        _ => Ending { refused: UNFIT, at },
     }
 }

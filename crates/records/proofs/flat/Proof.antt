@@ -8,15 +8,15 @@ use borrow.Author.Needs.{needs}
 use Rattle.records.proofs.flat.Statement.{statement}
 use Rattle.records.proofs.flat.Tie as tie
 
-whole-requires : tie.Need-whole-requires
-whole-requires c κs = search needs
+whole-rule-requires : tie.Need-whole-rule-requires
+whole-rule-requires c κs = search needs
 
 returns : tie.Need-returns
 returns c =
     let a = c .before .before .args in
     let s = withHeads (a .heads) in
     let ws = words (a .rule .now) in
-    c .whole .ensures ∙ whole-made ws (readAtom s ws) (readCoreAction s ws) pair flatRule
+    c .whole-rule .ensures ∙ whole-made ws (readAtom s ws) (readCoreAction s ws) pair flatRule
 
 pub flat-spec : {M : Type 1} → statement M
-flat-spec = tie.close (tie.spec whole-requires returns)
+flat-spec = tie.close (tie.spec whole-rule-requires returns)

@@ -8,15 +8,15 @@ use borrow.Author.Needs.{needs}
 use Rattle.records.proofs.written.Statement.{statement}
 use Rattle.records.proofs.written.Tie as tie
 
-whole-requires : tie.Need-whole-requires
-whole-requires c κs = search needs
+whole-rule-requires : tie.Need-whole-rule-requires
+whole-rule-requires c κs = search needs
 
 returns : tie.Need-returns
 returns c =
     let a = c .before .before .args in
     let s = withHeads (a .heads) in
     let ws = words (a .rule .now) in
-    c .whole .ensures ∙ whole-made ws (readFact s ws) (readAction s ws) pair rule
+    c .whole-rule .ensures ∙ whole-made ws (readFact s ws) (readAction s ws) pair rule
 
 pub written-spec : {M : Type 1} → statement M
-written-spec = tie.close (tie.spec whole-requires returns)
+written-spec = tie.close (tie.spec whole-rule-requires returns)

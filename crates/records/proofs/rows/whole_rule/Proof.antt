@@ -8,8 +8,8 @@ use Rattle.written.proofs.Walking.{Whole}
 use Rattle.written.proofs.Expected.{headed-whole}
 use Rattle.records.proofs.Items.{went, pair}
 use borrow.Author.Needs.{needs}
-use Rattle.records.proofs.rows.whole.Statement.{statement}
-use Rattle.records.proofs.rows.whole.Tie as tie
+use Rattle.records.proofs.rows.whole_rule.Statement.{statement}
+use Rattle.records.proofs.rows.whole_rule.Tie as tie
 
 -- what begins at index 0 is the whole, if nothing is behind it
 at-whole : (c : tie.Start) → let a = c .args in
@@ -46,5 +46,5 @@ returns-3 c =
     let r = read-at (c .before .before) in
     all-read (at-whole (r .before .before)) (r .rule-at .ensures) (omega arith) (omega arith)
 
-pub whole-spec : {M : Type 1} → statement M
-whole-spec = tie.close (tie.spec rule-at-requires returns count-requires returns-2 returns-3)
+pub whole-rule-spec : {M : Type 1} → statement M
+whole-rule-spec = tie.close (tie.spec rule-at-requires returns count-requires returns-2 returns-3)
