@@ -23,7 +23,6 @@ use Rattle.meaning.specs.Meaning.{All}
 use Rattle.meaning.proofs.Sweep.{asks}
 use Rattle.meaning.specs.Weight.{headsWeight, live, unlike, weight}
 use Rattle.words.specs.Atom.{BeginsGood}
-use Rattle.words.specs.declared.Atom as word
 use Rattle.bodies.specs.Standing.{AtomsAt, TabsAt, atomsIn}
 use Rattle.bodies.proofs.Standing.{atoms-before, atoms-join, equality-begins, no-tabs, tabs-before, tabs-join}
 use Rattle.canonicalize.specs.declared.Canonical.{Canonical}
@@ -31,7 +30,7 @@ use Rattle.canonicalize.specs.Canonicalize.{FrontAsks, FrontOne, FrontOn
 use Rattle.canonicalize.specs.Canonicalize.{askAt, bindingWords, placeAfter, resolveAt}
 use Rattle.canonicalize.specs.Spans.{Spanned}
 use Rattle.canonicalize.proofs.Fronts.{asked-same-terms, canonicalize-asked, canonicalize-still}
-use Rattle.canonicalize.proofs.Replacing.{Equality, ask-is, made}
+use Rattle.canonicalize.proofs.Replacing.{ask-is, made}
 use Rattle.canonicalize.proofs.Resolving.{resolve-atom, resolved-there}
 use Rattle.canonicalize.proofs.SpanLaws.{spanned-before, spanned-tail}
 use Rattle.rules.specs.Canonicalize as canon
@@ -45,12 +44,12 @@ module _ {s : Sig} {l : List ℕ} {p n to d table buckets : ℕ} (c : FrontOneAs
   pub front-begins : BeginsGood l p
   front-begins = equality-begins (omega (arith, equality-within)) (c .equality)
 
-  pub step-asks : {r : word.Atom} → Equality l p r → StepAsks l (r .next) (n - (r .next - p)) p d table buckets
-  step-asks {r} q =
+  pub step-asks : {x : ℕ} → x ≡ p + 3 → StepAsks l x (n - (x - p)) p d table buckets
+  step-asks {x} q =
       record {
         begins = front-begins;
         whole = λ e. equality-within;
-        spanned = spanned-tail (r .next) (n - (r .next - p)) (c .spanned) (omega (arith, q .next)) (omega (arith, q .next));
+        spanned = spanned-tail x (n - (x - p)) (c .spanned) (omega arith) (omega (arith, c .whole));
         room = c .binds;
         top = c .top;
       }
@@ -60,14 +59,15 @@ pub record Tried {s : Sig} {l : List ℕ} {p n to d table buckets : ℕ} (c : Fr
   pub place : e ≡ placeAfter (askAt s l p) d
   pub stepped : Stepped (askAt s l p) l m (p + 3) (n - 3) d table buckets
 
-pub tried : {s : Sig} {l : List ℕ} {p n to d table buckets : ℕ} (c : FrontOneAsks s l p n to d table buckets) {m : List ℕ} {e : ℕ} {r : word.Atom} → Equality l p r
-    → e ≡ placeAfter (askAt s l p) d → Stepped (askAt s l p) l m (r .next) (n - (r .next - p)) d table buckets → Tried c m e
-tried {s} {l} {p} {n} {to} {d} {table} {buckets} c {m} {e} {r} q place stepped =
-    let size : n - (r .next - p) ≡ n - 3 = omega (arith, q .next) in
+-- by a step behind the equality, at x
+pub tried : {s : Sig} {l : List ℕ} {p n to d table buckets : ℕ} (c : FrontOneAsks s l p n to d table buckets) {m : List ℕ} {e x : ℕ} → x ≡ p + 3
+    → e ≡ placeAfter (askAt s l p) d → Stepped (askAt s l p) l m x (n - (x - p)) d table buckets → Tried c m e
+tried {s} {l} {p} {n} {to} {d} {table} {buckets} c {m} {e} {x} q place stepped =
+    let size : n - (x - p) ≡ n - 3 = omega arith in
     record {
       place = place;
-      stepped = subst (λ (x : ℕ). Stepped (askAt s l p) l m (p + 3) x d table buckets) size
-          (subst (λ (x : ℕ). Stepped (askAt s l p) l m x (n - (r .next - p)) d table buckets) (q .next) stepped);
+      stepped = subst (λ (y : ℕ). Stepped (askAt s l p) l m (p + 3) y d table buckets) size
+          (subst (λ (y : ℕ). Stepped (askAt s l p) l m y (n - (x - p)) d table buckets) q stepped);
     }
 
 module _ {s : Sig} {l : List ℕ} {p n to d table buckets : ℕ} {c : FrontOneAsks s l p n to d table buckets} {m : List ℕ} {e : ℕ} (t : Tried c m e) where

@@ -15,7 +15,6 @@ use Rattle.meaning.proofs.Encodable.{resolve-encodable}
 use Rattle.meaning.proofs.Lists.{length-words-append}
 use Rattle.meaning.proofs.MergePass.{IsEqn}
 use Rattle.meaning.specs.ReadBack.{Encodable}
-use Rattle.words.specs.Atom.{BeginsGood}
 use Rattle.words.specs.declared.Atom as word
 use Rattle.bodies.specs.Standing.{AtomsAt, Bare, TabsAt, atomsIn}
 use Rattle.bodies.proofs.Standing.{First, atoms-ahead, atoms-before, atoms-is, atoms-read, bare-resolve, first-atom, no-tabs, none-left, tabs-before, tabs-join}
@@ -201,9 +200,6 @@ module _ {s : Sig} {l : List ℕ} {from n to : ℕ} (c : ResolveAsks s l from n 
         ap (λ (ts : List Tab). length (wordsOf tabWords ts)) split
         ∙ length-words-append tabWords (resolve s (next .atom ∷ [])) (resolve s (next .rest))
         ∙ ap (λ (ws : List ℕ). length ws + length (wordsOf tabWords (resolve s (next .rest)))) (sym wrote)
-
-    pub equality-begins : BeginsGood m (from + i)
-    equality-begins = next .begins
 
     pub resolve-one-asks : ResolveOneAsks s m (from + i) (to + k)
     resolve-one-asks =

@@ -28,6 +28,7 @@ use words::Term;
 use words::UNIT;
 use words::good_atom_at;
 use words::good_term_of;
+use words::past_equality;
 
 // Where a table of spans stands, and how many buckets it has.
 struct Table {
@@ -187,9 +188,8 @@ fn resolve(s: &mut [u8], from: usize, n: usize, to: usize, q: Sign) -> usize
         if i == n {
             return k;
         }
-        let atom = good_atom_at(s, from + i);
         k += resolve_one(s, from + i, to + k, q);
-        i = atom.next - from;
+        i = past_equality(from + i) - from;
     }
     k
 }
@@ -207,9 +207,8 @@ fn front_one(s: &mut [u8], p: usize, n: usize, to: usize, d: usize, t: Table, q:
     requires { ⌜ FrontOneAsks (sig q) (words (now s)) p n to d (t .at) (t .count) ⌝ }
     ensures { λ r. ⌜ FrontOne (sig q) (words (now (s .entry))) (words (now (s .exit))) p n to d (t .at) (t .count) r ⌝ }
 {
-    let atom = good_atom_at(s, p);
-    let size = atom.next - p;
-    let e = replace_step(s, atom.next, n - size, p, d, t, q);
+    let next = past_equality(p);
+    let e = replace_step(s, next, n - (next - p), p, d, t, q);
     if e != d {
         return Canonical { words: 0, binds: e };
     }
@@ -237,13 +236,12 @@ fn canonicalize_front(
     let mut i = 0;
     let mut t = Canonical { words: 0, binds: d };
     while i < e {
-        let atom = good_atom_at(s, at + i);
         let one = front_one(s, at + i, e - i + k, to + t.words, t.binds, spans, q);
         t = Canonical {
             words: t.words + one.words,
             binds: one.binds,
         };
-        i = atom.next - at;
+        i = past_equality(at + i) - at;
     }
     t
 }
@@ -260,7 +258,7 @@ fn leading(s: &[u8], at: usize, n: usize) -> usize
         let HeadOrEq::Eq = head else {
             return i;
         };
-        i = atom.next - at;
+        i = past_equality(at + i) - at;
     }
     i
 }

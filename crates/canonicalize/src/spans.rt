@@ -14,7 +14,8 @@ ghost use Rattle.canonicalize.specs.Spans.{equationsIn, Spanned, SpanAsk
 use bodies::buckets::bucket;
 use bodies::buckets::fill;
 use octets::order::greatest;
-use octets::order::least;
+use octets::order::greatest_word;
+use octets::order::least_word;
 use words::HeadOrEq;
 use words::good_atom_at;
 
@@ -57,8 +58,8 @@ fn widen(s: &mut [u8], p: usize, table: usize, count: usize)
     ensures { λ _. ⌜ words (now (s .exit)) ≡ widened (words (now (s .entry))) p table count ⌝ }
 {
     let low = table + bucket(octets::get(s, p), count);
-    let first = octets::get(s, low) as usize;
-    octets::put(s, low, least(first, p) as u32);
+    let first = octets::get(s, low);
+    octets::put(s, low, least_word(first, p as u32));
     octets::put(s, low + count, (p + 1) as u32);
 }
 
@@ -115,11 +116,11 @@ pub fn replace(s: &mut [u8], at: usize, n: usize, x: u32, y: u32, table: usize, 
     }
     let from = table + bucket(x, count);
     let to = table + bucket(y, count);
-    let low = octets::get(s, from) as usize;
-    let high = octets::get(s, from + count) as usize;
-    replace_between(s, greatest(at, low), high, x, y);
-    let first = octets::get(s, to) as usize;
-    let end = octets::get(s, to + count) as usize;
-    octets::put(s, to, least(first, low) as u32);
-    octets::put(s, to + count, greatest(end, high) as u32);
+    let low = octets::get(s, from);
+    let high = octets::get(s, from + count);
+    replace_between(s, greatest(at, low as usize), high as usize, x, y);
+    let first = octets::get(s, to);
+    let end = octets::get(s, to + count);
+    octets::put(s, to, least_word(first, low));
+    octets::put(s, to + count, greatest_word(end, high));
 }

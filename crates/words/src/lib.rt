@@ -1,6 +1,6 @@
 // What a word of a record says. Its kind is the count of its leading zero bits, and the bits after the first one bit are its payload.
 ghost use mathlib.Core.Path.{_≡_};
-ghost use Prim.Native.Nat.{_^_, _≤_, _<_};
+ghost use Prim.Native.Nat.{_+_, _^_, _≤_, _<_};
 ghost use lib.Dec.{leb};
 ghost use lib.ListN.{getD};
 ghost use Rattle.octets.specs.Words.{words};
@@ -272,4 +272,13 @@ pub fn good_atom_at(s: &[u8], at: usize) -> Atom
     let w = octets::get(s, at);
     let head = head_of(w);
     laid_out(head, w % LIMIT_16, at)
+}
+
+// The place behind an equality of two terms that begins at `at`. It is known without a look at the words, so that a walk over equalities does not wait for them.
+pub fn past_equality(at: usize) -> usize
+    requires { ⌜ at < 2 ^ 62 ⌝ }
+    ensures { λ r. ⌜ r ≡ at + 3 ⌝ }
+{
+    let atom = laid_out(HeadOrEq::Eq, 2, at);
+    atom.next
 }

@@ -1,16 +1,14 @@
 -- Canonicalizing the equalities in front: each turn leaves what its equality becomes and a rest in which it is done with, and canonicalizing that rest comes to
 -- the same as canonicalizing the whole. Assumes nothing.
 use mathlib.Core.Path.{_∙_, _≡_, refl}
-use Prim.Native.Nat.{_+_, _-_}
+use Prim.Native.Nat.{_+_, _-_, ℕ}
 use native.Mathlib.Omega.{arith}
 use lib.ListN.{length}
 use borrow.Author.Needs.{needs}
 use Rattle.octets.proofs.Words.{length-words}
 use Rattle.octets.specs.Words.{words}
 use Rattle.bodies.specs.Terms.{sig}
-use Rattle.canonicalize.specs.Canonicalize.{FrontOneAsks}
-use Rattle.canonicalize.proofs.Fronting.{Fronting, Turn, front-begins, front-one-asks, fronting-end, fronting-next, fronting-start, turn}
-use Rattle.canonicalize.proofs.Replacing.{Equality, equality-read}
+use Rattle.canonicalize.proofs.Fronting.{Fronting, Turn, front-one-asks, fronting-end, fronting-next, fronting-start, turn}
 use Rattle.canonicalize.proofs.canonicalize_front.Statement.{statement}
 use Rattle.canonicalize.proofs.canonicalize_front.Tie as tie
 
@@ -36,74 +34,71 @@ at-turn c =
     let e = start c in
     turn (e .pre .1) (c .before .loop .inv .1) (c .loop-test .taken) (omega (arith, length-words (e .args .s .now), e .good))
 
-at-asks : (c : In) → let a = start c .args in let w = c .before .loop in
-    FrontOneAsks (sig (a .q)) (words (w .s)) (a .at + w .i) (a .e - w .i + a .k) (a .to + w .t .words) (w .t .binds) (a .spans .at) (a .spans .count)
-at-asks c = front-one-asks (start c .pre .1) (c .before .loop .inv .1) (c .loop-test .taken)
-
-add-good-atom-at : tie.Need-add-good-atom-at Inv-loop μ-loop
-add-good-atom-at c = omega (arith, at-turn (c .before))
-
-good-atom-at-requires : tie.Need-good-atom-at-requires Inv-loop μ-loop
-good-atom-at-requires c κs = front-begins (at-asks (c .before))
-
-abbrev Read : Type 0
-Read = tie.After-good-atom-at Inv-loop μ-loop
-
-abbrev turn-of : Read → In
-turn-of c = c .before .before
-
-at-equality : (c : Read) → let w = turn-of c .before .loop in Equality (words (w .s)) (start (turn-of c) .args .at + w .i) (c .good-atom-at .result)
-at-equality c = equality-read (at-asks (turn-of c) .equality) (c .good-atom-at .ensures)
-
 add-front-one : tie.Need-add-front-one Inv-loop μ-loop
-add-front-one c = omega (arith, at-turn (turn-of (c .before)))
+add-front-one c = omega (arith, at-turn (c .before))
 
 sub-front-one : tie.Need-sub-front-one Inv-loop μ-loop
-sub-front-one c = omega (arith, at-turn (turn-of (c .before)))
+sub-front-one c = omega (arith, at-turn (c .before))
 
 add-front-one-2 : tie.Need-add-front-one-2 Inv-loop μ-loop
-add-front-one-2 c = omega (arith, at-turn (turn-of (c .before)))
+add-front-one-2 c = omega (arith, at-turn (c .before))
 
 add-front-one-3 : tie.Need-add-front-one-3 Inv-loop μ-loop
-add-front-one-3 c = omega (arith, at-turn (turn-of (c .before .before)))
+add-front-one-3 c = omega (arith, at-turn (c .before .before))
 
 front-one-requires : tie.Need-front-one-requires Inv-loop μ-loop
-front-one-requires c κs = let t = turn-of (c .before .before) in (start t .pre .0, at-asks t)
+front-one-requires c κs =
+    let t = c .before .before in
+    (start t .pre .0, front-one-asks (start t .pre .1) (t .before .loop .inv .1) (t .loop-test .taken))
 
 -- ---- it is done with
 
 abbrev One : Type 0
 One = tie.After-front-one Inv-loop μ-loop
 
-abbrev read : One → Read
-read c = c .before .before .before
+abbrev one-turn : One → In
+one-turn c = c .before .before .before
 
-at-one : (c : One) → let t = turn-of (read c) in let a = start t .args in let w = t .before .loop in
-    Fronting (sig (a .q)) (words (a .s .now)) (words (c .front-one .last .0)) (a .at) (a .e) (a .k) (a .to) (a .d) (a .spans .at) (a .spans .count)
-    (read c .good-atom-at .result .next - a .at) (record { words = w .t .words + c .front-one .result .words; binds = c .front-one .result .binds })
-at-one c =
-    let t = turn-of (read c) in
-    fronting-next (start t .pre .1) (t .before .loop .inv .1) (t .loop-test .taken) (start t .pre .0 .equals) (c .front-one .ensures)
-    (omega (arith, at-equality (read c) .next))
+-- the next one is at offset j
+at-one : (c : One) (j : ℕ) → let a = start (one-turn c) .args in let w = one-turn c .before .loop in j ≡ w .i + 3
+    → Fronting (sig (a .q)) (words (a .s .now)) (words (c .front-one .last .0)) (a .at) (a .e) (a .k) (a .to) (a .d) (a .spans .at) (a .spans .count) j
+    (record { words = w .t .words + c .front-one .result .words; binds = c .front-one .result .binds })
+at-one c j ej =
+    let t = one-turn c in
+    fronting-next (start t .pre .1) (t .before .loop .inv .1) (t .loop-test .taken) (start t .pre .0 .equals) (c .front-one .ensures) ej
 
-add-t16 : tie.Need-add-t16 Inv-loop μ-loop
-add-t16 c =
+add-past-equality : tie.Need-add-past-equality Inv-loop μ-loop
+add-past-equality c =
     let o = c .before .before .before .before in
-    let e = start (turn-of (read o)) in
-    omega (arith, at-one o .tabs .within, at-one o .only .size, length-words (e .args .s .now), e .good)
+    let e = start (one-turn o) in
+    let w = at-one o (one-turn o .before .loop .i + 3) refl in
+    omega (arith, w .tabs .within, w .only .size, length-words (e .args .s .now), e .good)
+
+abbrev struct-turn : tie.After-struct-known3 Inv-loop μ-loop → In
+struct-turn c = one-turn (c .before .before .before .before)
+
+add-past-equality-2 : tie.Need-add-past-equality-2 Inv-loop μ-loop
+add-past-equality-2 c = omega (arith, at-turn (struct-turn c))
+
+past-equality-requires : tie.Need-past-equality-requires Inv-loop μ-loop
+past-equality-requires c κs =
+    let t = struct-turn c in
+    let e = start t in
+    omega (arith, t .loop-test .taken, e .pre .1 .eqs .within, length-words (e .args .s .now), e .good)
+
+abbrev past-one : tie.After-past-equality Inv-loop μ-loop → One
+past-one c = c .before .before .before .before .before
 
 sub-i : tie.Need-sub-i Inv-loop μ-loop
-sub-i c = omega (arith, at-equality (read (c .before .before .before .before .before)) .next)
+sub-i c = omega (arith, c .past-equality .ensures)
 
 loop-less : tie.Need-loop-less Inv-loop μ-loop
-loop-less c =
-    let o = c .before .before .before .before .before in
-    omega (arith, at-equality (read o) .next, turn-of (read o) .loop-test .taken)
+loop-less c = omega (arith, c .past-equality .ensures, one-turn (past-one c) .loop-test .taken)
 
 loop-again : tie.Need-loop-again Inv-loop μ-loop
 loop-again c =
-    let o = c .before .before .before .before .before in
-    (o .front-one .kept .0 ∙ turn-of (read o) .before .loop .inv .0, at-one o)
+    let o = past-one c in
+    (o .front-one .kept .0 ∙ one-turn o .before .loop .inv .0, at-one o _ (omega (arith, c .past-equality .ensures)))
 
 -- ---- none is left
 
@@ -120,14 +115,14 @@ canonicalize-front-spec =
     Inv-loop
     μ-loop
     loop-holds
-    add-good-atom-at
-    good-atom-at-requires
     add-front-one
     sub-front-one
     add-front-one-2
     add-front-one-3
     front-one-requires
-    add-t16
+    add-past-equality
+    add-past-equality-2
+    past-equality-requires
     sub-i
     loop-less
     loop-again

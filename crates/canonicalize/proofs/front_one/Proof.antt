@@ -2,36 +2,35 @@
 -- The bindings begin elsewhere just in the first case. Assumes nothing.
 use native.Mathlib.Omega.{arith}
 use borrow.Author.Needs.{needs}
+use Rattle.octets.proofs.Words.{length-words}
 use Rattle.octets.specs.Words.{words}
-use Rattle.canonicalize.proofs.Fronting.{Tried, front-asked, front-begins, front-still, resolve-asks, step-asks, tried}
-use Rattle.canonicalize.proofs.Replacing.{Equality, equality-read}
+use Rattle.canonicalize.proofs.Fronting.{Tried, equality-within, front-asked, front-still, resolve-asks, step-asks, tried}
 use Rattle.canonicalize.proofs.front_one.Statement.{statement}
 use Rattle.canonicalize.proofs.front_one.Tie as tie
 
-abbrev start : tie.After-good-atom-at → tie.Start
-start c = c .before .before .before
+abbrev start : tie.After-past-equality → tie.Start
+start c = c .before .before
 
-good-atom-at-requires : tie.Need-good-atom-at-requires
-good-atom-at-requires c κs = front-begins (c .before .before .pre .1)
-
-at-atom : (c : tie.After-good-atom-at) → let a = start c .args in Equality (words (a .s .now)) (a .p) (c .good-atom-at .result)
-at-atom c = equality-read (start c .pre .1 .equality) (c .good-atom-at .ensures)
-
-sub-size : tie.Need-sub-size
-sub-size c = search needs
+past-equality-requires : tie.Need-past-equality-requires
+past-equality-requires c κs =
+    let e = c .before in
+    omega (arith, equality-within (e .pre .1), length-words (e .args .s .now), e .good)
 
 sub-replace-step : tie.Need-sub-replace-step
-sub-replace-step c = let g = c .before .before in omega (arith, at-atom g .next, start g .pre .1 .whole)
+sub-replace-step c = omega (arith, c .before .past-equality .ensures)
+
+sub-replace-step-2 : tie.Need-sub-replace-step-2
+sub-replace-step-2 c = omega (arith, c .before .past-equality .ensures, start (c .before) .pre .1 .whole)
 
 replace-step-requires : tie.Need-replace-step-requires
-replace-step-requires c κs = let g = c .before .before in (start g .pre .0, step-asks (start g .pre .1) (at-atom g))
+replace-step-requires c κs = let g = c .before in (start g .pre .0, step-asks (start g .pre .1) (g .past-equality .ensures))
 
 -- the replacement is tried
-abbrev atom : tie.After-replace-step → tie.After-good-atom-at
-atom c = c .before .before .before
+abbrev past : tie.After-replace-step → tie.After-past-equality
+past c = c .before .before
 
-at-step : (c : tie.After-replace-step) → Tried (start (atom c) .pre .1) (words (c .replace-step .last .0)) (c .replace-step .result)
-at-step c = tried (start (atom c) .pre .1) (at-atom (atom c)) (c .replace-step .ensures .0) (c .replace-step .ensures .1)
+at-step : (c : tie.After-replace-step) → Tried (start (past c) .pre .1) (words (c .replace-step .last .0)) (c .replace-step .result)
+at-step c = tried (start (past c) .pre .1) (past c .past-equality .ensures) (c .replace-step .ensures .0) (c .replace-step .ensures .1)
 
 -- ---- it was asked
 
@@ -46,7 +45,7 @@ returns c = front-asked (at-step (c .before .before .before)) (c .if1 .taken)
 resolve-one-requires : tie.Need-resolve-one-requires
 resolve-one-requires c κs =
     let r = c .before .before .before .before in
-    (start (atom r) .pre .0, resolve-asks (at-step r) (c .before .if1 .left))
+    (start (past r) .pre .0, resolve-asks (at-step r) (c .before .if1 .left))
 
 same-length-2 : tie.Need-same-length-2
 same-length-2 c = search needs
@@ -61,9 +60,9 @@ pub front-one-spec : {M : Type 1} → statement M
 front-one-spec =
     tie.close
     (tie.spec
-    good-atom-at-requires
-    sub-size
+    past-equality-requires
     sub-replace-step
+    sub-replace-step-2
     replace-step-requires
     same-length
     returns

@@ -1,14 +1,16 @@
 -- Counting the equalities in front: as long as an equality is met, the words passed are those of equalities, and where none is met the others begin.
 -- Assumes nothing.
 use Prim.Native.Nat.{_+_, _-_}
+use mathlib.Core.Path.{_≡_}
 use native.Mathlib.Omega.{arith}
+use lib.ListN.{getD}
 use borrow.Author.Needs.{needs}
 use Rattle.octets.proofs.Words.{length-words}
 use Rattle.octets.specs.Words.{words}
+use Rattle.rules.specs.Words.{equalityWord}
 use Rattle.words.proofs.AtomLaws.{sign-word}
 use Rattle.bodies.proofs.Standing.{First}
 use Rattle.canonicalize.proofs.Canonicalizing.{Leading, leading-here, leading-next, leading-start, leads}
-use Rattle.canonicalize.proofs.Replacing.{Equality, equality-read}
 use Rattle.canonicalize.proofs.leading.Statement.{statement}
 use Rattle.canonicalize.proofs.leading.Tie as tie
 
@@ -57,26 +59,25 @@ Told = tie.After-enum-told Inv-loop μ-loop
 abbrev turn : Told → In
 turn c = c .before .before .before
 
-at-equality : (c : Told) → let a = start (turn c) .args in
-    Equality (words (a .s .now)) (a .at + turn c .before .loop .i) (c .before .before .good-atom-at .result)
-at-equality c =
-    let says = c .before .before .good-atom-at .ensures in
-    equality-read (sign-word (at-atom (turn c) .begins .first) says (c .enum-told .given .1)) says
+at-word : (c : Told) → let a = start (turn c) .args in getD (words (a .s .now)) (a .at + turn c .before .loop .i) 0 ≡ equalityWord
+at-word c = sign-word (at-atom (turn c) .begins .first) (c .before .before .good-atom-at .ensures) (c .enum-told .given .1)
 
-at-passed : (c : Told) → let a = start (turn c) .args in
-    Leading (words (a .s .now)) (a .at) (a .n) (c .before .before .good-atom-at .result .next - a .at)
-at-passed c =
-    let t = turn c in
-    leading-next (start t .pre) (t .before .loop .inv) (t .loop-test .taken) (at-equality c .word) (omega (arith, at-equality c .next))
+add-past-equality : tie.Need-add-past-equality Inv-loop μ-loop
+add-past-equality c = let e = start (turn c) in omega (arith, e .pre .within, length-words (e .args .s .now))
+
+past-equality-requires : tie.Need-past-equality-requires Inv-loop μ-loop
+past-equality-requires c κs = let e = start (turn c) in omega (arith, turn c .loop-test .taken, e .pre .within, length-words (e .args .s .now), e .good)
 
 sub-i : tie.Need-sub-i Inv-loop μ-loop
-sub-i c = omega (arith, at-equality (c .before) .next)
+sub-i c = omega (arith, c .past-equality .ensures)
 
 loop-less : tie.Need-loop-less Inv-loop μ-loop
-loop-less c = omega (arith, at-passed (c .before) .inside, at-equality (c .before) .next)
+loop-less c = omega (arith, c .past-equality .ensures, turn (c .before) .loop-test .taken)
 
 loop-again : tie.Need-loop-again Inv-loop μ-loop
-loop-again c = at-passed (c .before)
+loop-again c =
+    let t = turn (c .before) in
+    leading-next (start t .pre) (t .before .loop .inv) (t .loop-test .taken) (at-word (c .before)) (omega (arith, c .past-equality .ensures))
 
 -- ---- all are equalities
 
@@ -95,6 +96,8 @@ leading-spec =
     enum-told
     enum-told-2
     returns
+    add-past-equality
+    past-equality-requires
     sub-i
     loop-less
     loop-again

@@ -1,7 +1,7 @@
 -- Resolving a body: runs of other atoms are carried as they stand, and each equality between them becomes its words; so what is passed is resolved at every
 -- turn. What is written lies beyond what is read. Assumes nothing.
 use mathlib.Core.Path.{_∙_, _≡_, refl}
-use Prim.Native.Nat.{_+_, _-_, _^_, _<_}
+use Prim.Native.Nat.{_+_, _-_, _^_, _<_, ℕ}
 use native.Mathlib.Omega.{arith}
 use lib.ListN.{length}
 use borrow.Author.Needs.{needs}
@@ -9,9 +9,7 @@ use Rattle.octets.proofs.Words.{length-words}
 use Rattle.octets.specs.Regions.{beyond}
 use Rattle.octets.specs.Words.{words}
 use Rattle.bodies.specs.Terms.{sig}
-use Rattle.canonicalize.specs.Canonicalize.{ResolveOneAsks}
-use Rattle.canonicalize.proofs.Replacing.{Equality, equality-read}
-use Rattle.canonicalize.proofs.Resolving.{Bounds, Ran, Resolving, Run, bounds, equality-begins, others-here, resolve-one-asks, run-next}
+use Rattle.canonicalize.proofs.Resolving.{Bounds, Ran, Resolving, Run, bounds, others-here, resolve-one-asks, run-next}
 use Rattle.canonicalize.proofs.Resolving.{resolving-end, resolving-next, resolving-run, resolving-start}
 use Rattle.canonicalize.proofs.resolve.Statement.{statement}
 use Rattle.canonicalize.proofs.resolve.Tie as tie
@@ -106,36 +104,16 @@ at-more : (c : tie.Else1 Inv-loop μ-loop)
     → let k = else-carry c in turn k .before .loop .i + k .before .before .others .result < start (turn k) .args .n
 at-more c = omega (arith, at-carried (else-carry c) .inside, c .if1 .left)
 
-add-good-atom-at : tie.Need-add-good-atom-at Inv-loop μ-loop
-add-good-atom-at c = omega (arith, at-carried (else-carry (c .before)))
-
-good-atom-at-requires : tie.Need-good-atom-at-requires Inv-loop μ-loop
-good-atom-at-requires c κs =
-    let k = else-carry (c .before) in
-    equality-begins (start (turn k) .pre .1) (at-carry k) (at-more (c .before))
-
-abbrev Read : Type 0
-Read = tie.After-good-atom-at Inv-loop μ-loop
-
-abbrev more : Read → tie.Else1 Inv-loop μ-loop
-more c = c .before .before
-
-at-asks : (c : Read) → let k = else-carry (more c) in let a = start (turn k) .args in let w = turn k .before .loop in let r = k .before .before .others .result in
-    ResolveOneAsks (sig (a .q)) (words (k .carry .last .0)) (a .from + (w .i + r)) (a .to + (w .k + r))
-at-asks c = let k = else-carry (more c) in resolve-one-asks (start (turn k) .pre .1) (at-carry k) (at-more (more c))
-
-at-equality : (c : Read) → let k = else-carry (more c) in let r = k .before .before .others .result in
-    Equality (words (k .carry .last .0)) (start (turn k) .args .from + (turn k .before .loop .i + r)) (c .good-atom-at .result)
-at-equality c = equality-read (at-asks c .equality) (c .good-atom-at .ensures)
-
 add-resolve-one : tie.Need-add-resolve-one Inv-loop μ-loop
-add-resolve-one c = omega (arith, at-carried (else-carry (more (c .before))))
+add-resolve-one c = omega (arith, at-carried (else-carry (c .before)))
 
 add-resolve-one-2 : tie.Need-add-resolve-one-2 Inv-loop μ-loop
-add-resolve-one-2 c = omega (arith, at-carried (else-carry (more (c .before))))
+add-resolve-one-2 c = omega (arith, at-carried (else-carry (c .before)))
 
 resolve-one-requires : tie.Need-resolve-one-requires Inv-loop μ-loop
-resolve-one-requires c κs = (start (turn (else-carry (more (c .before)))) .pre .0, at-asks (c .before))
+resolve-one-requires c κs =
+    let e = start (turn (else-carry (c .before))) in
+    (e .pre .0, resolve-one-asks (e .pre .1) (at-carry (else-carry (c .before))) (at-more (c .before)))
 
 -- ---- it is resolved
 
@@ -143,32 +121,44 @@ abbrev One : Type 0
 One = tie.After-resolve-one Inv-loop μ-loop
 
 abbrev carry : One → Carry
-carry c = else-carry (more (c .before .before))
+carry c = else-carry (c .before .before)
 
-at-one : (c : One) → let a = start (turn (carry c)) .args in let w = turn (carry c) .before .loop in let r = carry c .before .before .others .result in
-    Resolving (sig (a .q)) (words (a .s .now)) (words (c .resolve-one .last .0)) (a .from) (a .n) (a .to)
-    (c .before .before .good-atom-at .result .next - a .from) (w .k + r + c .resolve-one .result)
-at-one c =
+-- the next atom is at offset j
+at-one : (c : One) (j : ℕ) → let a = start (turn (carry c)) .args in let w = turn (carry c) .before .loop in let r = carry c .before .before .others .result in
+    j ≡ w .i + r + 3 → Resolving (sig (a .q)) (words (a .s .now)) (words (c .resolve-one .last .0)) (a .from) (a .n) (a .to) j (w .k + r + c .resolve-one .result)
+at-one c j ej =
     let e = start (turn (carry c)) in
     let k = c .resolve-one .ensures in
-    resolving-next (e .pre .1) (at-carry (carry c)) (at-more (more (c .before .before))) (e .pre .0 .equals) (k .0) (k .1)
-    (omega (arith, at-equality (c .before .before) .next))
+    resolving-next (e .pre .1) (at-carry (carry c)) (at-more (c .before .before)) (e .pre .0 .equals) (k .0) (k .1) ej
 
 add-k-2 : tie.Need-add-k-2 Inv-loop μ-loop
 add-k-2 c =
-    let e = start (turn (carry (c .before .before))) in
-    omega (arith, bounds (e .pre .1) (at-one (c .before .before)) (fits e))
+    let o = c .before .before in
+    let e = start (turn (carry o)) in
+    omega (arith, bounds (e .pre .1) (at-one o _ refl) (fits e))
+
+add-past-equality : tie.Need-add-past-equality Inv-loop μ-loop
+add-past-equality c = omega (arith, at-carried (carry (c .before .before)))
+
+past-equality-requires : tie.Need-past-equality-requires Inv-loop μ-loop
+past-equality-requires c κs =
+    let k = carry (c .before .before) in
+    let e = start (turn k) in
+    omega (arith, at-carried k .inside, e .pre .1 .atoms .within, length-words (e .args .s .now), e .good)
 
 sub-i : tie.Need-sub-i Inv-loop μ-loop
-sub-i c = omega (arith, at-equality (c .before .before .before .before .before) .next)
+sub-i c = omega (arith, c .past-equality .ensures)
+
+abbrev past-one : tie.After-past-equality Inv-loop μ-loop → One
+past-one c = c .before .before .before
 
 loop-less : tie.Need-loop-less Inv-loop μ-loop
-loop-less c = let o = c .before .before .before in omega (arith, at-one o .inside, at-equality (o .before .before) .next)
+loop-less c = omega (arith, c .past-equality .ensures, at-more (past-one c .before .before))
 
 loop-again : tie.Need-loop-again Inv-loop μ-loop
 loop-again c =
-    let o = c .before .before .before in
-    (o .resolve-one .kept .0 ∙ carry o .carry .kept .0 ∙ turn (carry o) .before .loop .inv .0, at-one o)
+    let o = past-one c in
+    (o .resolve-one .kept .0 ∙ carry o .carry .kept .0 ∙ turn (carry o) .before .loop .inv .0, at-one o _ (omega (arith, c .past-equality .ensures)))
 
 -- ---- nothing is left
 
@@ -195,12 +185,12 @@ resolve-spec =
     add-k
     same-length
     returns
-    add-good-atom-at
-    good-atom-at-requires
     add-resolve-one
     add-resolve-one-2
     resolve-one-requires
     add-k-2
+    add-past-equality
+    past-equality-requires
     sub-i
     loop-less
     loop-again

@@ -56,25 +56,25 @@ at-span c = seen (at-buckets (get2-buckets c)) (c .before .before .get .ensures 
 get-requires : tie.Need-get-requires
 get-requires c κs = search needs
 
-cast-low : tie.Need-cast-low
-cast-low c = search needs
-
 add-get : tie.Need-add-get
 add-get c = omega (arith, at-buckets (c .before .before .before))
 
 get-requires-2 : tie.Need-get-requires-2
 get-requires-2 c κs = search needs
 
-cast-high : tie.Need-cast-high
-cast-high c = search needs
-
 -- ---- the replacement is made over it
 
 at-between : (c : tie.After-replace-between) → Passed (at-span (c .before .before .before)) (words (c .replace-between .last .0))
 at-between c = passed (at-span (c .before .before .before)) (c .before .greatest .ensures) (c .replace-between .ensures)
 
+cast-greatest : tie.Need-cast-greatest
+cast-greatest c = search needs
+
 greatest-requires : tie.Need-greatest-requires
 greatest-requires c κs = search needs
+
+cast-replace-between : tie.Need-cast-replace-between
+cast-replace-between c = search needs
 
 replace-between-requires : tie.Need-replace-between-requires
 replace-between-requires c κs = at-span (c .before .before) .inside
@@ -84,20 +84,17 @@ replace-between-requires c κs = at-span (c .before .before) .inside
 abbrev get3-between : tie.After-get3 → tie.After-replace-between
 get3-between c = c .before .before .before .before
 
-abbrev least-between : tie.After-least → tie.After-replace-between
-least-between c = get3-between (c .before .before .before .before)
+abbrev least-word-between : tie.After-least-word → tie.After-replace-between
+least-word-between c = get3-between (c .before .before .before .before)
 
 abbrev put-between : tie.After-put → tie.After-replace-between
-put-between c = least-between (c .before)
+put-between c = least-word-between (c .before)
 
-abbrev greatest-put : tie.After-greatest2 → tie.After-put
-greatest-put c = c .before .before .before .before
+abbrev greatest-word-put : tie.After-greatest-word → tie.After-put
+greatest-word-put c = c .before .before .before .before
 
 get-requires-3 : tie.Need-get-requires-3
 get-requires-3 c κs = omega (arith, at-between (c .before .before .before))
-
-cast-first : tie.Need-cast-first
-cast-first c = search needs
 
 add-get-2 : tie.Need-add-get-2
 add-get-2 c = omega (arith, at-between (get3-between (c .before)))
@@ -105,30 +102,21 @@ add-get-2 c = omega (arith, at-between (get3-between (c .before)))
 get-requires-4 : tie.Need-get-requires-4
 get-requires-4 c κs = omega (arith, at-between (get3-between (c .before)))
 
-cast-end : tie.Need-cast-end
-cast-end c = search needs
-
-least-requires : tie.Need-least-requires
-least-requires c κs = search needs
-
-cast-put : tie.Need-cast-put
-cast-put c = search needs
+least-word-requires : tie.Need-least-word-requires
+least-word-requires c κs = search needs
 
 put-requires : tie.Need-put-requires
-put-requires c κs = omega (arith, at-between (least-between c))
+put-requires c κs = omega (arith, at-between (least-word-between c))
 
 add-put : tie.Need-add-put
 add-put c = omega (arith, at-between (put-between (c .before .before .before)))
 
-greatest-requires-2 : tie.Need-greatest-requires-2
-greatest-requires-2 c κs = search needs
-
-cast-put-2 : tie.Need-cast-put-2
-cast-put-2 c = search needs
+greatest-word-requires : tie.Need-greatest-word-requires
+greatest-word-requires c κs = search needs
 
 put-requires-2 : tie.Need-put-requires-2
 put-requires-2 c κs =
-    let p = greatest-put c in
+    let p = greatest-word-put c in
     let b = put-between p in
     omega (arith, at-between b, length-words-kept (p .put .last .0) (b .replace-between .last .0) (p .put .kept .0))
 
@@ -138,10 +126,10 @@ same-length-2 c = search needs
 returns-2 : tie.Need-returns-2
 returns-2 c =
     let g = c .before .before .before in
-    let p = greatest-put g in
+    let p = greatest-word-put g in
     let e = p .before .before .before in
     replaced (at-between (put-between p)) (e .before .before .get3 .ensures .is) (e .get4 .ensures .is)
-    (p .before .least .ensures) (g .greatest2 .ensures) (p .put .ensures) (c .before .before .put2 .ensures)
+    (p .before .least-word .ensures) (g .greatest-word .ensures) (p .put .ensures) (c .before .before .put2 .ensures)
 
 pub replace-spec : {M : Type 1} → statement M
 replace-spec =
@@ -155,23 +143,19 @@ replace-spec =
     bucket-requires-2
     add-to
     get-requires
-    cast-low
     add-get
     get-requires-2
-    cast-high
+    cast-greatest
     greatest-requires
+    cast-replace-between
     replace-between-requires
     get-requires-3
-    cast-first
     add-get-2
     get-requires-4
-    cast-end
-    least-requires
-    cast-put
+    least-word-requires
     put-requires
     add-put
-    greatest-requires-2
-    cast-put-2
+    greatest-word-requires
     put-requires-2
     same-length-2
     returns-2)

@@ -31,14 +31,11 @@ add-low c = omega (arith, at-bucket c)
 get-requires-2 : tie.Need-get-requires-2
 get-requires-2 c κs = search needs
 
-cast-first : tie.Need-cast-first
-cast-first c = search needs
+cast-least-word : tie.Need-cast-least-word
+cast-least-word c = search needs
 
-least-requires : tie.Need-least-requires
-least-requires c κs = search needs
-
-cast-put : tie.Need-cast-put
-cast-put c = search needs
+least-word-requires : tie.Need-least-word-requires
+least-word-requires c κs = search needs
 
 put-requires : tie.Need-put-requires
 put-requires c κs = search needs
@@ -49,8 +46,8 @@ add-put c = omega (arith, at-bucket (put-bucket (c .before .before .before)))
 add-put-2 : tie.Need-add-put-2
 add-put-2 c = search needs
 
-cast-put-2 : tie.Need-cast-put-2
-cast-put-2 c = search needs
+cast-put : tie.Need-cast-put
+cast-put c = search needs
 
 put-requires-2 : tie.Need-put-requires-2
 put-requires-2 c κs =
@@ -64,7 +61,7 @@ returns : tie.Need-returns
 returns c =
     let p = c .before .before .before .before .before .before in
     let g = p .before .before .before in
-    widen-is (at-bucket (put-bucket p)) (g .get2 .ensures .is) (p .before .least .ensures) (p .put .ensures) (c .before .before .put2 .ensures)
+    widen-is (at-bucket (put-bucket p)) (g .get2 .ensures .is) (p .before .least-word .ensures) (p .put .ensures) (c .before .before .put2 .ensures)
 
 pub widen-spec : {M : Type 1} → statement M
 widen-spec =
@@ -74,13 +71,12 @@ widen-spec =
     bucket-requires
     add-low
     get-requires-2
-    cast-first
-    least-requires
-    cast-put
+    cast-least-word
+    least-word-requires
     put-requires
     add-put
     add-put-2
-    cast-put-2
+    cast-put
     put-requires-2
     same-length
     returns)
