@@ -8,7 +8,8 @@ use lib.Dec.{leb, eqb}
 use borrow.Author.Tests.{le-leb, lt-leb, leb-true, leb-false}
 use Rattle.rules.specs.Words.{limit16, freshBase, nameBase, headBase, equalityBase, equalityWord, headOf, countOf}
 use Rattle.rules.specs.Signature.{Sig, isFresh, isVar}
-use Rattle.words.specs.Atom.{termNumber, termNumberOf, termWord, TermSays, headKind, headNumber, headSign, laidOut, AtomSays, FirstWord}
+use Rattle.words.specs.Atom.{termNumber, termNumberOf, termWord, TermSays, headKind, headNumber, HeadSays, countIn, laidOut, AtomSays}
+use Rattle.words.specs.Atom.{FirstWord}
 use Rattle.words.specs.declared.Term.{Term}
 use Rattle.words.specs.declared.Term.the-variants.{Var, Global, Literal}
 use Rattle.words.specs.declared.HeadOrEq.{HeadOrEq}
@@ -133,20 +134,17 @@ says-equality {r} {w} {at} h e =
 -- ---- atoms of a good body
 
 -- the count stands in the low bits, whatever the kind is
-pub says-good : {r : Atom} {h : HeadOrEq} {w at : ℕ} → FirstWord w → h ≡ headSign w → r ≡ laidOut h (w % limit16) at → AtomSays r w at
-says-good {r} {h} {w} {at} f eh er = go (leb headBase w) refl
+low-count : {w : ℕ} → FirstWord w → w % limit16 ≡ countIn w
+low-count {w} f = go (leb headBase w) refl
   where
-    go : (b : Bool) → leb headBase w ≡ b → AtomSays r w at
-    go true e =
-        let lo = leb-true headBase w e in
-        let n : w % limit16 ≡ countOf w = omega arith in
-        let g : h ≡ Head (headOf w) = eh ∙ rw e in
-        says-head lo (er ∙ ap₂ (λ (x : HeadOrEq) (k : ℕ). laidOut x k at) g n)
-    go false e =
-        let hi = leb-false headBase w e in
-        let n : w % limit16 ≡ w - equalityBase = omega (arith, f .two hi) in
-        let g : h ≡ Eq = eh ∙ rw e in
-        says-equality hi (er ∙ ap₂ (λ (x : HeadOrEq) (k : ℕ). laidOut x k at) g n)
+    go : (b : Bool) → leb headBase w ≡ b → w % limit16 ≡ cond b (countOf w) (w - equalityBase)
+    go true e = let lo = leb-true headBase w e in omega arith
+    go false e = let hi = leb-false headBase w e in omega (arith, f .two hi)
+
+pub says-good : {r : Atom} {h : HeadOrEq} {w at : ℕ} → FirstWord w → HeadSays h w → r ≡ laidOut h (w % limit16) at → AtomSays r w at
+says-good {r} {h} {w} {at} f k e =
+    subst (λ (x : Atom). AtomSays x w at) (sym e)
+    (record { kindIs = k .kindIs; numberIs = k .numberIs; countIs = low-count f; termsAt = refl; nextAt = refl })
 
 module _ {r : Atom} {w at : ℕ} (f : FirstWord w) (a : AtomSays r w at) where
   -- so the next one may begin behind as many words

@@ -47,8 +47,9 @@ headNumber (Head h) = h
 headNumber Eq = 0
 
 -- the head that a first word says
-abbrev pub headSign : ℕ → HeadOrEq
-headSign w = cond (leb headBase w) (Head (headOf w)) Eq
+pub record HeadSays (r : HeadOrEq) (w : ℕ) : Type 0 where
+  pub kindIs : headKind r ≡ cond (leb headBase w) 3 4
+  pub numberIs : headNumber r ≡ cond (leb headBase w) (headOf w) 0
 
 -- how many terms an atom has, by its first word
 abbrev pub countIn : ℕ → ℕ

@@ -6,7 +6,7 @@ ghost use lib.ListN.{getD};
 ghost use Rattle.octets.specs.Words.{words};
 ghost use Rattle.rules.specs.Words.{limit12, equalityBase, headBase, literalBase};
 ghost use Rattle.words.specs.Word.{numbers, numbersOf, WordSays, headWordOf};
-ghost use Rattle.words.specs.Atom.{TermSays, headSign, laidOut, AtomSays, BeginsAtom, BeginsGood};
+ghost use Rattle.words.specs.Atom.{TermSays, HeadSays, laidOut, AtomSays, BeginsAtom, BeginsGood};
 
 // Heads, names, facts, atoms and actions are numbered below LIMIT_12, counts and literals below LIMIT_16.
 pub const LIMIT_12: u32 = 4096;
@@ -230,7 +230,7 @@ fn laid_out(head: HeadOrEq, count: u32, at: usize) -> Atom
 // The head that a first word says, a word of kind 3 or 4. Which of the two it is takes one comparison of the word, since the kinds are ranges.
 fn head_of(w: u32) -> HeadOrEq
     requires { ⌜ w < literalBase ⌝ }
-    ensures { λ r. ⌜ r ≡ headSign w ⌝ }
+    ensures { λ r. ⌜ HeadSays r w ⌝ }
 {
     let kind = u32::leading_zeros(w);
     if kind < 4 {
