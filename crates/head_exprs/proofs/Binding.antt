@@ -1,6 +1,6 @@
 -- The end of a call: one count of the head of its kind 3 word is used for its variable, and action 7, the variable, that word and the terms on the stack
 -- are written behind the words of the walk over them. Both ways out of `put_called`. Assumes nothing.
-use mathlib.Core.Path.{_≡_, refl, sym, _∙_}
+use mathlib.Core.Path.{_≡_, refl, sym}
 use mathlib.Core.List.{List, [], _∷_, _++_}
 use Prim.Native.Nat.{ℕ, _+_}
 use native.Mathlib.Omega.{arith}

@@ -14,7 +14,7 @@ use Rattle.rules.specs.Refusals.{Res}
 use Rattle.rules.specs.Signature.{Sig}
 use Rattle.rules.specs.Written.{Expr, Exprs}
 use Rattle.walks.specs.Leaves.{leavesUpTo}
-use Rattle.walks.specs.Steps.{Piece, OnStack, OnlyOnStack, Kept, Room, ExprsAt}
+use Rattle.walks.specs.Steps.{Piece, OnlyOnStack, Kept, Room, ExprsAt}
 use Rattle.walks.specs.declared.Walk.{Walk}
 use Rattle.walks.proofs.LeavesUpTo.{Leaf, leaves-most, leaves-each}
 use Rattle.walks.proofs.Log.{undone-none}

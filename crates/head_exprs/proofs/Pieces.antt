@@ -2,9 +2,8 @@
 use mathlib.Core.Path.{_≡_, refl}
 use mathlib.Core.Bool.{Bool, true, false}
 use mathlib.Core.List.{List, [], _∷_, _++_}
-use Prim.Native.Nat.{ℕ, _+_}
+use Prim.Native.Nat.{ℕ}
 use lib.ListN.{length, length-append}
-use Rattle.rules.specs.Words.{headWord, actionWord}
 use Rattle.rules.specs.Refusals.{Res, ok, refuse, _>>=_, demand, unbound}
 use Rattle.rules.specs.Signature.{Sig}
 use Rattle.rules.specs.Written.{Exprs, leaf, call}

@@ -1,7 +1,6 @@
 -- The end of a call: the terms of its arguments lie on the stack, so that behind one count of its head the words of its action are 7, the variable, its
 -- kind 3 word and what lies there; where the count is refused, the call is. Assumes nothing.
 use mathlib.Core.Path.{_∙_}
-use Prim.Native.Nat.{_+_, _^_, _<_}
 use native.Mathlib.Omega.{arith}
 use Rattle.octets.specs.Words.{words}
 use Rattle.octets.proofs.Words.{length-words, length-words-kept}
