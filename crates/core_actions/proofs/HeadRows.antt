@@ -17,7 +17,7 @@ use Rattle.head_exprs.specs.declared.scope.Scope.{Scope}
 use Rattle.head_exprs.proofs.Sites.{Site, site-of, RoomAt, ScopeRoomAt}
 use Rattle.head_exprs.proofs.Arguments.{here-on}
 use Rattle.head_exprs.proofs.Expressions.{standing}
-use Rattle.core_actions.specs.Acts.{donePiece, ActionAt, ActionsAt, Acts, refusedAction, Gave, NamesAfter, Signed}
+use Rattle.core_actions.specs.Acts.{donePiece, ActionAt, ActionsAt, Acts, refusedAction, ActsAll, NamesAfter, Signed}
 use Rattle.core_actions.specs.declared.actions.Acted.{Acted}
 use Rattle.core_actions.proofs.Does.{KnownSigned, DoesAction}
 use Rattle.core_actions.proofs.ReadActions.{action-inside}
@@ -48,10 +48,7 @@ module _ (h : Head) where
 
   -- what the contract says of an answer
   abbrev pub Answers : List ℕ → List ℕ → Acted → Type 0
-  Answers s′ cs′ r =
-      (sig : Sig) (x : ActionsAt sig (h .ws) (h .n) (h .at)) (bound : List ℕ) → Counted sig (h .cs) → Scoped sig bound (h .s) (h .scope) → Signed sig (h .gs)
-      → Walked 0 (Gave r) (donePiece (toCoreActions sig bound (x .value) (h .cs))) (x .size) (h .at) (h .to) sp (h .lg) (h .s) (h .cs) s′ cs′ (r .walk)
-      × NamesAfter (toCoreActions sig bound (x .value) (h .cs)) bound (h .scope) r
+  Answers s′ cs′ r = ActsAll (h .gs) (h .ws) (h .n) (h .at) (h .to) (h .lg) (h .scope) (h .s) (h .cs) s′ cs′ r
 
   -- what the next action is given under a scope
   abbrev pub turn-under : Scope → ℕ → List ℕ → List ℕ → Walk → Site

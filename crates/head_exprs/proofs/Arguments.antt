@@ -5,7 +5,7 @@ use Prim.Native.Nat.{ℕ, _+_, _-_, _^_, _≤_, _<_}
 use native.Mathlib.Omega.{arith}
 use lib.ListN.{length, set}
 use Rattle.rules.specs.Signature.{Sig}
-use Rattle.walks.specs.Steps.{InAnswer, OnlyOnStack, ExprAt, ExprsAt}
+use Rattle.walks.specs.Steps.{ExprAt, ExprsAt}
 use Rattle.walks.specs.declared.Walk.{Walk}
 use Rattle.walks.proofs.Asks.{counted-kept, first-at}
 use Rattle.walks.proofs.Steps.{retold, halted}
@@ -13,8 +13,8 @@ use Rattle.walks.proofs.Rows.{Going, going-start, Left, left-all, left-none, le
 use Rattle.walks.proofs.Read.{exprs-many}
 use Rattle.walks.proofs.Turns.{Turn, turn}
 use Rattle.head_exprs.specs.Scopes.{Scoped}
-use Rattle.head_exprs.specs.Lowered.{lowered, loweredAll}
-use Rattle.head_exprs.proofs.Sites.{Site, site-of, Every, WalkedAt, Asks, Tree, tree, Begun}
+use Rattle.head_exprs.specs.Lowered.{lowered, loweredAll, LowersExpr, LowersExprs}
+use Rattle.head_exprs.proofs.Sites.{Site, site-of, Asks, Tree, tree, Begun}
 use Rattle.head_exprs.proofs.Pieces.{lowered-row}
 use Rattle.head_exprs.proofs.Expressions.{standing, scope-room, scope-going}
 
@@ -25,12 +25,12 @@ Exprs-at k d n sig = ExprsAt sig (k .ws) d n (k .at)
 -- what the contract says of an answer
 abbrev pub Answers : Site → (d n : ℕ) → List ℕ → List ℕ → Walk → Type 0
 Answers k d n s′ cs′ r =
-    Every k (Exprs-at k d n) (λ sig x bound. WalkedAt k n (OnlyOnStack (k .sp) n (k .lg) s′ r) (loweredAll sig bound (x .value) (k .cs)) (x .size) (k .at) s′ cs′ r)
+    LowersExprs (k .ws) d n (k .at) (k .to) (k .sp) (k .lg) (k .scope) (k .s) (k .cs) s′ cs′ r
 
 -- and what that of lowering one expression says
 abbrev pub Lowers : Site → ℕ → List ℕ → List ℕ → Walk → Type 0
 Lowers k d s′ cs′ r =
-    Every k (λ sig. ExprAt sig (k .ws) d (k .at)) (λ sig x bound. WalkedAt k 1 (InAnswer (k .lg) r) (lowered sig bound (x .value) (k .cs)) (x .size) (k .at) s′ cs′ r)
+    LowersExpr (k .ws) d (k .at) (k .to) (k .sp) (k .lg) (k .scope) (k .s) (k .cs) s′ cs′ r
 
 -- where the next argument stands, behind the walk w with its stack up to top
 abbrev pub next : Site → (top : ℕ) → List ℕ → List ℕ → Walk → Site

@@ -3,10 +3,9 @@ use mathlib.Core.List.{List}
 use Prim.Native.Nat.{ℕ, _^_, _<_}
 use lib.ListN.{length}
 use Rattle.rules.specs.Refusals.{Res}
-use Rattle.rules.specs.Signature.{Sig}
 use Rattle.walks.specs.Steps.{Piece, Walked, InAnswer, OnStack, NoTerms, Room, Under, Counted, ExprAt, ExprsAt}
 use Rattle.walks.specs.declared.Walk.{Walk}
-use Rattle.query.specs.Flattened.{flattened, flattenedAll, flattenedFact, query, FactAt, FactsAt}
+use Rattle.query.specs.Flattened.{FactAt, FactsAt, FlattensExpr, FlattensExprs, FlattensFact, FlattensFacts}
 
 -- the rule's words, the scratch and the counters; the place read from, and those where atoms, terms and uses go
 pub record Spot : Type 0 where
@@ -56,19 +55,19 @@ ExprsWalked p n x k s′ cs′ r = Walked n (OnStack (p .sp) n (p .lg) s′ r) x
 abbrev pub FactWalked : Spot → Res Piece → ℕ → List ℕ → List ℕ → Walk → Type 0
 FactWalked p x k s′ cs′ r = Walked 0 (NoTerms r) x k (p .at) (p .to) (p .sp) (p .lg) (p .s) (p .cs) s′ cs′ r
 
--- for every signature that reads something there
+-- what the contracts say of it
 abbrev pub ExprAnswers : Spot → ℕ → List ℕ → List ℕ → Walk → Type 0
 ExprAnswers p d s′ cs′ r =
-    (sig : Sig) (x : ExprAt sig (p .ws) d (p .at)) → Counted sig (p .cs) → ExprWalked p (flattened (x .value) (p .cs)) (x .size) s′ cs′ r
+    FlattensExpr (p .ws) d (p .at) (p .to) (p .sp) (p .lg) (p .s) (p .cs) s′ cs′ r
 
 abbrev pub ExprsAnswers : Spot → ℕ → ℕ → List ℕ → List ℕ → Walk → Type 0
 ExprsAnswers p d n s′ cs′ r =
-    (sig : Sig) (x : ExprsAt sig (p .ws) d n (p .at)) → Counted sig (p .cs) → ExprsWalked p n (flattenedAll (x .value) (p .cs)) (x .size) s′ cs′ r
+    FlattensExprs (p .ws) d n (p .at) (p .to) (p .sp) (p .lg) (p .s) (p .cs) s′ cs′ r
 
 abbrev pub FactAnswers : Spot → List ℕ → List ℕ → Walk → Type 0
 FactAnswers p s′ cs′ r =
-    (sig : Sig) (x : FactAt sig (p .ws) (p .at)) → Counted sig (p .cs) → FactWalked p (flattenedFact (x .value) (p .cs)) (x .size) s′ cs′ r
+    FlattensFact (p .ws) (p .at) (p .to) (p .sp) (p .lg) (p .s) (p .cs) s′ cs′ r
 
 abbrev pub FactsAnswers : Spot → ℕ → List ℕ → List ℕ → Walk → Type 0
 FactsAnswers p n s′ cs′ r =
-    (sig : Sig) (x : FactsAt sig (p .ws) n (p .at)) → Counted sig (p .cs) → FactWalked p (query (x .value) (p .cs)) (x .size) s′ cs′ r
+    FlattensFacts (p .ws) n (p .at) (p .to) (p .sp) (p .lg) (p .s) (p .cs) s′ cs′ r
