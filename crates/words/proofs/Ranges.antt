@@ -2,7 +2,7 @@
 use mathlib.Core.Path.{_≡_, refl, sym, ap, _∙_, subst}
 use mathlib.Core.Logic.{⊎-elim}
 use mathlib.Core.Bool.{Bool, true, false, _&&_}
-use Prim.Native.Nat.{ℕ, zero, suc, _+_, _*_, _-_, _/_, _^_, _≤_, _<_, zero-le}
+use Prim.Native.Nat.{ℕ, zero, suc, _+_, _*_, _-_, _/_, _^_, _≤_, _<_}
 use native.Mathlib.Nat.{eq-zero-or-pos, lt-of-lt-of-le, two-pow-succ}
 use native.Mathlib.Omega.{arith}
 use lib.Count.{leadingZeros, leading-of-zero, leading-top, leading-length, leading-unique}
@@ -40,6 +40,14 @@ not-kind k j w e other hi = go (leb (2 ^ j) w) refl
     go true t = absurd (other (range-kind k j w e (leb-true (2 ^ j) w t) hi))
     go false t = leb-false (2 ^ j) w t
 
+-- and one of none of the kinds k to k + 3 is lower than all of them
+pub none-of-four : (k j w : ℕ) → suc (suc (suc k)) + suc j ≡ 32 → ¬ (leadingZeros 32 w ≡ k) → ¬ (leadingZeros 32 w ≡ suc k)
+    → ¬ (leadingZeros 32 w ≡ suc (suc k)) → ¬ (leadingZeros 32 w ≡ suc (suc (suc k))) → w < 2 ^ suc (suc (suc (suc j))) → w < 2 ^ j
+none-of-four k j w e n0 n1 n2 n3 h =
+    let h1 = not-kind k (suc (suc (suc j))) w (omega arith) n0 h in
+    let h2 = not-kind (suc k) (suc (suc j)) w (omega arith) n1 h1 in
+    not-kind (suc (suc (suc k))) j w e n3 (not-kind (suc (suc k)) (suc j) w (omega arith) n2 h2)
+
 -- k zeros or more: no kind below k
 pub kind-from : (k j w : ℕ) → k + j ≡ 32 → w < 2 ^ 32 → k ≤ leadingZeros 32 w → w < 2 ^ j
 kind-from k j w e h z =
@@ -71,10 +79,6 @@ kind-test k j w e h = go (ltb (leadingZeros 32 w) k) refl
 -- a number from n up that is not n
 pub past : {n x : ℕ} → n ≤ x → (x ≡ n → ⊥) → suc n ≤ x
 past h f = omega arith
-
--- a number that is none of 0 to 7
-pub none-of-eight : {x : ℕ} → (x ≡ 0 → ⊥) → (x ≡ 1 → ⊥) → (x ≡ 2 → ⊥) → (x ≡ 3 → ⊥) → (x ≡ 4 → ⊥) → (x ≡ 5 → ⊥) → (x ≡ 6 → ⊥) → (x ≡ 7 → ⊥) → 8 ≤ x
-none-of-eight n0 n1 n2 n3 n4 n5 n6 n7 = past (past (past (past (past (past (past (past zero-le n0) n1) n2) n3) n4) n5) n6) n7
 
 -- ---- tests of ranges
 

@@ -70,6 +70,34 @@ pub enum Word {
     Unfit,
 }
 
+// What a word below those of heads says: it is of a kind from 4 to 7, or of none. `word_of` has counted the zeros already, and the compiler makes one jump of both.
+fn low_word_of(w: u32) -> Word
+    requires { ⌜ w < headBase ⌝ }
+    ensures { λ r. ⌜ numbers r ≡ numbersOf w ⌝ }
+{
+    let kind = u32::leading_zeros(w);
+    match kind {
+        4 => Word::Equality(w - EQUALITY_BASE),
+        5 => {
+            let p = w - HEADER_BASE;
+            if p < LIMIT_12 * LIMIT_12 {
+                Word::Header(p / LIMIT_12, p % LIMIT_12)
+            } else {
+                Word::Unfit
+            }
+        }
+        6 => {
+            let code = w - ACTION_BASE;
+            match code {
+                1..=8 => Word::Action(code),
+                _ => Word::Unfit,
+            }
+        }
+        7 => Word::Signature(w - SIGNATURE_BASE),
+        _ => Word::Unfit,
+    }
+}
+
 // What a word says: the count of its leading zeros tells the kind, and so where the payload begins.
 pub fn word_of(w: u32) -> Word
     ensures { λ r. ⌜ numbers r ≡ numbersOf w ⌝ }
@@ -100,24 +128,7 @@ pub fn word_of(w: u32) -> Word
             let p = w - HEAD_BASE;
             Word::Head(p / LIMIT_16, p % LIMIT_16)
         }
-        4 => Word::Equality(w - EQUALITY_BASE),
-        5 => {
-            let p = w - HEADER_BASE;
-            if p < LIMIT_12 * LIMIT_12 {
-                Word::Header(p / LIMIT_12, p % LIMIT_12)
-            } else {
-                Word::Unfit
-            }
-        }
-        6 => {
-            let code = w - ACTION_BASE;
-            match code {
-                1..=8 => Word::Action(code),
-                _ => Word::Unfit,
-            }
-        }
-        7 => Word::Signature(w - SIGNATURE_BASE),
-        _ => Word::Unfit,
+        _ => low_word_of(w),
     }
 }
 
