@@ -32,18 +32,20 @@ use Rattle.canonicalize.proofs.Replacing.{bindings-append}
 use Rattle.merging.specs.declared.Merged.{Merged}
 use Rattle.merging.specs.RemoveDupVars.{Group, GroupsAt, PassAsks, Passed, allEqns, groupWords, groupsOf}
 use Rattle.merging.proofs.PassGroups.{PassGroups, groups-none, groups-small, pass-groups}
+use Rattle.settling.specs.declared.Settled.{Settled}
 use Rattle.settling.specs.declared.joining.Area.{Area}
 use Rattle.settling.specs.Joining.{AgainAsks}
-use Rattle.settling.specs.Settle.{SettleAsks, SettledAt}
+use Rattle.settling.specs.Settle.{SettleAsks, SettledAt, settledNone}
 use Rattle.rules.specs.RemoveDupVars as definitions
 use Rattle.rules.specs.Canonicalize as canon
 
 -- ---- a body without words: there is nothing to settle, and one pass finds that
 
 pub settled-none : (g : Sig) (ys : List Atom) (l : List ℕ) (at n : ℕ) → n ≡ 0 → BodyAt ys l at n
-    → SettledAt g ys l l at n (record { at = at; words = 0; atoms = 0; binds = at; replacements = 0; passes = 1 })
-settled-none g [] l at n e y =
-    record {
+    → {r : Settled} → r ≡ settledNone at → SettledAt g ys l l at n r
+settled-none g [] l at n e y is =
+    subst (SettledAt g [] l l at n) (sym is)
+    (record {
       tabs = y .at;
       words = refl;
       atoms = refl;
@@ -51,8 +53,8 @@ settled-none g [] l at n e y =
       replacements = refl;
       passes = refl;
       only = only-same l at (at + 8 * n + 3);
-    }
-settled-none g (x ∷ ys) l at n e y = absurd (omega (arith, y .size, e, two-atom x, length-append (atomWords x) (wordsOf atomWords ys)))
+    })
+settled-none g (x ∷ ys) l at n e y is = absurd (omega (arith, y .size, e, two-atom x, length-append (atomWords x) (wordsOf atomWords ys)))
 
 -- ---- one with words
 

@@ -27,3 +27,7 @@ pub record SettledAt (s : Sig) (xs : List Atom) (l m : List ℕ) (at n : ℕ) (r
   pub replacements : r .replacements ≡ length (settle s xs .repls)
   pub passes : r .passes ≡ settle s xs .passes
   pub only : Only l m at (at + 8 * n + 3)
+
+-- what a body without atoms settles to: no atom, no replacement, and the one pass that finds nothing to merge
+abbrev pub settledNone : ℕ → Settled
+settledNone at = record { at = at; words = 0; atoms = 0; binds = at; replacements = 0; passes = 1 }

@@ -16,7 +16,7 @@ ghost use Rattle.rules.specs.Signature.{Sig};
 ghost use Rattle.rules.specs.Flat.{Atom};
 ghost use Rattle.bodies.specs.Terms.{GoodSign, Agrees};
 ghost use Rattle.bodies.specs.Standing.{BodyAt};
-ghost use Rattle.settling.specs.Settle.{SettleAsks, SettledAt};
+ghost use Rattle.settling.specs.Settle.{SettleAsks, SettledAt, settledNone};
 
 pub mod joining;
 
@@ -34,6 +34,20 @@ pub struct Settled {
     pub passes: usize,
 }
 
+// What a body without atoms settles to: nothing stands anywhere, and one pass finds that.
+fn nothing(at: usize) -> Settled
+    ensures { λ r. ⌜ r ≡ settledNone at ⌝ }
+{
+    Settled {
+        at,
+        words: 0,
+        atoms: 0,
+        binds: at,
+        replacements: 0,
+        passes: 1,
+    }
+}
+
 // Settles the atoms in the n words at `at`, with 8n + 3 words from there on to work in.
 pub fn settle(s: &mut [u8], at: usize, n: usize, q: Sign) -> Settled
     requires { ⌜ GoodSign q ⌝ }
@@ -42,14 +56,7 @@ pub fn settle(s: &mut [u8], at: usize, n: usize, q: Sign) -> Settled
         → SettledAt g xs (words (now (s .entry))) (words (now (s .exit))) at n r) ⌝ }
 {
     if n == 0 {
-        return Settled {
-            at,
-            words: 0,
-            atoms: 0,
-            binds: at,
-            replacements: 0,
-            passes: 1,
-        };
+        return nothing(at);
     }
     let links = at + 2 * n;
     let body = at + 4 * n + 1;

@@ -23,8 +23,14 @@ abbrev μ-loop : tie.MeasureT-loop
 
 -- ---- there are no words
 
+nothing-requires : tie.Need-nothing-requires Inv-loop μ-loop
+nothing-requires c κs = search needs
+
 returns : tie.Need-returns Inv-loop μ-loop
-returns c = let a = c .before .before .args in λ g ys b y. settled-none g ys (words (a .s .now)) (a .at) (a .n) (c .if1 .taken) y
+returns c =
+    let t = c .before in
+    let a = t .before .before .args in
+    λ g ys b y. settled-none g ys (words (a .s .now)) (a .at) (a .n) (t .if1 .taken) y (c .nothing .ensures)
 
 -- ---- there are some
 
@@ -146,6 +152,7 @@ settle-spec =
     (tie.spec
     Inv-loop
     μ-loop
+    nothing-requires
     returns
     mul-links
     add-links
