@@ -18,8 +18,9 @@ use Rattle.walks.proofs.Rows.{Going, going-next}
 use Rattle.walks.proofs.Words.{words-append}
 use Rattle.head_exprs.specs.Scopes.{having, Scoped}
 use Rattle.head_exprs.specs.declared.scope.Scope.{Scope}
-use Rattle.core_actions.specs.Acts.{donePiece, ActionAt, ActionsAt, Acts, NamesAfter}
-use Rattle.core_actions.specs.declared.actions.Acted.{Acted}
+use Rattle.actions.specs.Acts.{donePiece, Acts}
+use Rattle.core_actions.specs.Rows.{ActionAt, ActionsAt, NamesAfter}
+use Rattle.actions.specs.declared.Acted.{Acted}
 use Rattle.core_actions.proofs.ReadActions.{action-on, action-some}
 
 -- each flat action has a word

@@ -13,13 +13,15 @@ use Rattle.rules.specs.ToCoreActions.{Done, lowerChange, lowerSet, lowerAction}
 use Rattle.walks.specs.Steps.{Piece, ExprAt}
 use Rattle.head_exprs.specs.Scopes.{Scoped}
 use Rattle.head_exprs.proofs.Sites.{Site, Known, RoomAt, ScopeRoomAt, Every, WalkedAt}
-use Rattle.core_actions.specs.Acts.{donePiece, ActionAt, LetAt, ChangeAt, PairAt, changed, Gave, Quiet}
-use Rattle.core_actions.specs.declared.actions.Acted.{Acted}
-use Rattle.core_actions.proofs.Does.{KnownSigned, Does, DoesAction, second, Changes}
-use Rattle.core_actions.proofs.Lets as lets
+use Rattle.actions.specs.Acts.{donePiece, LetAt, ChangeAt, PairAt, changed, Gave, Quiet}
+use Rattle.core_actions.specs.Rows.{ActionAt}
+use Rattle.actions.specs.declared.Acted.{Acted}
+use Rattle.actions.proofs.Does.{Does, second, Changes}
+use Rattle.core_actions.proofs.DoesSigned.{KnownSigned, DoesAction}
+use Rattle.actions.proofs.Lets as lets
 use Rattle.core_actions.proofs.UnionAsSet as unions
-use Rattle.core_actions.proofs.Pieces.{done-change, done-set-row, SameBound, same-change, same-set}
-use Rattle.core_actions.proofs.Acting.{acts-same}
+use Rattle.actions.proofs.Pieces.{done-change, done-set-row, SameBound, same-change, same-set}
+use Rattle.actions.proofs.Acting.{acts-same}
 use Rattle.core_actions.proofs.ReadActions.{action-high, no-other, let-cases, set-cases, delete-cases, subsume-cases, union-cases, panic-cases, expression-cases}
 
 -- the action y of n words is done

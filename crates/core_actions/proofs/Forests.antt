@@ -14,7 +14,7 @@ use Rattle.rules.specs.Written.{readExpr, readMany}
 use Rattle.walks.specs.Steps.{Under, ExprAt, ExprsAt}
 use Rattle.walks.proofs.Read.{expr-some, leaf-cases, call-cases, first-cases, none-cases}
 use Rattle.walks.proofs.Asks.{expr-inside}
-use Rattle.core_actions.specs.Acts.{arityOf}
+use Rattle.core_actions.specs.Unions.{arityOf}
 
 module _ (sig : Sig) (ws : List ℕ) where
   -- n expressions from `at` on, which end at e

@@ -17,9 +17,11 @@ use Rattle.head_exprs.specs.declared.scope.Scope.{Scope}
 use Rattle.head_exprs.proofs.Sites.{Site, site-of, RoomAt, ScopeRoomAt}
 use Rattle.head_exprs.proofs.Arguments.{here-on}
 use Rattle.head_exprs.proofs.Expressions.{standing}
-use Rattle.core_actions.specs.Acts.{donePiece, ActionAt, ActionsAt, Acts, refusedAction, ActsAll, NamesAfter, Signed}
-use Rattle.core_actions.specs.declared.actions.Acted.{Acted}
-use Rattle.core_actions.proofs.Does.{KnownSigned, DoesAction}
+use Rattle.actions.specs.Acts.{donePiece, Acts, refusedAction}
+use Rattle.core_actions.specs.Unions.{Signed}
+use Rattle.core_actions.specs.Rows.{ActionAt, ActionsAt, ActsAll, NamesAfter}
+use Rattle.actions.specs.declared.Acted.{Acted}
+use Rattle.core_actions.proofs.DoesSigned.{KnownSigned, DoesAction}
 use Rattle.core_actions.proofs.ReadActions.{action-inside}
 use Rattle.core_actions.proofs.ActionRows.{acts-few, Left, left-all, left-none, left-names, first-action, left-stop, left-next, left-going}
 

@@ -19,8 +19,9 @@ use Rattle.meaning.proofs.Lists.{and-left, and-right}
 use Rattle.meaning.proofs.Reading.{within-low, within-high, head-below, expr-reads}
 use Rattle.walks.specs.Steps.{ExprAt}
 use Rattle.walks.proofs.Read.{expr-at, exprs-at, exprs-on, many-inside}
-use Rattle.core_actions.specs.Acts.{ActionAt, LetAt, ChangeAt, PairAt}
-use Rattle.core_actions.proofs.Pieces.{snoc}
+use Rattle.actions.specs.Acts.{LetAt, ChangeAt, PairAt}
+use Rattle.core_actions.specs.Rows.{ActionAt}
+use Rattle.actions.proofs.Pieces.{snoc}
 use Rattle.core_actions.proofs.UnionAsSet.{many-snoc}
 
 -- ---- one word

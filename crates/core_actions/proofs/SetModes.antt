@@ -13,7 +13,8 @@ use Rattle.rules.specs.Written.{Expr, Exprs, leaf, call}
 use Rattle.walks.specs.Steps.{Under, ExprAt}
 use Rattle.walks.proofs.Read.{leaf-cases, call-cases}
 use Rattle.walks.proofs.Asks.{expr-inside}
-use Rattle.core_actions.specs.Acts.{PairAt, Signed, setMode}
+use Rattle.actions.specs.Acts.{PairAt}
+use Rattle.core_actions.specs.Unions.{Signed, setMode}
 use Rattle.core_actions.proofs.Forests.{Passed}
 
 -- what the contract says of an answer

@@ -17,13 +17,15 @@ use Rattle.meaning.proofs.Results.{bind-ok, ok-inj, refuse-ok}
 use Rattle.walks.specs.Steps.{Piece, ExprAt, ExprsAt}
 use Rattle.walks.proofs.Read.{moved, leaf-cases, call-cases}
 use Rattle.head_exprs.proofs.Sites.{Site, Known, RoomAt, ScopeRoomAt, WalkedAt}
-use Rattle.core_actions.specs.Acts.{donePiece, ChangeAt, PairAt, NameCallAt, Signed, setMode, changed, Gave}
-use Rattle.core_actions.specs.declared.actions.Acted.{Acted}
-use Rattle.core_actions.proofs.Does.{KnownSigned, EverySigned, Does, Changes}
-use Rattle.core_actions.proofs.NameSets as name-sets
-use Rattle.core_actions.proofs.Pairs as pairs
-use Rattle.core_actions.proofs.Acting.{acts-same}
-use Rattle.core_actions.proofs.Pieces.{snoc, done-set-row, SameBound, same-set}
+use Rattle.actions.specs.Acts.{donePiece, ChangeAt, PairAt, NameCallAt, changed, Gave}
+use Rattle.core_actions.specs.Unions.{Signed, setMode}
+use Rattle.actions.specs.declared.Acted.{Acted}
+use Rattle.actions.proofs.Does.{Does, Changes}
+use Rattle.core_actions.proofs.DoesSigned.{KnownSigned, EverySigned}
+use Rattle.actions.proofs.NameSets as name-sets
+use Rattle.actions.proofs.Pairs as pairs
+use Rattle.actions.proofs.Acting.{acts-same}
+use Rattle.actions.proofs.Pieces.{snoc, done-set-row, SameBound, same-set}
 use Rattle.core_actions.proofs.SetModes.{Modes}
 
 -- a test that chooses n, and one that does not

@@ -3,18 +3,17 @@
 //     written  (set (f (g x)) 1)      flat  (call @g.0 (g x)) (set (f @g.0) 1), and one count of f is used up
 //
 // The walks work in one scratch: actions go to `to`, terms of arguments onto the stack at `sp`, uses of counters to `log`.
-pub mod actions; // actions.rt: each action
 pub mod unions; // unions.rt: unions, and those that become sets
 
-use crate::actions::Acted;
-use crate::actions::apart;
-use crate::actions::done_action;
-use crate::actions::lower_change;
-use crate::actions::lower_expression;
-use crate::actions::lower_let;
-use crate::actions::lower_panic;
-use crate::actions::refused_action;
 use crate::unions::lower_union;
+use actions::Acted;
+use actions::apart;
+use actions::done_action;
+use actions::lower_change;
+use actions::lower_expression;
+use actions::lower_let;
+use actions::lower_panic;
+use actions::refused_action;
 use head_exprs::scope::Scope;
 use head_exprs::scope::with_names;
 ghost use mathlib.Core.Path.{_≡_};
@@ -26,7 +25,9 @@ ghost use Rattle.rules.specs.Signature.{Sig};
 ghost use Rattle.rules.specs.ToCoreActions.{lowerAction};
 ghost use Rattle.walks.specs.Steps.{Room, Under, Counted};
 ghost use Rattle.head_exprs.specs.Scopes.{Scoped, ScopeRoom, Names};
-ghost use Rattle.core_actions.specs.Acts.{ActionAt, ActionsAt, Acts, ActsAll, RowRoom, Signed};
+ghost use Rattle.actions.specs.Acts.{Acts};
+ghost use Rattle.core_actions.specs.Unions.{Signed};
+ghost use Rattle.core_actions.specs.Rows.{ActionAt, ActionsAt, ActsAll, RowRoom};
 
 // A word that does not fit.
 const UNFIT: u32 = 5;

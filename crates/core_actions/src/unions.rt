@@ -1,8 +1,8 @@
 // Unions. With the flag on, a union of a name and a constructor call, in either order, becomes a set; any other stays one.
-use crate::actions::Acted;
-use crate::actions::lower_change;
-use crate::actions::set_name;
-use crate::actions::unite;
+use actions::Acted;
+use actions::lower_change;
+use actions::set_name;
+use actions::unite;
 use head_exprs::scope::Scope;
 use words::SET;
 ghost use mathlib.Core.Path.{_≡_};
@@ -16,7 +16,8 @@ ghost use Rattle.rules.specs.Signature.{Sig, heads};
 ghost use Rattle.rules.specs.ToCoreActions.{lowerUnion, unionAsSet};
 ghost use Rattle.walks.specs.Steps.{Room, Under, Counted, ExprAt};
 ghost use Rattle.head_exprs.specs.Scopes.{Scoped, ScopeRoom, Names};
-ghost use Rattle.core_actions.specs.Acts.{PairAt, Acts, Signed, setMode, arityOf};
+ghost use Rattle.actions.specs.Acts.{PairAt, Acts};
+ghost use Rattle.core_actions.specs.Unions.{Signed, setMode, arityOf};
 
 // The word of a signature that says 1: the flag is on, a head is a constructor.
 const ONE: u32 = words::SIGNATURE_BASE + 1;

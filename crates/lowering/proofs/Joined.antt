@@ -26,8 +26,9 @@ use Rattle.query.specs.Flattened.{queryPiece, query, FactsAt}
 use Rattle.head_exprs.specs.Scopes.{firstScope, Scoped, ScopeRoom, Names}
 use Rattle.head_exprs.specs.declared.scope.Scope.{Scope}
 use Rattle.head_exprs.proofs.Body.{scope-first}
-use Rattle.core_actions.specs.Acts.{ActionsAt, donePiece, Gave}
-use Rattle.core_actions.specs.declared.actions.Acted.{Acted}
+use Rattle.actions.specs.Acts.{donePiece, Gave}
+use Rattle.core_actions.specs.Rows.{ActionsAt}
+use Rattle.actions.specs.declared.Acted.{Acted}
 use Rattle.lowering.specs.Lowered.{Good, accepted, refusal, Lowers}
 use Rattle.lowering.specs.declared.Lowering.{Lowering}
 use Rattle.lowering.proofs.SignatureWords.{SignatureWords, signature-words}

@@ -14,7 +14,7 @@ use Rattle.meaning.proofs.Reading.{within-low}
 use Rattle.walks.proofs.Read.{row-at, row-on, row-inside}
 use Rattle.query.specs.Flattened.{FactsAt}
 use Rattle.query.proofs.Facts.{fact-on, fact-ends}
-use Rattle.core_actions.specs.Acts.{ActionsAt}
+use Rattle.core_actions.specs.Rows.{ActionsAt}
 use Rattle.core_actions.proofs.ReadActions.{action-on, action-ends, WordRead, word-read}
 
 -- by the header word w

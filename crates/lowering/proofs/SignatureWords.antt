@@ -13,7 +13,7 @@ use Rattle.rules.specs.Signature.{Sig, heads, payloadAt, kindsAt, readSignature
 use Rattle.meaning.proofs.Results.{bind-ok, ok-inj, demand-ok}
 use Rattle.meaning.proofs.Lists.{and-left, and-right}
 use Rattle.meaning.proofs.Reading.{within-low, within-high}
-use Rattle.core_actions.specs.Acts.{Signed}
+use Rattle.core_actions.specs.Unions.{Signed}
 
 record Payload (gs : List ℕ) (low size p n : ℕ) : Type 0 where
   pub inside : p < length gs

@@ -13,7 +13,7 @@ use Rattle.rules.specs.Flat.{atomWords, actionWords, wordsOf}
 use Rattle.rules.specs.ToCoreActions.{CoreRule}
 use Rattle.walks.specs.Log.{undone, total}
 use Rattle.walks.specs.declared.Walk.{Walk}
-use Rattle.core_actions.specs.declared.actions.Acted.{Acted}
+use Rattle.actions.specs.declared.Acted.{Acted}
 use Rattle.lowering.specs.declared.Lowering.{Lowering}
 
 -- signature and rule were read, there is a counter for each head, and room

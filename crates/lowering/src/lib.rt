@@ -1,6 +1,6 @@
 // Lowering a rule without settling it, the source's `to_core_rule`: the body is flattened, then the head lowered under the names that the body
 // binds. Fresh variables are taken from the counters in place; a refusal puts the counters back from the log of their uses.
-use core_actions::actions::Acted;
+use actions::Acted;
 use head_exprs::scope::first_scope;
 use walks::Walk;
 ghost use mathlib.Core.Path.{_≡_};
