@@ -1,7 +1,7 @@
 -- Lowering a written rule, as a call: what is asked of the work, what it gives, and when the counters are used. Assumes nothing.
 use Prim.Native.Nat.{ℕ, _*_, _/_, _≤_, _<_}
 use native.Mathlib.Omega.{arith}
-use mathlib.Core.Path.{_≡_, refl, sym, _∙_, ap}
+use mathlib.Core.Path.{_≡_, refl, sym, _∙_, ap, subst}
 use mathlib.Core.Bool.{Bool, true}
 use mathlib.Core.List.{List, [], _∷_}
 use lib.ListN.{length, take}
@@ -20,7 +20,7 @@ use Rattle.answers.specs.declared.Answer.{Answer}
 use Rattle.lower_call.specs.declared.Lowered.{Lowered}
 use Rattle.answers.specs.Answers.{wholeThree, scratchWritten, refusedWith, GivesBoth}
 use Rattle.answers.specs.Fronts.{writtenFront}
-use Rattle.lower_call.specs.Lower.{WrittenUnder, LowerAsks, LoweredTo, LowersTo}
+use Rattle.lower_call.specs.Lower.{WrittenUnder, LowerAsks, LoweredTo, LowersTo, answerOf}
 use Rattle.answers.proofs.Slices.{every-whole}
 use Rattle.answers.proofs.Tests.{written, front}
 use Rattle.answers.proofs.Lent.{Lent, lent-words}
@@ -174,10 +174,9 @@ module _ {k : Given} {g : Signature} {y : Ready (lowering k) g} {w : Lowered} {m
       lower-short l a = too-short lower-done words-are l a (unused (known .2 .uncounted (omega (arith, words-kept))))
 
       -- room for all of it: the counters are used
-      pub lower-written : w .needed ≤ count
-          → Answers (lowering k) (record { number = 0; place = 0; words = w .needed; replacements = w .replacements; passes = w .passes }) m d
-      lower-written l =
+      pub lower-written : w .needed ≤ count → {r : Answer} → r ≡ answerOf w → Answers (lowering k) r m d
+      lower-written l a =
           let counts : d ≡ bytesOf (known .0 .next) =
           sym (bytes-words d (o .countersAfter) (omega (arith, o .counters, y .whole .counters)))
           ∙ ap bytesOf (known .2 .counted (omega (arith, words-kept))) in
-          all-written lower-done words-are l counts
+          subst (λ (r : Answer). Answers (lowering k) r m d) (sym a) (all-written lower-done words-are l counts)

@@ -36,7 +36,7 @@ use Rattle.settling.proofs.Settling.{settle-asks}
 use Rattle.signature.specs.declared.Signature.{Signature}
 use Rattle.lower_call.specs.declared.Lowered.{Lowered}
 use Rattle.emitting.specs.Emit.{Parts, Stand}
-use Rattle.lower_call.specs.Lower.{WrittenUnder, LowerAsks, LowersTo}
+use Rattle.lower_call.specs.Lower.{WrittenUnder, LowerAsks, LowersTo, turnedBack, acceptedWith}
 use Rattle.emitting.proofs.Emitting.{termsOf, Finishes, settled-parts}
 
 module _ {gs ws : List ℕ} {g : Signature} {cs : List ℕ} {room : ℕ} (a : LowerAsks gs ws g cs room) where
@@ -72,11 +72,12 @@ Cores gs ws cs m cs1 k =
 -- ---- lowering refuses: k
 
 pub turned : {gs ws : List ℕ} {g : Signature} {cs m cs1 : List ℕ} {k : Lowering} → Cores gs ws cs m cs1 k → (out : List ℕ) → (k .refused ≡ 0 → ⊥)
-    → Answers gs ws g cs cs1 out out (record { refused = k .refused; place = k .place; needed = 0; replacements = 0; passes = 0 })
-turned {ws = ws} {cs = cs} {m = m} {cs1 = cs1} {k = k} core out bad s r u = go (toCoreRule s r cs) (core s r (u .signed) (u .written))
+    → {w : Lowered} → w ≡ turnedBack (k .refused) (k .place) → Answers gs ws g cs cs1 out out w
+turned {ws = ws} {cs = cs} {m = m} {cs1 = cs1} {k = k} core out bad {w} is s r u =
+    subst (LowersTo s (toCoreRule s r cs) cs cs1 out out) (sym is) (go (toCoreRule s r cs) (core s r (u .signed) (u .written)))
   where
     go : (x : Res CoreRule) → Lowers x (length ws) cs m cs1 k
-        → LowersTo s x cs cs1 out out (record { refused = k .refused; place = k .place; needed = 0; replacements = 0; passes = 0 })
+        → LowersTo s x cs cs1 out out (turnedBack (k .refused) (k .place))
     go (ok c) z = absurd (bad (z .fine))
     go (refuse i p) z = record { number′ = ap (λ (l : Lowering). l .refused) (z .is); place′ = ap (λ (l : Lowering). l .place) (z .is); some = z .some; counters = z .counters; output = refl }
 
@@ -168,12 +169,12 @@ module _ {gs ws : List ℕ} {g : Signature} {cs : List ℕ} {room : ℕ} {a : Lo
 
   module _ {needed : ℕ} {out out′ : List ℕ} (finished : Finishes m2 b (k .actions) m2 (24 * n) (k .head) needed out out′) where
     abbrev answer : Lowered
-    answer = record { refused = 0; place = 0; needed = needed; replacements = b .replacements; passes = b .passes }
+    answer = acceptedWith needed (b .replacements) (b .passes)
 
     -- what holds of the signature and the rule that are known holds of all that are read
     of-read : {cs2 : List ℕ} → (needed ≤ length (words out) → cs2 ≡ c .core .next) → (length (words out) < needed → cs2 ≡ cs)
-        → Answers gs ws g cs cs2 out out′ answer
-    of-read {cs2} good short s r u =
+        → {w : Lowered} → w ≡ answer → Answers gs ws g cs cs2 out out′ w
+    of-read {cs2} good short is = subst (Answers gs ws g cs cs2 out out′) (sym is) λ s r u.
         same-read (λ x y. LowersTo x (toCoreRule x y cs) cs cs2 out out′ answer) (core-asks a) s r (u .signed) (u .written)
         (subst (λ (x : Res CoreRule). LowersTo (a .sig) x cs cs2 out out′ answer) (sym (c .is))
         (record {
@@ -189,8 +190,9 @@ module _ {gs ws : List ℕ} {g : Signature} {cs : List ℕ} {room : ℕ} {a : Lo
       words-kept : count ≡ length (words out)
       words-kept = words-are ∙ length-words-kept _ _ kept
 
-      pub ends-short : count < needed → {cs2 : List ℕ} → cs2 ≡ undone (part m2 (30 * n) (k .log)) cs1 → Answers gs ws g cs cs2 out out′ answer
+      pub ends-short : count < needed → {cs2 : List ℕ} → cs2 ≡ undone (part m2 (30 * n) (k .log)) cs1
+          → {w : Lowered} → w ≡ answer → Answers gs ws g cs cs2 out out′ w
       ends-short h e = of-read (λ z. absurd (omega (arith, words-kept))) (λ _. e ∙ ap (λ (l : List ℕ). undone l cs1) (d .logged) ∙ c .made .undo)
 
-      pub ends-good : needed ≤ count → Answers gs ws g cs cs1 out out′ answer
+      pub ends-good : needed ≤ count → {w : Lowered} → w ≡ answer → Answers gs ws g cs cs1 out out′ w
       ends-good h = of-read (λ _. c .made .counters) (λ z. absurd (omega (arith, words-kept)))

@@ -14,6 +14,7 @@ use Rattle.rules.specs.Canonicalize.{bindings}
 use Rattle.rules.specs.RemoveDupVars.{settle}
 use Rattle.signature.specs.declared.Signature.{Signature}
 use Rattle.free_vars.specs.Head.{WroteIfRoom}
+use Rattle.answers.specs.declared.Answer.{Answer}
 use Rattle.lower_call.specs.declared.Lowered.{Lowered}
 
 -- the words are read as the signature s, which `sign` tells of, and as the rule r under it
@@ -52,3 +53,15 @@ pub record LoweredTo (s : Sig) (c : CoreRule) (cs cs′ l l′ : List ℕ) (r : 
 abbrev pub LowersTo : Sig → Res CoreRule → (cs cs′ l l′ : List ℕ) → Lowered → Type 0
 LowersTo s (ok c) cs cs′ l l′ r = LoweredTo s c cs cs′ l l′ r
 LowersTo s (refuse m p) cs cs′ l l′ r = TurnedBack m p cs cs′ l l′ r
+
+-- what lowering comes to where the rule is refused: the refusal's number and place, and no counts
+abbrev pub turnedBack : (refused place : ℕ) → Lowered
+turnedBack n p = record { refused = n; place = p; needed = 0; replacements = 0; passes = 0 }
+
+-- what it comes to where there is a result: the words that it needs, its replacements and passes
+abbrev pub acceptedWith : (needed replacements passes : ℕ) → Lowered
+acceptedWith n r p = record { refused = 0; place = 0; needed = n; replacements = r; passes = p }
+
+-- what the call answers where the result is written: 0 and the three counts
+abbrev pub answerOf : Lowered → Answer
+answerOf w = record { number = 0; place = 0; words = w .needed; replacements = w .replacements; passes = w .passes }

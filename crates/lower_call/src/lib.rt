@@ -17,7 +17,7 @@ ghost use Rattle.rules.specs.Written.{Rule};
 ghost use Rattle.rules.specs.ToCoreActions.{toCoreRule};
 ghost use Rattle.rules.specs.Calls.{wholeWords, lower};
 ghost use Rattle.answers.specs.Answers.{GivesBoth, scratchWritten, Beyond};
-ghost use Rattle.lower_call.specs.Lower.{WrittenUnder, LowerAsks, LowersTo};
+ghost use Rattle.lower_call.specs.Lower.{WrittenUnder, LowerAsks, LowersTo, turnedBack, acceptedWith, answerOf};
 
 // The bytes of scratch that are lent on for each word of the rule: 32 words.
 const LENT: usize = 128;
@@ -30,6 +30,45 @@ pub struct Lowered {
     pub needed: usize,
     pub replacements: usize,
     pub passes: usize,
+}
+
+// A refusal, which has a number and a place and no counts.
+fn turned_back(refused: u32, place: usize) -> Lowered
+    ensures { λ r. ⌜ r ≡ turnedBack refused place ⌝ }
+{
+    Lowered {
+        refused,
+        place,
+        needed: 0,
+        replacements: 0,
+        passes: 0,
+    }
+}
+
+// A result, which has its three counts.
+fn accepted(needed: usize, replacements: usize, passes: usize) -> Lowered
+    ensures { λ r. ⌜ r ≡ acceptedWith needed replacements passes ⌝ }
+{
+    Lowered {
+        refused: 0,
+        place: 0,
+        needed,
+        replacements,
+        passes,
+    }
+}
+
+// What the call answers where the result is written.
+fn answer(lowered: Lowered) -> Answer
+    ensures { λ r. ⌜ r ≡ answerOf lowered ⌝ }
+{
+    Answer {
+        number: 0,
+        place: 0,
+        words: lowered.needed as u64,
+        replacements: lowered.replacements as u64,
+        passes: lowered.passes as u64,
+    }
 }
 
 // Lowers a rule that was read, settles it and writes it. Where the output has no room the counters are taken back, since only an accepted call uses them.
@@ -49,13 +88,7 @@ fn lower_good(
     let n = octets::count(rule);
     let core = lowering::to_core_rule(signature, rule, counters, scratch);
     if core.refused != 0 {
-        return Lowered {
-            refused: core.refused,
-            place: core.place,
-            needed: 0,
-            replacements: 0,
-            passes: 0,
-        };
+        return turned_back(core.refused, core.place);
     }
     let terms = Sign {
         globals: sign.globals,
@@ -73,13 +106,7 @@ fn lower_good(
         lowering::HEAD_AT * n,
         core.head,
     );
-    let lowered = Lowered {
-        refused: 0,
-        place: 0,
-        needed,
-        replacements,
-        passes,
-    };
+    let lowered = accepted(needed, replacements, passes);
     if octets::count(output) < needed {
         walks::restore(counters, scratch, lowering::LOG_AT * n, core.log);
         return lowered;
@@ -135,11 +162,5 @@ pub fn lower_bytes(
     if octets::count(output) < lowered.needed {
         return refused(SHORT_OUTPUT, lowered.needed);
     }
-    Answer {
-        number: 0,
-        place: 0,
-        words: lowered.needed as u64,
-        replacements: lowered.replacements as u64,
-        passes: lowered.passes as u64,
-    }
+    answer(lowered)
 }

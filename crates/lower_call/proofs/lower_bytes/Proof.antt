@@ -209,6 +209,9 @@ returns-4 c =
     let g = else-good e in
     (lower-gives (else-given (good-front g)) (lower-short (at-good g) (e .if3 .left) (n .count4 .ensures) (c .before .if4 .taken) (c .refused4 .ensures)), at-beyond g)
 
+answer-requires : tie.Need-answer-requires
+answer-requires c κs = search needs
+
 same-length-13 : tie.Need-same-length-13
 same-length-13 c = search needs
 
@@ -220,10 +223,11 @@ same-length-15 c = search needs
 
 returns-5 : tie.Need-returns-5
 returns-5 c =
-    let n = c .before .before in
+    let n = c .before .before .before in
     let e = count-else n in
     let g = else-good e in
-    (lower-gives (else-given (good-front g)) (lower-written (at-good g) (e .if3 .left) (n .count4 .ensures) (c .if4 .left)), at-beyond g)
+    let a = lower-written (at-good g) (e .if3 .left) (n .count4 .ensures) (c .before .if4 .left) (c .answer .ensures) in
+    (lower-gives (else-given (good-front g)) a, at-beyond g)
 
 pub lower-bytes-spec : {M : Type 1} → statement M
 lower-bytes-spec =
@@ -261,6 +265,7 @@ lower-bytes-spec =
     same-length-11
     same-length-12
     returns-4
+    answer-requires
     same-length-13
     same-length-14
     same-length-15

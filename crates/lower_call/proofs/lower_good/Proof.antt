@@ -1,6 +1,7 @@
 -- The rule is lowered into the scratch, its body settled in front of its head and of the log, and all of it written; where there is no room the log, which
 -- is as it was, takes the counters back. Assumes nothing.
 use native.Mathlib.Omega.{arith}
+use mathlib.Core.Path.{_∙_}
 use denote.Ref.{now}
 use Rattle.octets.specs.Words.{words}
 use Rattle.octets.proofs.Words.{length-words-kept}
@@ -28,6 +29,9 @@ to-core-rule-requires c κs = core-asks (start (c .before .before) .pre)
 abbrev then-core : tie.Then1 → tie.After-to-core-rule
 then-core c = c .before .before .before .before .before .before
 
+turned-back-requires : tie.Need-turned-back-requires
+turned-back-requires c κs = search needs
+
 same-length : tie.Need-same-length
 same-length c = search needs
 
@@ -35,7 +39,10 @@ same-length-2 : tie.Need-same-length-2
 same-length-2 c = search needs
 
 returns : tie.Need-returns
-returns c = let k = then-core c in turned (k .to-core-rule .ensures) (now (core-start k .args .output)) (c .if1 .taken)
+returns c =
+    let t = c .before in
+    let k = then-core t in
+    turned (k .to-core-rule .ensures) (now (core-start k .args .output)) (t .if1 .taken) (c .turned-back .ensures)
 
 -- ---- its body is settled
 
@@ -68,8 +75,17 @@ finish-requires c κs = stands (at-settle (c .before .before .before .before))
 abbrev finish-settle : tie.After-finish → tie.After-settle
 finish-settle c = c .before .before .before .before .before
 
+abbrev accepted-finish : tie.After-accepted → tie.After-finish
+accepted-finish c = c .before .before .before
+
+abbrev count-accepted : tie.After-count2 → tie.After-accepted
+count-accepted c = c .before .before
+
 abbrev count-finish : tie.After-count2 → tie.After-finish
-count-finish c = c .before .before .before .before
+count-finish c = accepted-finish (count-accepted c)
+
+accepted-requires : tie.Need-accepted-requires
+accepted-requires c κs = search needs
 
 count-requires-2 : tie.Need-count-requires-2
 count-requires-2 c κs = search needs
@@ -86,7 +102,10 @@ restore-requires : tie.Need-restore-requires
 restore-requires c κs = at-settle (then-settle (c .before .before)) .log
 
 same-length-3 : tie.Need-same-length-3
-same-length-3 c = search needs
+same-length-3 c =
+    let r = c .before .before in
+    let s = then-settle (r .before .before .before) in
+    r .restore .kept .0 ∙ else-core (s .before .before) .to-core-rule .kept .1 .1 .0
 
 same-length-4 : tie.Need-same-length-4
 same-length-4 c = search needs
@@ -99,7 +118,7 @@ returns-2 c =
     let r = c .before .before in
     let t = r .before .before .before in
     let f = count-finish (t .before) .finish in
-    ends-short (at-settle (then-settle t)) (f .ensures) (t .before .count2 .ensures) (f .kept .0) (t .if2 .taken) (r .restore .ensures)
+    ends-short (at-settle (then-settle t)) (f .ensures) (t .before .count2 .ensures) (f .kept .0) (t .if2 .taken) (r .restore .ensures) (count-accepted (t .before) .accepted .ensures)
 
 -- ---- there is room
 
@@ -116,7 +135,7 @@ returns-3 : tie.Need-returns-3
 returns-3 c =
     let n = c .before in
     let f = count-finish n .finish in
-    ends-good (at-settle (finish-settle (count-finish n))) (f .ensures) (n .count2 .ensures) (f .kept .0) (c .if2 .left)
+    ends-good (at-settle (finish-settle (count-finish n))) (f .ensures) (n .count2 .ensures) (f .kept .0) (c .if2 .left) (count-accepted n .accepted .ensures)
 
 pub lower-good-spec : {M : Type 1} → statement M
 lower-good-spec =
@@ -124,12 +143,14 @@ lower-good-spec =
     (tie.spec
     count-requires
     to-core-rule-requires
+    turned-back-requires
     same-length
     same-length-2
     returns
     settle-requires
     mul-finish
     finish-requires
+    accepted-requires
     count-requires-2
     mul-restore
     restore-requires
