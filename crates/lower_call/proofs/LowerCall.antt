@@ -9,7 +9,7 @@ use borrow.Author.Tests.{leb-true}
 use Rattle.octets.specs.Words.{words, bytesOf}
 use Rattle.octets.proofs.Words.{bytes-words, words-injective, length-words, length-words-kept}
 use Rattle.rules.specs.Refusals.{Res, ok, refuse, _>>=_, shortOutput}
-use Rattle.rules.specs.Signature.{Sig, heads}
+use Rattle.rules.specs.Signature.{heads}
 use Rattle.rules.specs.Written.{Rule}
 use Rattle.rules.specs.ToCoreActions.{CoreRule, toCoreRule}
 use Rattle.rules.specs.RemoveDupVars.{settle}
@@ -20,7 +20,7 @@ use Rattle.answers.specs.declared.Answer.{Answer}
 use Rattle.lower_call.specs.declared.Lowered.{Lowered}
 use Rattle.answers.specs.Answers.{wholeThree, scratchWritten, refusedWith, GivesBoth}
 use Rattle.answers.specs.Fronts.{writtenFront}
-use Rattle.lower_call.specs.Lower.{WrittenUnder, LowerAsks, LoweredTo, LowersTo, answerOf}
+use Rattle.lower_call.specs.Lower.{WrittenUnder, LowerAsks, LoweredTo, LowersTo, LowersRead, answerOf}
 use Rattle.answers.proofs.Slices.{every-whole}
 use Rattle.answers.proofs.Tests.{written, front}
 use Rattle.answers.proofs.Lent.{Lent, lent-words}
@@ -104,8 +104,7 @@ pub record Worked (k : Given) {g : Signature} (y : Ready (lowering k) g) (w : Lo
 
 module _ (k : Given) {g : Signature} (y : Ready (lowering k) g) where
   pub worked : {w : Lowered} {m d : List ℕ}
-      → ((s : Sig) (r : Rule) → WrittenUnder (words (k .signature)) (words (k .rule)) g s r
-      → LowersTo s (toCoreRule s r (words (k .counters))) (words (k .counters)) (words d) (k .output) m w)
+      → LowersRead (words (k .signature)) (words (k .rule)) g (words (k .counters)) (words d) (k .output) m w
       → length m ≡ length (k .output) → length d ≡ length (k .counters) → Bytes (k .output) → Bytes m → Bytes (k .counters) → Bytes d → Worked k y w m d
   worked did em ed o m c d =
       record {

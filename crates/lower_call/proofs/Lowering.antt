@@ -36,7 +36,7 @@ use Rattle.settling.proofs.Settling.{settle-asks}
 use Rattle.signature.specs.declared.Signature.{Signature}
 use Rattle.lower_call.specs.declared.Lowered.{Lowered}
 use Rattle.emitting.specs.Emit.{Parts, Stand}
-use Rattle.lower_call.specs.Lower.{WrittenUnder, LowerAsks, LowersTo, turnedBack, acceptedWith}
+use Rattle.lower_call.specs.Lower.{LowerAsks, LowersTo, LowersRead, turnedBack, acceptedWith}
 use Rattle.emitting.proofs.Emitting.{termsOf, Finishes, settled-parts}
 
 module _ {gs ws : List ℕ} {g : Signature} {cs : List ℕ} {room : ℕ} (a : LowerAsks gs ws g cs room) where
@@ -60,10 +60,6 @@ module _ {gs ws : List ℕ} {g : Signature} {cs : List ℕ} {room : ℕ} (a : Lo
         equals = omega (arith, a .under .equals, z .value-eq-known, z .few-heads);
       }
 
--- what the contract says of an answer, and of counters and output after it
-abbrev pub Answers : (gs ws : List ℕ) → Signature → (cs cs′ out out′ : List ℕ) → Lowered → Type 0
-Answers gs ws g cs cs′ out out′ r = (s : Sig) (rl : Rule) → WrittenUnder gs ws g s rl → LowersTo s (toCoreRule s rl cs) cs cs′ out out′ r
-
 -- what `to_core_rule` ensures
 abbrev pub Cores : (gs ws cs m cs1 : List ℕ) → Lowering → Type 0
 Cores gs ws cs m cs1 k =
@@ -72,8 +68,8 @@ Cores gs ws cs m cs1 k =
 -- ---- lowering refuses: k
 
 pub turned : {gs ws : List ℕ} {g : Signature} {cs m cs1 : List ℕ} {k : Lowering} → Cores gs ws cs m cs1 k → (out : List ℕ) → (k .refused ≡ 0 → ⊥)
-    → {w : Lowered} → w ≡ turnedBack (k .refused) (k .place) → Answers gs ws g cs cs1 out out w
-turned {ws = ws} {cs = cs} {m = m} {cs1 = cs1} {k = k} core out bad {w} is s r u =
+    → {w : Lowered} → w ≡ turnedBack (k .refused) (k .place) → LowersRead gs ws g cs cs1 out out w
+turned {ws = ws} {cs = cs} {m = m} {cs1 = cs1} {k = k} core out bad is s r u =
     subst (LowersTo s (toCoreRule s r cs) cs cs1 out out) (sym is) (go (toCoreRule s r cs) (core s r (u .signed) (u .written)))
   where
     go : (x : Res CoreRule) → Lowers x (length ws) cs m cs1 k
@@ -173,8 +169,8 @@ module _ {gs ws : List ℕ} {g : Signature} {cs : List ℕ} {room : ℕ} {a : Lo
 
     -- what holds of the signature and the rule that are known holds of all that are read
     of-read : {cs2 : List ℕ} → (needed ≤ length (words out) → cs2 ≡ c .core .next) → (length (words out) < needed → cs2 ≡ cs)
-        → {w : Lowered} → w ≡ answer → Answers gs ws g cs cs2 out out′ w
-    of-read {cs2} good short is = subst (Answers gs ws g cs cs2 out out′) (sym is) λ s r u.
+        → {w : Lowered} → w ≡ answer → LowersRead gs ws g cs cs2 out out′ w
+    of-read {cs2} good short is = subst (LowersRead gs ws g cs cs2 out out′) (sym is) λ s r u.
         same-read (λ x y. LowersTo x (toCoreRule x y cs) cs cs2 out out′ answer) (core-asks a) s r (u .signed) (u .written)
         (subst (λ (x : Res CoreRule). LowersTo (a .sig) x cs cs2 out out′ answer) (sym (c .is))
         (record {
@@ -191,8 +187,8 @@ module _ {gs ws : List ℕ} {g : Signature} {cs : List ℕ} {room : ℕ} {a : Lo
       words-kept = words-are ∙ length-words-kept _ _ kept
 
       pub ends-short : count < needed → {cs2 : List ℕ} → cs2 ≡ undone (part m2 (30 * n) (k .log)) cs1
-          → {w : Lowered} → w ≡ answer → Answers gs ws g cs cs2 out out′ w
+          → {w : Lowered} → w ≡ answer → LowersRead gs ws g cs cs2 out out′ w
       ends-short h e = of-read (λ z. absurd (omega (arith, words-kept))) (λ _. e ∙ ap (λ (l : List ℕ). undone l cs1) (d .logged) ∙ c .made .undo)
 
-      pub ends-good : needed ≤ count → {w : Lowered} → w ≡ answer → Answers gs ws g cs cs1 out out′ w
+      pub ends-good : needed ≤ count → {w : Lowered} → w ≡ answer → LowersRead gs ws g cs cs1 out out′ w
       ends-good h = of-read (λ _. c .made .counters) (λ z. absurd (omega (arith, words-kept)))

@@ -9,7 +9,7 @@ use Rattle.rules.specs.Refusals.{Res, ok, refuse}
 use Rattle.rules.specs.Signature.{Sig, heads, readSignature}
 use Rattle.rules.specs.Written.{Rule, readWritten}
 use Rattle.rules.specs.Flat.{encode}
-use Rattle.rules.specs.ToCoreActions.{CoreRule}
+use Rattle.rules.specs.ToCoreActions.{CoreRule, toCoreRule}
 use Rattle.rules.specs.Canonicalize.{bindings}
 use Rattle.rules.specs.RemoveDupVars.{settle}
 use Rattle.signature.specs.declared.Signature.{Signature}
@@ -53,6 +53,10 @@ pub record LoweredTo (s : Sig) (c : CoreRule) (cs cs′ l l′ : List ℕ) (r : 
 abbrev pub LowersTo : Sig → Res CoreRule → (cs cs′ l l′ : List ℕ) → Lowered → Type 0
 LowersTo s (ok c) cs cs′ l l′ r = LoweredTo s c cs cs′ l l′ r
 LowersTo s (refuse m p) cs cs′ l l′ r = TurnedBack m p cs cs′ l l′ r
+
+-- so for whatever signature and rule the words are read as
+abbrev pub LowersRead : (gs ws : List ℕ) → Signature → (cs cs′ l l′ : List ℕ) → Lowered → Type 0
+LowersRead gs ws sign cs cs′ l l′ r = (s : Sig) (rl : Rule) → WrittenUnder gs ws sign s rl → LowersTo s (toCoreRule s rl cs) cs cs′ l l′ r
 
 -- what lowering comes to where the rule is refused: the refusal's number and place, and no counts
 abbrev pub turnedBack : (refused place : ℕ) → Lowered

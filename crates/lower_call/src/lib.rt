@@ -12,12 +12,9 @@ ghost use mathlib.Core.Path.{_≡_};
 ghost use mathlib.Core.List.{[], _∷_};
 ghost use lib.ListN.{length};
 ghost use Rattle.octets.specs.Words.{words};
-ghost use Rattle.rules.specs.Signature.{Sig};
-ghost use Rattle.rules.specs.Written.{Rule};
-ghost use Rattle.rules.specs.ToCoreActions.{toCoreRule};
 ghost use Rattle.rules.specs.Calls.{wholeWords, lower};
 ghost use Rattle.answers.specs.Answers.{GivesBoth, scratchWritten, Beyond};
-ghost use Rattle.lower_call.specs.Lower.{WrittenUnder, LowerAsks, LowersTo, turnedBack, acceptedWith, answerOf};
+ghost use Rattle.lower_call.specs.Lower.{LowerAsks, LowersRead, turnedBack, acceptedWith, answerOf};
 
 // The bytes of scratch that are lent on for each word of the rule: 32 words.
 const LENT: usize = 128;
@@ -81,9 +78,8 @@ fn lower_good(
     scratch: &mut [u8],
 ) -> Lowered
     requires { ⌜ LowerAsks (words (now signature)) (words (now rule)) sign (words (now counters)) (length (words (now scratch))) ⌝ }
-    ensures { λ r. ⌜ ((s : Sig) (rl : Rule) → WrittenUnder (words (now (signature .entry))) (words (now (rule .entry))) sign s rl
-        → LowersTo s (toCoreRule s rl (words (now (counters .entry)))) (words (now (counters .entry))) (words (now (counters .exit)))
-        (now (output .entry)) (now (output .exit)) r) ⌝ }
+    ensures { λ r. ⌜ LowersRead (words (now (signature .entry))) (words (now (rule .entry))) sign (words (now (counters .entry)))
+        (words (now (counters .exit))) (now (output .entry)) (now (output .exit)) r ⌝ }
 {
     let n = octets::count(rule);
     let core = lowering::to_core_rule(signature, rule, counters, scratch);
