@@ -36,7 +36,7 @@ use Rattle.settling.proofs.Settling.{settle-asks}
 use Rattle.signature.specs.declared.Signature.{Signature}
 use Rattle.lower_call.specs.declared.Lowered.{Lowered}
 use Rattle.emitting.specs.Emit.{Parts, Stand}
-use Rattle.lower_call.specs.Lower.{LowerAsks, LowersTo, LowersRead, turnedBack, acceptedWith}
+use Rattle.lower_call.specs.Lower.{LowerAsks, LowersTo, LowersRead, notLowered, acceptedWith}
 use Rattle.emitting.proofs.Emitting.{termsOf, Finishes, settled-parts}
 
 module _ {gs ws : List ℕ} {g : Signature} {cs : List ℕ} {room : ℕ} (a : LowerAsks gs ws g cs room) where
@@ -68,12 +68,12 @@ Cores gs ws cs m cs1 k =
 -- ---- lowering refuses: k
 
 pub turned : {gs ws : List ℕ} {g : Signature} {cs m cs1 : List ℕ} {k : Lowering} → Cores gs ws cs m cs1 k → (out : List ℕ) → (k .refused ≡ 0 → ⊥)
-    → {w : Lowered} → w ≡ turnedBack (k .refused) (k .place) → LowersRead gs ws g cs cs1 out out w
+    → {w : Lowered} → w ≡ notLowered (k .refused) (k .place) → LowersRead gs ws g cs cs1 out out w
 turned {ws = ws} {cs = cs} {m = m} {cs1 = cs1} {k = k} core out bad is s r u =
     subst (LowersTo s (toCoreRule s r cs) cs cs1 out out) (sym is) (go (toCoreRule s r cs) (core s r (u .signed) (u .written)))
   where
     go : (x : Res CoreRule) → Lowers x (length ws) cs m cs1 k
-        → LowersTo s x cs cs1 out out (turnedBack (k .refused) (k .place))
+        → LowersTo s x cs cs1 out out (notLowered (k .refused) (k .place))
     go (ok c) z = absurd (bad (z .fine))
     go (refuse i p) z = record { number′ = ap (λ (l : Lowering). l .refused) (z .is); place′ = ap (λ (l : Lowering). l .place) (z .is); some = z .some; counters = z .counters; output = refl }
 

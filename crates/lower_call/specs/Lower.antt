@@ -59,8 +59,8 @@ abbrev pub LowersRead : (gs ws : List ℕ) → Signature → (cs cs′ l l′ : 
 LowersRead gs ws sign cs cs′ l l′ r = (s : Sig) (rl : Rule) → WrittenUnder gs ws sign s rl → LowersTo s (toCoreRule s rl cs) cs cs′ l l′ r
 
 -- what lowering comes to where the rule is refused: the refusal's number and place, and no counts
-abbrev pub turnedBack : (refused place : ℕ) → Lowered
-turnedBack n p = record { refused = n; place = p; needed = 0; replacements = 0; passes = 0 }
+abbrev pub notLowered : (refused place : ℕ) → Lowered
+notLowered n p = record { refused = n; place = p; needed = 0; replacements = 0; passes = 0 }
 
 -- what it comes to where there is a result: the words that it needs, its replacements and passes
 abbrev pub acceptedWith : (needed replacements passes : ℕ) → Lowered

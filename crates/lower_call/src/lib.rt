@@ -14,7 +14,7 @@ ghost use lib.ListN.{length};
 ghost use Rattle.octets.specs.Words.{words};
 ghost use Rattle.rules.specs.Calls.{wholeWords, lower};
 ghost use Rattle.answers.specs.Answers.{GivesBoth, scratchWritten, Beyond};
-ghost use Rattle.lower_call.specs.Lower.{LowerAsks, LowersRead, turnedBack, acceptedWith, answerOf};
+ghost use Rattle.lower_call.specs.Lower.{LowerAsks, LowersRead, notLowered, acceptedWith, answerOf};
 
 // The bytes of scratch that are lent on for each word of the rule: 32 words.
 const LENT: usize = 128;
@@ -30,8 +30,8 @@ pub struct Lowered {
 }
 
 // A refusal, which has a number and a place and no counts.
-fn turned_back(refused: u32, place: usize) -> Lowered
-    ensures { λ r. ⌜ r ≡ turnedBack refused place ⌝ }
+fn not_lowered(refused: u32, place: usize) -> Lowered
+    ensures { λ r. ⌜ r ≡ notLowered refused place ⌝ }
 {
     Lowered {
         refused,
@@ -84,7 +84,7 @@ fn lower_good(
     let n = octets::count(rule);
     let core = lowering::to_core_rule(signature, rule, counters, scratch);
     if core.refused != 0 {
-        return turned_back(core.refused, core.place);
+        return not_lowered(core.refused, core.place);
     }
     let terms = Sign {
         globals: sign.globals,

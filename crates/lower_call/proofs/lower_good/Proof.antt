@@ -29,8 +29,8 @@ to-core-rule-requires c κs = core-asks (start (c .before .before) .pre)
 abbrev then-core : tie.Then1 → tie.After-to-core-rule
 then-core c = c .before .before .before .before .before .before
 
-turned-back-requires : tie.Need-turned-back-requires
-turned-back-requires c κs = search needs
+not-lowered-requires : tie.Need-not-lowered-requires
+not-lowered-requires c κs = search needs
 
 same-length : tie.Need-same-length
 same-length c = search needs
@@ -42,7 +42,7 @@ returns : tie.Need-returns
 returns c =
     let t = c .before in
     let k = then-core t in
-    turned (k .to-core-rule .ensures) (now (core-start k .args .output)) (t .if1 .taken) (c .turned-back .ensures)
+    turned (k .to-core-rule .ensures) (now (core-start k .args .output)) (t .if1 .taken) (c .not-lowered .ensures)
 
 -- ---- its body is settled
 
@@ -143,7 +143,7 @@ lower-good-spec =
     (tie.spec
     count-requires
     to-core-rule-requires
-    turned-back-requires
+    not-lowered-requires
     same-length
     same-length-2
     returns
