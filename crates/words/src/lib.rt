@@ -22,7 +22,7 @@ pub const LITERAL_BASE: u32 = 0x2000_0000;
 
 pub const HEAD_BASE: u32 = 0x1000_0000;
 
-pub const EQUALITY_BASE: u32 = 0x0800_0000;
+const EQUALITY_BASE: u32 = 0x0800_0000;
 
 pub const HEADER_BASE: u32 = 0x0400_0000;
 
@@ -99,7 +99,7 @@ fn low_word_of(w: u32) -> Word
 }
 
 // What a word says: the count of its leading zeros tells the kind, and so where the payload begins.
-pub fn word_of(w: u32) -> Word
+fn word_of(w: u32) -> Word
     ensures { λ r. ⌜ numbers r ≡ numbersOf w ⌝ }
 {
     let kind = u32::leading_zeros(w);
