@@ -82,12 +82,13 @@ module _ {l : List ℕ} {at n : ℕ} (c : AtomsAt (atomsIn l at n) l at n) where
             inside = omega (arith, t .inside, three);
           }
 
-  pub leads : {i : ℕ} → Leading l at n i → Leads l at n i
-  leads {i} w =
+  pub leads : {i : ℕ} → Leading l at n i → (i < n → getD l (at + i) 0 ≡ equalityWord → ⊥) → Leads l at n i
+  leads {i} w none =
       let a = atoms-is l at i (w .eqs) (w .passed) in
       let b = atoms-is l (at + i) (n - i) (w .todo) (w .others) in
       record {
         inside = w .inside;
+        last = none;
         eqs = atoms-read l at i (w .eqs) (w .passed);
         equalities = subst (λ (us : List Atom). All IsEqn us) (sym a) (w .equalities);
         others = atoms-read l (at + i) (n - i) (w .todo) (w .others);

@@ -126,9 +126,10 @@ pub record FrontAsks (l : List ℕ) (at e k to d table buckets : ℕ) : Type 0 w
   pub room : to + weight (atomsIn l at e ++ atomsIn l (at + e) k) + 3 * length (atomsIn l at e ++ atomsIn l (at + e) k) + 3 ≤ d
   pub top : d ≤ length l
 
--- the equalities in front of the atoms in n words at `at` have r words
+-- the equalities in front of the atoms in n words at `at` have r words, and behind them no further one follows
 pub record Leads (l : List ℕ) (at n r : ℕ) : Type 0 where
   pub inside : r ≤ n
+  pub last : r < n → getD l (at + r) 0 ≡ equalityWord → ⊥
   pub eqs : AtomsAt (atomsIn l at r) l at r
   pub equalities : All IsEqn (atomsIn l at r)
   pub others : AtomsAt (atomsIn l (at + r) (n - r)) l (at + r) (n - r)

@@ -8,7 +8,7 @@ use borrow.Author.Needs.{needs}
 use Rattle.octets.proofs.Words.{length-words}
 use Rattle.octets.specs.Words.{words}
 use Rattle.rules.specs.Words.{equalityWord}
-use Rattle.words.proofs.AtomLaws.{sign-word}
+use Rattle.words.proofs.AtomLaws.{head-other, sign-word}
 use Rattle.bodies.proofs.Standing.{First}
 use Rattle.canonicalize.proofs.Canonicalizing.{Leading, leading-here, leading-next, leading-start, leads}
 use Rattle.canonicalize.proofs.leading.Statement.{statement}
@@ -49,7 +49,10 @@ enum-told-2 c = search needs
 -- ---- it is no equality
 
 returns : tie.Need-returns Inv-loop μ-loop
-returns c = let t = c .before .before .before in leads (start t .pre) (t .before .loop .inv)
+returns c =
+    let g = c .before .before in
+    let t = g .before in
+    leads (start t .pre) (t .before .loop .inv) (λ h. head-other (at-atom t .begins .first) (g .good-atom-at .ensures) (c .enum-told2 .given .1))
 
 -- ---- it is an equality
 
@@ -82,7 +85,7 @@ loop-again c =
 -- ---- all are equalities
 
 returns-2 : tie.Need-returns-2 Inv-loop μ-loop
-returns-2 c = leads (c .before .before .before .pre) (c .before .loop .inv)
+returns-2 c = leads (c .before .before .before .pre) (c .before .loop .inv) (λ h e. omega (arith, c .loop-test .left))
 
 pub leading-spec : {M : Type 1} → statement M
 leading-spec =
