@@ -1,0 +1,12 @@
+use mathlib.Core.List.{map}
+use Prim.Native.Nat.{ℕ, ◌-◌}
+use Rattle.octets.specs.Regions.{part, swap}
+use Rattle.octets.specs.Words.{words}
+use Rattle.octets.proofs.Filling.{Filled}
+use Rattle.octets.proofs.regions.replace.Given as goal
+
+abbrev pub invariant-loop-i : goal.invariant-loop-i
+invariant-loop-i l = Filled (λ (k : ℕ). map (swap l.x l.y) (part (words l.initial.buf) l.from k)) l.initial.buf l.buf l.from l.n l.i
+
+abbrev pub decreases-loop-i : goal.decreases-loop-i
+decreases-loop-i l = l.n - l.i
