@@ -1,1 +1,3 @@
+#![tactic(auto)]
+
 // Document 01 as definitions: see specs/. There is no code here.
