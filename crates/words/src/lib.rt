@@ -1,4 +1,6 @@
 // What a word of a record says. Its kind is the count of its leading zero bits, and the bits after the first one bit are its payload.
+#![tactic(auto)]
+
 ghost use Rattle.std.specs.Prelude.{◌≡◌, ◌+◌, ◌^◌, ◌≤◌, ◌<◌, leb, get_or};
 ghost use Rattle.octets.specs.Words.{words};
 ghost use Rattle.rules.specs.Words.{limit12, equality_base, head_base, literal_base};
