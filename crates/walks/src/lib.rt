@@ -1,5 +1,7 @@
 // What the two walks of lowering share: fresh variables are taken from the counters in place, and each use is logged, so that a refusal can
 // put the counters back. Literals and names in front of a row go past the walk over each.
+#![tactic(auto)]
+
 ghost use Rattle.std.specs.Prelude.{◌≡◌, ℕ, ◌+◌, ◌<◌, ◌≤◌, length};
 ghost use Rattle.octets.specs.Words.{words};
 ghost use Rattle.octets.specs.Regions.{splice, part};
