@@ -3,33 +3,22 @@ use mathlib.Core.Path.{◌∙◌, ◌≡◌, ap, refl, subst, sym}
 use Prim.Native.Nat.{ℕ, ◌*◌, ◌/◌, ◌<◌}
 use native.Mathlib.Nat.{mul-lt-mul_of_pos_right}
 use native.Mathlib.Omega.{arith}
-use borrow.Author.Rules.{rules}
 use Rattle.bodies.specs.Buckets.{bucket_of, mix}
 use Rattle.bodies.proofs.BucketLaws.{bucket_in_lem, mix_word}
-use Rattle.bodies.proofs.buckets.bucket.Statement.{statement}
-use Rattle.bodies.proofs.buckets.bucket.Tie as tie
+use Rattle.bodies.proofs.buckets.bucket.Goals as goal
 
-mixed-requires : tie.Need-mixed-requires
-mixed-requires c κs = search rules
-
-mul-result : tie.Need-overflow-mul-result
-mul-result c =
-    let a = c.before.args in
+pub overflow_mul-result : goal.overflow_mul-result
+overflow_mul-result c =
+    let a = c.args in
     let e = ap (λ (k : ℕ). k * a.count) c.mixed.ensures in
-    record { fits = omega (arith, e, mul-lt-mul_of_pos_right (mix_word a.w 0) c.before.requires.0) }
+    record { fits = omega (arith, e, mul-lt-mul_of_pos_right (mix_word a.w 0) c.requires.0) }
 
 unfolded : (count w : ℕ) → bucket_of count w ≡ mix w 0 * count / 0x1_0000_0000
 unfolding bucket_of
 unfolded count w = refl
 
-cast-result : tie.Need-overflow-cast-result
-cast-result c = search rules
-
-returns : tie.Need-returns
+pub returns : goal.returns
 returns c =
-    let a = c.before.args in
+    let a = c.args in
     let e = unfolded a.count a.w ∙ ap (λ (k : ℕ). k * a.count / 0x1_0000_0000) (sym c.mixed.ensures) in
-    (sym e, subst (λ (x : ℕ). x < a.count) e (bucket_in_lem a.count a.w c.before.requires.0))
-
-pub bucket_spec : {M : Type 1} → statement M
-bucket_spec = tie.close (tie.spec mixed-requires cast-result mul-result returns)
+    (sym e, subst (λ (x : ℕ). x < a.count) e (bucket_in_lem a.count a.w c.requires.0))
