@@ -93,7 +93,8 @@ def main(argv):
     own = set(os.listdir(os.path.join(folder, "crates")))
     top = folder if documents else os.path.join(folder, "crates")
     for root, folders, files in os.walk(top):
-        folders[:] = sorted(f for f in folders if f not in ("out", "target", ".git", "node_modules"))
+        made = {"out", ".git"} | ({"target"} if "crates" not in root.split(os.sep) else set())
+        folders[:] = sorted(f for f in folders if f not in made)
         for name in sorted(files):
             path = os.path.join(root, name)
             if documents != name.endswith(".md"):
