@@ -1,4 +1,6 @@
 // Reads what written rules hold, facts and actions: whether their words fit, which is refusal 5, and how deep their expressions are, which is refusal 6.
+#![tactic(auto)]
+
 ghost use Rattle.std.specs.Prelude.{◌≡◌, ◌+◌, ◌<◌, length};
 ghost use Rattle.octets.specs.Words.{words};
 ghost use Rattle.rules.specs.Words.{max_depth, a_let, a_set, a_panic};
