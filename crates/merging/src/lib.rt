@@ -3,6 +3,8 @@
 //
 // The equalities of a group are written as its first output, the count of the others, and those: the first one stands once, since every
 // equality of the group has it on its left.
+#![tactic(auto)]
+
 ghost use Rattle.std.specs.Prelude.{◌≡◌, ◌+◌, ◌≤◌, length};
 ghost use Rattle.octets.specs.Words.{words};
 ghost use Rattle.octets.specs.Regions.{part, splice};
