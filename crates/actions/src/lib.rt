@@ -21,7 +21,7 @@ use words::{LET, MAX_DEPTH, PANIC, SET, UNION};
 const DEEP: u32 = MAX_DEPTH - 1;
 
 // The answer of an action: its walk, how many names it let, and how many flat actions it gave.
-#[derive(Drop)]
+#[derive(Clone, Copy)]
 pub struct Acted {
     pub walk: Walk,
     pub names: usize,

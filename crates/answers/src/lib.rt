@@ -11,7 +11,7 @@ pub const RAGGED: usize = 14;
 
 // What a call answers. Number 0 is acceptance, with place 0 and the three counts; a refusal has all counts 0.
 #[repr(C)]
-#[derive(Drop)]
+#[derive(Clone, Copy)]
 pub struct Answer {
     pub number: u64,
     pub place: u64,

@@ -3,7 +3,7 @@ ghost use Rattle.std.specs.Prelude.{◌≡◌};
 ghost use Rattle.rules.specs.Signature.{same_term};
 
 // What settling asks of a signature: G, names below which are globals, and the value-eq head.
-#[derive(Drop)]
+#[derive(Clone, Copy)]
 pub struct Sign {
     pub globals: u32,
     pub equals: u32,

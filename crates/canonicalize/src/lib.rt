@@ -22,7 +22,7 @@ use words::{
 };
 
 // Where a table of spans stands, and how many buckets it has.
-#[derive(Drop)]
+#[derive(Clone, Copy)]
 struct Table {
     at: usize,
     count: usize,
@@ -32,7 +32,7 @@ struct Table {
 pub const BINDING: usize = 3;
 
 // Whether an equality asks for a replacement, and of which term by which.
-#[derive(Drop)]
+#[derive(Clone, Copy)]
 pub struct Asked {
     pub yes: bool,
     pub old: u32,
@@ -191,7 +191,7 @@ fn resolve(s: &mut [u8], from: usize, n: usize, to: usize, q: Sign) -> usize
 }
 
 // What canonicalize leaves: how many words the atoms have, and where the bindings begin.
-#[derive(Drop)]
+#[derive(Clone, Copy)]
 pub struct Canonical {
     pub words: usize,
     pub binds: usize,

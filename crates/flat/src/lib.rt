@@ -69,7 +69,7 @@ fn target(rule: &[u8], heads: u32, at: usize) -> Ending
 }
 
 // What is taken where a term is expected: the term, or nothing where the word is none.
-#[derive(Drop)]
+#[derive(Clone, Copy)]
 enum Taken {
     Term(Term),
     Nothing,
@@ -152,7 +152,7 @@ fn terms(rule: &[u8], heads: u32, globals: u32, at: usize, count: u32) -> Ending
 // ---- atoms
 
 // How an atom begins: with its head and the count of its terms. No atom begins with another word.
-#[derive(Drop)]
+#[derive(Clone, Copy)]
 enum First {
     Atom(Atom),
     Other,

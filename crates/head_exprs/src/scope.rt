@@ -4,7 +4,7 @@ ghost use Rattle.octets.specs.Words.{words};
 ghost use Rattle.head_exprs.specs.Scopes.{first_scope, having, in_scope, may_read, is_taken, ScopeFits};
 
 // Names below `globals` are globals. The body's words are the first `body` of the scratch; the `names` words from `first` on are let.
-#[derive(Drop)]
+#[derive(Clone, Copy)]
 pub struct Scope {
     pub globals: u32,
     pub body: usize,

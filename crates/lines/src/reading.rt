@@ -19,14 +19,14 @@ const SIGNATURE_BASE: u32 = 0x0100_0000;
 const MAX_HEADS: u32 = 4096;
 
 // What stands in a line's place.
-#[derive(Drop)]
+#[derive(Clone, Copy)]
 pub enum Line {
     Word(u32),
     Malformed,
 }
 
 // What was read: the words written, or a refusal's number and place. `refused` is 0 where there is none.
-#[derive(Drop)]
+#[derive(Clone, Copy)]
 pub struct Lines {
     pub refused: u32,
     pub place: usize,

@@ -112,7 +112,7 @@ fn print_program(
 // ---- reading and writing
 
 // What was read: so many bytes, and whether the last read failed.
-#[derive(Drop)]
+#[derive(Clone, Copy)]
 struct Got {
     failed: bool,
     count: usize,

@@ -15,7 +15,7 @@ const LENT: usize = 128;
 
 // What lowering comes to. Where `refused` is 0: the words that the result needs, its replacements and passes. Else `refused` is the refusal's number and
 // `place` its place.
-#[derive(Drop)]
+#[derive(Clone, Copy)]
 pub struct Lowered {
     pub refused: u32,
     pub place: usize,

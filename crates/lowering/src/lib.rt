@@ -24,7 +24,7 @@ pub const LOG_AT: usize = 30;
 
 // The answer. Where `refused` is 0: the words of the body and of the head, how many actions these are, and how many uses are logged. Else
 // `refused` is the refusal's number and `place` its place, and the others are 0.
-#[derive(Drop)]
+#[derive(Clone, Copy)]
 pub struct Lowering {
     pub refused: u32,
     pub place: usize,

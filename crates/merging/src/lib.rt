@@ -55,7 +55,7 @@ fn group(s: &mut [u8], from: usize, n: usize, i: usize, links: usize, to: usize)
 }
 
 // What a pass has done: the words of its groups, the words of the atoms that it keeps, and how many atoms those are.
-#[derive(Drop)]
+#[derive(Clone, Copy)]
 pub struct Merged {
     pub eqs: usize,
     pub kept: usize,
@@ -64,7 +64,7 @@ pub struct Merged {
 
 // What a pass has done so far: the words of its groups, the words of the atoms that were moved to the front, how many atoms are kept, and where
 // the run of kept atoms starts that stands where it stood.
-#[derive(Drop)]
+#[derive(Clone, Copy)]
 struct Merging {
     eqs: usize,
     kept: usize,

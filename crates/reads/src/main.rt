@@ -24,14 +24,14 @@ const SPACED: usize = 9;
 const BAD_LENGTH: usize = 4;
 
 // What a line's words are read to: the bytes up to an end. A line that is not good holds something else.
-#[derive(Drop)]
+#[derive(Clone, Copy)]
 struct Words {
     good: bool,
     end: usize,
 }
 
 // What becomes of a record: with 0, it is good; else a refusal's number and place. H is for the lines that follow.
-#[derive(Drop)]
+#[derive(Clone, Copy)]
 struct Answer {
     refused: usize,
     place: usize,

@@ -9,7 +9,7 @@ use words::{Word, word_at};
 use written::{Ending, UNFIT};
 
 // What a row is of: facts and actions in a written rule, atoms and core actions in a flat one.
-#[derive(Drop)]
+#[derive(Clone, Copy)]
 pub enum Item {
     Fact,
     Action,

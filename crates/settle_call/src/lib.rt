@@ -16,7 +16,7 @@ use words::{HEADER_BASE, LIMIT_12};
 const LENT: usize = 64;
 
 // How settling ended: the words that the settled rule takes, and the two counts that are answered.
-#[derive(Drop)]
+#[derive(Clone, Copy)]
 pub struct Ended {
     pub needed: usize,
     pub replacements: usize,

@@ -16,7 +16,7 @@ use words::LET;
 
 // Where joining works, apart from the groups: the k words of atoms stand at `body`, what becomes of equalities is written at `to`, and a replacement is
 // bound before d.
-#[derive(Drop)]
+#[derive(Clone, Copy)]
 pub struct Area {
     pub body: usize,
     pub k: usize,
@@ -35,7 +35,7 @@ fn replace_met(s: &mut [u8], p: usize, n: usize, x: u32, y: u32)
 }
 
 // What is left of an equality that was canonicalized: what its left term became, how many words were written, and where the bindings begin.
-#[derive(Drop)]
+#[derive(Clone, Copy)]
 pub struct Joined {
     pub left: u32,
     pub words: usize,

@@ -25,7 +25,7 @@ use joining::Area;
 
 // A settled body: where its atoms stand, in how many words, and how many they are; where its bindings stand, BINDING words each, and how
 // many they are, one for each replacement; and the passes.
-#[derive(Drop)]
+#[derive(Clone, Copy)]
 pub struct Settled {
     pub at: usize,
     pub words: usize,

@@ -24,7 +24,7 @@ const PRIMITIVE: u32 = SIGNATURE_BASE + 2;
 const NO_KIND: u32 = SIGNATURE_BASE + 3;
 
 // H, G, the value-eq head and the union-to-set flag; or refusal 1 and its place.
-#[derive(Drop)]
+#[derive(Clone, Copy)]
 pub struct Signature {
     pub refused: usize,
     pub place: usize,
@@ -35,7 +35,7 @@ pub struct Signature {
 }
 
 // A payload of the signature's first words.
-#[derive(Drop)]
+#[derive(Clone, Copy)]
 enum Payload {
     Fits(u32),
     Unfit,

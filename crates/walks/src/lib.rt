@@ -20,7 +20,7 @@ pub const USED_UP: u32 = 9;
 
 // The answer of a walk. Where `refused` is 0: the places behind what was read, behind what was written and behind what was logged, and the
 // term. Else `refused` is the refusal's number, `next` its place and `log` the end of the log, by which the counters are put back; the others are 0.
-#[derive(Drop)]
+#[derive(Clone, Copy)]
 pub struct Walk {
     pub next: usize,
     pub to: usize,

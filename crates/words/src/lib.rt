@@ -48,7 +48,7 @@ pub const CALL: u32 = ACTION_BASE + 7;
 // An expression holds expressions up to 32 deep, itself counted.
 pub const MAX_DEPTH: u32 = 32;
 
-#[derive(Drop)]
+#[derive(Clone, Copy)]
 pub enum Word {
     // kind 0: a fresh variable, its head and its count
     Fresh(u32, u32),
@@ -151,7 +151,7 @@ pub fn is_leaf(w: u32) -> bool
 }
 
 // A word of kind 3, taken apart: its head, and how many words or expressions stand under it.
-#[derive(Drop)]
+#[derive(Clone, Copy)]
 pub struct HeadWord {
     pub head: u32,
     pub count: u32,
@@ -170,7 +170,7 @@ pub fn head_word(w: u32) -> HeadWord
 }
 
 // A term by what it is under a signature with G globals. Each case holds the term's word.
-#[derive(Drop)]
+#[derive(Clone, Copy)]
 pub enum Term {
     // a fresh variable, or a name from G up
     Var(u32),
@@ -213,7 +213,7 @@ pub fn good_term_of(w: u32, globals: u32) -> Term
 }
 
 // What an atom's table is: a head's, or the equality of its two terms.
-#[derive(Drop)]
+#[derive(Clone, Copy)]
 pub enum HeadOrEq {
     Head(u32),
     Eq,
@@ -221,7 +221,7 @@ pub enum HeadOrEq {
 
 // An atom where it stands: its head, how many terms it has, where they begin, and the place behind it, where the next one may begin. The count has the
 // output in it, which is the last term.
-#[derive(Drop)]
+#[derive(Clone, Copy)]
 pub struct Atom {
     pub head: HeadOrEq,
     pub count: u32,

@@ -21,14 +21,14 @@ const LITERAL_END: u32 = LITERAL_BASE + LIMIT_16;
 
 // Where a reading ends: with 0, at the index behind what was read; else a refusal's number and place. The number is as wide as the place, so that there is no gap
 // between them: a processor waits where a struct with a gap is copied soon after it was written.
-#[derive(Drop)]
+#[derive(Clone, Copy)]
 pub struct Ending {
     pub refused: usize,
     pub at: usize,
 }
 
 // How an expression begins: with a word that takes so many arguments. Any other word begins none.
-#[derive(Drop)]
+#[derive(Clone, Copy)]
 enum Start {
     Takes(u32),
     Other,
