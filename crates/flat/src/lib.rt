@@ -1,5 +1,7 @@
 // Reads what flat rules hold, atoms and actions: whether their words fit, which is refusal 5, and whether each atom has the terms it needs, which are
 // refusals 11 and 12.
+#![tactic(auto)]
+
 ghost use Rattle.std.specs.Prelude.{◌≡◌};
 ghost use Rattle.octets.specs.Words.{words};
 ghost use Rattle.rules.specs.Words.{is_name_word, is_literal_word, a_let, a_set, a_call};
