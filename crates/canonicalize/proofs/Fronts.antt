@@ -15,7 +15,6 @@ use Rattle.rules.specs.Signature.{Sig, is_var, same_term}
 use Rattle.meaning.proofs.CanonicalizeEnds.{asked_same, first_var, replace_all_enough}
 use Rattle.meaning.proofs.SameTerms.{same_replaced, word_same}
 use Rattle.meaning.proofs.Sweep.{asks}
-use Rattle.canonicalize.specs.declared.Canonical.{Canonical}
 use Rattle.canonicalize.proofs.Resolving.{resolve_cons}
 use Rattle.rules.specs.Canonicalize as canon
 

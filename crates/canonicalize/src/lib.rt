@@ -3,6 +3,8 @@
 //
 // One sweep over the equalities is enough, since none that was passed ever asks again. Those in front of all other atoms are done with as they
 // are met, so that their replacements run only over what lies behind them; and a table of spans tells where a term may stand.
+#![tactic(auto)]
+
 ghost use Rattle.std.specs.Prelude.{◌≡◌, ◌+◌, ◌≤◌, length};
 ghost use Rattle.octets.specs.Words.{words};
 ghost use Rattle.octets.specs.Regions.{splice};

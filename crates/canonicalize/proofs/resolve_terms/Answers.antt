@@ -1,0 +1,49 @@
+-- What becomes of an equality that asks for nothing is written as the definition has it: no words if its terms are one, else the four of value-eq.
+-- Assumes nothing.
+use mathlib.Core.Bool.{Bool}
+use mathlib.Core.Path.{◌∙◌, ◌≡◌, ap, sym}
+use native.Mathlib.Omega.{arith}
+use lib.ListN.{length}
+use Rattle.octets.proofs.Splice.{splice_nil}
+use Rattle.octets.specs.Regions.{splice}
+use Rattle.octets.specs.Words.{words}
+use Rattle.rules.specs.Signature.{same_term}
+use Rattle.bodies.specs.Terms.{sig}
+use Rattle.canonicalize.specs.Canonicalize.{resolve_terms}
+use Rattle.canonicalize.proofs.resolve_terms.Goals as goal
+
+-- ---- they are one
+
+pub returns-then-same_term : goal.returns-then-same_term
+returns-then-same_term c =
+    let at_same : (x : Bool) → c.same_term.result ≡ x → let a = c.args in resolve_terms x (sig a.q) a.a a.b ≡ resolve_terms (same_term a.a a.b) (sig a.q) a.a a.b =
+    λ x e. let a = c.args in ap (λ (y : Bool). resolve_terms y (sig a.q) a.a a.b) (sym e ∙ c.same_term.ensures) in
+    let a = c.args in
+    let f = at_same _ c.if-same_term.true in
+    (ap length f, sym (splice_nil (words a.s.now) a.to) ∙ ap (splice (words a.s.now) a.to) f)
+
+-- ---- they are two
+
+pub overflow_mul-q : goal.overflow_mul-q
+overflow_mul-q c = omega (arith, c.requires.good_sign.equals)
+
+pub overflow_add-q : goal.overflow_add-q
+overflow_add-q c = omega (arith, c.requires.good_sign.equals)
+
+pub overflow_add-q-2 : goal.overflow_add-q-2
+overflow_add-q-2 c = omega (arith, c.requires.good_sign.equals)
+
+pub put_four-requires : goal.put_four-requires
+put_four-requires c =
+    let at_same : (x : Bool) → c.same_term.result ≡ x → let a = c.args in resolve_terms x (sig a.q) a.a a.b ≡ resolve_terms (same_term a.a a.b) (sig a.q) a.a a.b =
+    λ x e. let a = c.args in ap (λ (y : Bool). resolve_terms y (sig a.q) a.a a.b) (sym e ∙ c.same_term.ensures) in
+    omega (arith, c.requires.b_in_bounds, ap length (at_same _ c.if-same_term.false))
+
+pub returns : goal.returns
+returns c =
+    let at_same : (x : Bool) → c.same_term.result ≡ x → let a = c.args in resolve_terms x (sig a.q) a.a a.b ≡ resolve_terms (same_term a.a a.b) (sig a.q) a.a a.b =
+    λ x e. let a = c.args in ap (λ (y : Bool). resolve_terms y (sig a.q) a.a a.b) (sym e ∙ c.same_term.ensures) in
+    let a = c.args in
+    let l = words a.s.now in
+    let f = at_same _ c.if-same_term.false in
+    (ap length f, c.put_four.ensures.1 ∙ ap (splice l a.to) f)

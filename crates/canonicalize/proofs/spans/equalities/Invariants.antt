@@ -1,0 +1,10 @@
+use Prim.Native.Nat.{◌-◌}
+use Rattle.octets.specs.Words.{words}
+use Rattle.canonicalize.proofs.Runs.{Counting}
+use Rattle.canonicalize.proofs.spans.equalities.Given as goal
+
+abbrev pub invariant-loop-i : goal.invariant-loop-i
+invariant-loop-i l = Counting (words l.s) l.at l.n l.i l.k
+
+abbrev pub decreases-loop-i : goal.decreases-loop-i
+decreases-loop-i l = l.n - l.i
