@@ -3,6 +3,8 @@
 //     written  (f (g x) 1)      flat  (call @g.0 (g x)) (call @f.0 (f @g.0 1)), and the term @f.0
 //
 // The walks work in one scratch: actions go to `to`, terms of arguments onto the stack at `sp`, uses of counters to `log`.
+#![tactic(auto)]
+
 pub mod scope; // scope.rt: which names are bound
 
 ghost use Rattle.std.specs.Prelude.{◌≡◌, length};
