@@ -5,7 +5,7 @@ usage: tools/respell_names.py [--docs] [FOLDER]
 
 tools/respelled_names.tsv has a row for each name: the old spelling, the new one, and `field` where it names a field of a record. The text of specs/ and
 proofs/, the clauses, imports and comments of src/, and the must-fail edits below FOLDER/crates are rewritten in place; with --docs the names that the documents
-put between backticks. Functions of src/, exported names, strings, and what follows a dot and is no field stay as they are. A name that a file has from
+put between backticks. Functions of src/, exported names, strings, and what follows a dot and is no field and no module's stay as they are. A name that a file has from
 elsewhere stays there too. It is run once; no two names become one.
 """
 
@@ -16,6 +16,8 @@ import sys
 HERE = os.path.dirname(os.path.abspath(__file__))
 NAME = r"[^\s(){}\[\].;,@\"«»`]+"
 TOKEN = re.compile(r"(?P<string>b?\"(?:[^\"\\\n]|\\.)*\")|(?P<dot>\.?)(?P<name>" + NAME + ")")
+MODULE = re.compile(NAME + r"$")
+AS = re.compile(r"(?m)^use \S+ as (\S+)$")
 USE = re.compile(r"\buse ([^\s;{]+)\.\{([^}]*)\}")
 
 
@@ -40,14 +42,16 @@ def foreign(text, own):
     return found
 
 
-def turned(text, stays, comment=False):
+def turned(text, stays, comment=False, modules=()):
     """A piece of code or of a comment. In a comment a word with a dash may be plain English, and stays unless it is between backticks."""
 
     def one(m):
         if m["string"]:
             return m[0]
         name = m["name"]
-        if name in stays or name not in NAMES or m["dot"] and name not in FIELDS:
+        before = MODULE.search(text[: m.start()]) if m["dot"] else None
+        of_module = before is not None and before[0] in modules
+        if name in stays or name not in NAMES or m["dot"] and name not in FIELDS and not of_module:
             return m[0]
         if comment and "-" in name and not (m.start() and text[m.start() - 1] == "`"):
             return m[0]
@@ -58,13 +62,14 @@ def turned(text, stays, comment=False):
 
 def file_text(text, mark, own):
     stays = foreign(text, own)
+    modules = set(AS.findall(text))
     out = []
     for line in text.split("\n"):
         at = line.find(mark) if mark else -1
         while at > 0 and line[at - 1] not in " \t":
             at = line.find(mark, at + 1)
         code, rest = (line, "") if at < 0 else (line[:at], line[at:])
-        out.append(turned(code, stays) + turned(rest, stays, comment=True))
+        out.append(turned(code, stays, modules=modules) + turned(rest, stays, comment=True))
     text = "\n".join(out)
     both = stays & {m["name"] for m in TOKEN.finditer(text) if m["name"] in NEW}
     return text, sorted(both)

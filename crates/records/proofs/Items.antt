@@ -23,10 +23,10 @@ use Rattle.flat.proofs.Ends as Flat-ends
 use Rattle.written.proofs.Expected.{whole_headed}
 
 pub went : (i : Item) (s : Sig) (ws : List ℕ) (p : ℕ) → Went ws p 1 (read_item i s ws p)
-went Fact s ws p = Written-ends.went-fact s ws p
-went Action s ws p = Written-ends.went-action s ws p
-went Atom s ws p = Flat-ends.went-atom s ws p
-went CoreAction s ws p = Flat-ends.went-action s ws p
+went Fact s ws p = Written-ends.went_fact s ws p
+went Action s ws p = Written-ends.went_action s ws p
+went Atom s ws p = Flat-ends.went_atom s ws p
+went CoreAction s ws p = Flat-ends.went_action s ws p
 
 pub items : (i : Item) (s : Sig) (ws : List ℕ) → Several ws (read_item i s ws) (read_row (read_item i s ws))
 items i s ws = row ws (read_item i s ws) (went i s ws)
