@@ -1,5 +1,7 @@
 // The actions of the head, one by one. The names let so far lie at the bottom of the stack, so that the stack of an action starts where they
 // end. Each call below an action has used one counter and given one flat action, so that the log also counts the actions.
+#![tactic(auto)]
+
 ghost use Rattle.std.specs.Prelude.{◌≡◌, List, ℕ, ◌+◌, ◌<◌, ◌≤◌, length, get_or};
 ghost use Rattle.std.proofs.Math.Option.{none};
 ghost use Rattle.octets.specs.Words.{words};
