@@ -1,4 +1,6 @@
 // Reading the records of 01: whether each is good, and else the refusal's number and place. What rules hold is read in crates of their own.
+#![tactic(auto)]
+
 pub mod rows; // rows.rt: rows of what rules hold, and rules of two of them
 
 ghost use Rattle.std.specs.Prelude.{◌≡◌, ◌&&◌, length, leb};

@@ -1,0 +1,14 @@
+-- A flat rule is a row of atoms and one of actions, and ends where they do, whatever is made of them. Assumes nothing.
+use mathlib.Core.Path.{◌∙◌}
+use Rattle.octets.specs.Words.{words}
+use Rattle.rules.specs.Flat.{read_atom, read_core_action}
+use Rattle.written.specs.Written.{with_heads}
+use Rattle.records.proofs.Items.{pair, flat_rule, whole_made}
+use Rattle.records.proofs.flat.Goals as goal
+
+pub returns : goal.returns
+returns c =
+    let a = c.args in
+    let s = with_heads a.heads in
+    let ws = words a.rule.now in
+    c.whole_rule.ensures ∙ whole_made ws (read_atom s ws) (read_core_action s ws) pair flat_rule
