@@ -1,7 +1,6 @@
 -- Settling in words is settling over atoms, and the room suffices: `Begun` is what holds of a body that has words, `Settling` when some passes are made.
 -- Assumes nothing.
 use mathlib.Core.List.{List, [], ◌++◌, ◌∷◌, map}
-use mathlib.Core.Option.{none, some}
 use mathlib.Core.Path.{◌∙◌, ◌≡◌, ap, ap₂, refl, subst, sym}
 use Prim.Native.Nat.{◌*◌, ◌+◌, ◌-◌, ◌/◌, ◌<◌, ◌^◌, ◌≤◌, suc, ℕ}
 use native.Mathlib.Omega.{arith}

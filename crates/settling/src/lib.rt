@@ -9,6 +9,8 @@
 //     at + 8n + 3                  the end of the bindings, BINDING words each, which are written downward
 //
 // That this suffices is a law of the definitions: settling never makes a body and its replacements heavier.
+#![tactic(auto)]
+
 ghost use Rattle.std.specs.Prelude.{◌≡◌, List};
 ghost use Rattle.octets.specs.Words.{words};
 ghost use Rattle.rules.specs.Signature.{Sig};
