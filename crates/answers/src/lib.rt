@@ -1,4 +1,6 @@
 // What the calls of the key service have in common: their answer, the refusal of slices that are not whole words, and the tests in front, in `fronts`.
+#![tactic(auto)]
+
 pub mod fronts;
 
 ghost use Rattle.std.specs.Prelude.{◌≡◌, ◌%◌, length, eqb};
