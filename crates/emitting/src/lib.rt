@@ -1,4 +1,6 @@
 // Writing a settled rule to the output: header, atoms, bindings, and the actions as they stood. It is written last, and only if there is room for all of it.
+#![tactic(auto)]
+
 ghost use Rattle.std.specs.Prelude.{◌≡◌, List, ◌++◌, length};
 ghost use Rattle.octets.specs.Words.{words};
 ghost use Rattle.octets.specs.Regions.{splice};
