@@ -1,4 +1,6 @@
 // The call of settling: a flat rule tested, its body settled in the scratch, and the settled rule written to the output.
+#![tactic(auto)]
+
 ghost use Rattle.std.specs.Prelude.{◌*◌, ◌≤◌, length};
 ghost use Rattle.octets.specs.Words.{words};
 ghost use Rattle.rules.specs.Signature.{Sig};

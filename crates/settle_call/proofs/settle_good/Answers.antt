@@ -1,0 +1,73 @@
+-- The atoms are copied to the front of the scratch, settled there, and written with the actions as they stood. Assumes nothing.
+use native.Mathlib.Omega.{arith}
+use Rattle.octets.specs.Words.{words}
+use Rattle.octets.proofs.Words.{length_words_kept}
+use Rattle.settle_call.proofs.SettleGood.{some_word, good_sign, Begun, begun, Found, found, copy_asks, Copied, copied, Done, is_done, stand, ended}
+use Rattle.settle_call.proofs.settle_good.Goals as goal
+
+pub get-counts-requires : goal.get-counts-requires
+get-counts-requires c = some_word c.requires.some_flat
+
+pub overflow_sub-counts : goal.overflow_sub-counts
+overflow_sub-counts c =
+    let at_get : (let a = c.args in Begun (words a.rule.now) a.sign (words a.scratch.now) c.get-counts.result) =
+    begun c.requires.some_flat c.requires.rule_in_bounds c.get-counts.ensures in
+    at_get.header
+
+pub overflow_sub-n : goal.overflow_sub-n
+overflow_sub-n c =
+    let at_get : (let a = c.args in Begun (words a.rule.now) a.sign (words a.scratch.now) c.get-counts.result) =
+    begun c.requires.some_flat c.requires.rule_in_bounds c.get-counts.ensures in
+    let at_atoms : Found (at_get) c.atoms-read.result.at =
+    found (at_get) c.atoms-read.ensures in
+    at_atoms.from
+
+pub copy-requires : goal.copy-requires
+copy-requires c =
+    let at_get : (let a = c.args in Begun (words a.rule.now) a.sign (words a.scratch.now) c.get-counts.result) =
+    begun c.requires.some_flat c.requires.rule_in_bounds c.get-counts.ensures in
+    let at_atoms : Found (at_get) c.atoms-read.result.at =
+    found (at_get) c.atoms-read.ensures in
+    copy_asks (at_atoms)
+
+pub settle-body-requires : goal.settle-body-requires
+settle-body-requires c =
+    let at_get : (let a = c.args in Begun (words a.rule.now) a.sign (words a.scratch.now) c.get-counts.result) =
+    begun c.requires.some_flat c.requires.rule_in_bounds c.get-counts.ensures in
+    let at_atoms : Found (at_get) c.atoms-read.result.at =
+    found (at_get) c.atoms-read.ensures in
+    let at_copy : Copied (at_atoms) (words c.copy.new.out) =
+    copied (at_atoms) (length_words_kept _ _ c.copy.auto.out) c.copy.ensures in
+    record { good_sign = good_sign at_get.some; settle_asks = at_copy.asks }
+
+pub overflow_sub-count : goal.overflow_sub-count
+overflow_sub-count c =
+    let at_get : (let a = c.args in Begun (words a.rule.now) a.sign (words a.scratch.now) c.get-counts.result) =
+    begun c.requires.some_flat c.requires.rule_in_bounds c.get-counts.ensures in
+    let at_atoms : Found (at_get) c.atoms-read.result.at =
+    found (at_get) c.atoms-read.ensures in
+    omega (arith, at_atoms.inside, c.count.ensures)
+
+pub finish-needed-requires : goal.finish-needed-requires
+finish-needed-requires c =
+    let at_get : (let a = c.args in Begun (words a.rule.now) a.sign (words a.scratch.now) c.get-counts.result) =
+    begun c.requires.some_flat c.requires.rule_in_bounds c.get-counts.ensures in
+    let at_atoms : Found (at_get) c.atoms-read.result.at =
+    found (at_get) c.atoms-read.ensures in
+    let at_copy : Copied (at_atoms) (words c.copy.new.out) =
+    copied (at_atoms) (length_words_kept _ _ c.copy.auto.out) c.copy.ensures in
+    let at_settle : Done (at_copy) c.settle-body.result (words c.settle-body.new.s) =
+    is_done (at_copy) c.settle-body.ensures in
+    stand at_settle c.count.ensures
+
+pub returns : goal.returns
+returns c =
+    let at_get : (let a = c.args in Begun (words a.rule.now) a.sign (words a.scratch.now) c.get-counts.result) =
+    begun c.requires.some_flat c.requires.rule_in_bounds c.get-counts.ensures in
+    let at_atoms : Found (at_get) c.atoms-read.result.at =
+    found (at_get) c.atoms-read.ensures in
+    let at_copy : Copied (at_atoms) (words c.copy.new.out) =
+    copied (at_atoms) (length_words_kept _ _ c.copy.auto.out) c.copy.ensures in
+    let at_settle : Done (at_copy) c.settle-body.result (words c.settle-body.new.s) =
+    is_done (at_copy) c.settle-body.ensures in
+    ended at_settle c.count.ensures c.finish-needed.ensures
