@@ -1,4 +1,6 @@
 // The call of free variables: a flat rule tested, and the free variables of its head written to the output.
+#![tactic(auto)]
+
 ghost use Rattle.rules.specs.Calls.{free_vars};
 ghost use Rattle.answers.specs.Answers.{Gives};
 
