@@ -1,5 +1,7 @@
 // Lowering a rule without settling it, the source's `to_core_rule`: the body is flattened, then the head lowered under the names that the body
 // binds. Fresh variables are taken from the counters in place; a refusal puts the counters back from the log of their uses.
+#![tactic(auto)]
+
 ghost use Rattle.std.specs.Prelude.{◌≡◌, ◌-◌, ◌≤◌, length};
 ghost use Rattle.octets.specs.Words.{words};
 ghost use Rattle.octets.specs.Regions.{part};
