@@ -1,4 +1,6 @@
 // The call of lowering: a written rule tested, lowered and settled, the source's `to_canonicalized_core_rule`, and written to the output.
+#![tactic(auto)]
+
 ghost use Rattle.std.specs.Prelude.{◌≡◌, [], ◌∷◌, length};
 ghost use Rattle.octets.specs.Words.{words};
 ghost use Rattle.rules.specs.Calls.{whole_words, lower};
