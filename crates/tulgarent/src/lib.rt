@@ -1,5 +1,7 @@
 // The calls of the key service, over byte slices: four bytes a word, the lowest first. Each runs its tests in the order of 01, "Turned back", and leaves
-// output and counters as they were on a refusal. Each is proved in a crate of its own, and only exported here.
+// output and counters as they were on a refusal. Each is proved in a crate of its own, and only named here; `tulgarent_c` exports them.
+#![tactic(auto)]
+
 ghost use Rattle.std.specs.Prelude.{length};
 ghost use Rattle.rules.specs.Calls.{lower, settled, free_vars};
 ghost use Rattle.answers.specs.Answers.{Gives, GivesBoth, scratch_written, scratch_flat, Beyond};
@@ -7,8 +9,7 @@ ghost use Rattle.answers.specs.Answers.{Gives, GivesBoth, scratch_written, scrat
 use answers::Answer;
 
 // A written rule, lowered and settled.
-#[unsafe(no_mangle)]
-pub extern "C" fn tulgarent_lower(
+pub fn tulgarent_lower(
     signature: &[u8],
     rule: &[u8],
     counters: &mut [u8],
@@ -24,8 +25,7 @@ pub extern "C" fn tulgarent_lower(
 }
 
 // A flat rule settled: variables that must be equal are one, and no two atoms of a head have the same inputs.
-#[unsafe(no_mangle)]
-pub extern "C" fn tulgarent_settle(
+pub fn tulgarent_settle(
     signature: &[u8],
     rule: &[u8],
     output: &mut [u8],
@@ -40,8 +40,7 @@ pub extern "C" fn tulgarent_settle(
 }
 
 // The free variables of a flat rule's head, in ascending word order.
-#[unsafe(no_mangle)]
-pub extern "C" fn tulgarent_free_vars(signature: &[u8], rule: &[u8], output: &mut [u8]) -> Answer
+pub fn tulgarent_free_vars(signature: &[u8], rule: &[u8], output: &mut [u8]) -> Answer
     ensures { Gives (free_vars signature.now rule.now output.old) result output.new }
 {
     free_vars_call::free_vars_bytes(signature, rule, output)
