@@ -68,7 +68,7 @@ def pairs(sources):
 
 def main(options):
     root = pathlib.Path(__file__).resolve().parent.parent
-    files = sorted(path for path in root.glob("crates/**/*") if path.suffix in (".antt", ".rt") and "target" not in path.parts)
+    files = sorted(path for path in root.glob("crates/**/*") if path.suffix in (".antt", ".rt") and "out" not in path.relative_to(root).parts)
     sources = [Source(path) for path in files]
     for source in sources:
         source.path = source.path.relative_to(root)

@@ -18,8 +18,7 @@ pub overflow_add-at : goal.overflow_add-at
 overflow_add-at c =
     let site : Site =
     let a = c.args in site_of (words a.rule.now) (words a.scratch.now) (words a.counters.now) a.at a.to a.sp a.log a.scope in
-    let at_start : (w : ℕ) → w ≡ get_or (words c.args.rule.now) (c.args.at + 1) 0 → Changing (site) c.args.code c.args.more w =
-    λ w is. let k = site in
+    let at_start : (w : ℕ) → w ≡ get_or (words c.args.rule.now) (c.args.at + 1) 0 → Changing site c.args.code c.args.more w = λ w is. let k = site in
     record {
       begun =
           begun_as
@@ -35,8 +34,7 @@ pub get-w-requires : goal.get-w-requires
 get-w-requires c =
     let site : Site =
     let a = c.args in site_of (words a.rule.now) (words a.scratch.now) (words a.counters.now) a.at a.to a.sp a.log a.scope in
-    let at_start : (w : ℕ) → w ≡ get_or (words c.args.rule.now) (c.args.at + 1) 0 → Changing (site) c.args.code c.args.more w =
-    λ w is. let k = site in
+    let at_start : (w : ℕ) → w ≡ get_or (words c.args.rule.now) (c.args.at + 1) 0 → Changing site c.args.code c.args.more w = λ w is. let k = site in
     record {
       begun =
           begun_as
@@ -52,8 +50,7 @@ pub head_word-requires : goal.head_word-requires
 head_word-requires c =
     let site : Site =
     let a = c.args in site_of (words a.rule.now) (words a.scratch.now) (words a.counters.now) a.at a.to a.sp a.log a.scope in
-    let at_start : (w : ℕ) → w ≡ get_or (words c.args.rule.now) (c.args.at + 1) 0 → Changing (site) c.args.code c.args.more w =
-    λ w is. let k = site in
+    let at_start : (w : ℕ) → w ≡ get_or (words c.args.rule.now) (c.args.at + 1) 0 → Changing site c.args.code c.args.more w = λ w is. let k = site in
     record {
       begun =
           begun_as
@@ -63,16 +60,14 @@ head_word-requires c =
       is = is;
       few = c.requires.room.2;
     } in
-    let at_get : Changing (site) c.args.code c.args.more c.get-w.result =
-    at_start _ c.get-w.ensures.is in
+    let at_get : Changing site c.args.code c.args.more c.get-w.result = at_start _ c.get-w.ensures.is in
     at_get.begun.tree.it.high
 
 pub overflow_add-n : goal.overflow_add-n
 overflow_add-n c =
     let site : Site =
     let a = c.args in site_of (words a.rule.now) (words a.scratch.now) (words a.counters.now) a.at a.to a.sp a.log a.scope in
-    let at_start : (w : ℕ) → w ≡ get_or (words c.args.rule.now) (c.args.at + 1) 0 → Changing (site) c.args.code c.args.more w =
-    λ w is. let k = site in
+    let at_start : (w : ℕ) → w ≡ get_or (words c.args.rule.now) (c.args.at + 1) 0 → Changing site c.args.code c.args.more w = λ w is. let k = site in
     record {
       begun =
           begun_as
@@ -82,8 +77,7 @@ overflow_add-n c =
       is = is;
       few = c.requires.room.2;
     } in
-    let at_get : Changing (site) c.args.code c.args.more c.get-w.result =
-    at_start _ c.get-w.ensures.is in
+    let at_get : Changing site c.args.code c.args.more c.get-w.result = at_start _ c.get-w.ensures.is in
     let counted : c.head_word.result.count + c.args.more ≡ count_of c.get-w.result + c.args.more =
     ap (λ (i : ℕ). i + c.args.more) (count_says c.head_word.ensures) in
     omega (arith, at_get.few, counted)
@@ -92,8 +86,7 @@ pub overflow_add-at-2 : goal.overflow_add-at-2
 overflow_add-at-2 c =
     let site : Site =
     let a = c.args in site_of (words a.rule.now) (words a.scratch.now) (words a.counters.now) a.at a.to a.sp a.log a.scope in
-    let at_start : (w : ℕ) → w ≡ get_or (words c.args.rule.now) (c.args.at + 1) 0 → Changing (site) c.args.code c.args.more w =
-    λ w is. let k = site in
+    let at_start : (w : ℕ) → w ≡ get_or (words c.args.rule.now) (c.args.at + 1) 0 → Changing site c.args.code c.args.more w = λ w is. let k = site in
     record {
       begun =
           begun_as
@@ -103,8 +96,7 @@ overflow_add-at-2 c =
       is = is;
       few = c.requires.room.2;
     } in
-    let at_get : Changing (site) c.args.code c.args.more c.get-w.result =
-    at_start _ c.get-w.ensures.is in
+    let at_get : Changing site c.args.code c.args.more c.get-w.result = at_start _ c.get-w.ensures.is in
     omega (arith, at_get.begun)
 
 pub lower_arguments-args-requires : goal.lower_arguments-args-requires
@@ -113,8 +105,7 @@ lower_arguments-args-requires c =
     ap (λ (i : ℕ). i + c.args.more) (count_says c.head_word.ensures) in
     let site : Site =
     let a = c.args in site_of (words a.rule.now) (words a.scratch.now) (words a.counters.now) a.at a.to a.sp a.log a.scope in
-    let at_start : (w : ℕ) → w ≡ get_or (words c.args.rule.now) (c.args.at + 1) 0 → Changing (site) c.args.code c.args.more w =
-    λ w is. let k = site in
+    let at_start : (w : ℕ) → w ≡ get_or (words c.args.rule.now) (c.args.at + 1) 0 → Changing site c.args.code c.args.more w = λ w is. let k = site in
     record {
       begun =
           begun_as
@@ -124,8 +115,7 @@ lower_arguments-args-requires c =
       is = is;
       few = c.requires.room.2;
     } in
-    let at_get : Changing (site) c.args.code c.args.more c.get-w.result =
-    at_start _ c.get-w.ensures.is in
+    let at_get : Changing site c.args.code c.args.more c.get-w.result = at_start _ c.get-w.ensures.is in
     let h = exprs_ask counted at_get.begun in
     record { under = h.0; room = h.1 }
 
@@ -133,8 +123,7 @@ pub returns-then-args-ne0 : goal.returns-then-args-ne0
 returns-then-args-ne0 c =
     let site : Site =
     let a = c.args in site_of (words a.rule.now) (words a.scratch.now) (words a.counters.now) a.at a.to a.sp a.log a.scope in
-    let at_start : (w : ℕ) → w ≡ get_or (words c.args.rule.now) (c.args.at + 1) 0 → Changing (site) c.args.code c.args.more w =
-    λ w is. let k = site in
+    let at_start : (w : ℕ) → w ≡ get_or (words c.args.rule.now) (c.args.at + 1) 0 → Changing site c.args.code c.args.more w = λ w is. let k = site in
     record {
       begun =
           begun_as
@@ -144,13 +133,12 @@ returns-then-args-ne0 c =
       is = is;
       few = c.requires.room.2;
     } in
-    let at_get : Changing (site) c.args.code c.args.more c.get-w.result =
-    at_start _ c.get-w.ensures.is in
+    let at_get : Changing site c.args.code c.args.more c.get-w.result = at_start _ c.get-w.ensures.is in
     let counted : c.head_word.result.count + c.args.more ≡ count_of c.get-w.result + c.args.more =
     ap (λ (i : ℕ). i + c.args.more) (count_says c.head_word.ensures) in
-    let at_args : (let a = c.lower_arguments-args in let w = c.get-w.result in Argued (site) 2 max_depth (count_of w + c.args.more) w (words a.new.scratch) (words a.new.counters) a.result) =
+    let at_args : (let a = c.lower_arguments-args in let w = c.get-w.result in Argued site 2 max_depth (count_of w + c.args.more) w (words a.new.scratch) (words a.new.counters) a.result) =
     let a = c.lower_arguments-args in
-    argued (counted) (at_get).begun (length_words_kept _ _ a.auto.scratch) (length_words_kept _ _ a.auto.counters) a.ensures in
+    argued counted at_get.begun (length_words_kept _ _ a.auto.scratch) (length_words_kept _ _ a.auto.counters) a.ensures in
     rw c.refused_action.ensures (change_refused at_get at_args c.if-args-ne0.true)
 
 pub overflow_add-at-3 : goal.overflow_add-at-3
@@ -159,8 +147,7 @@ overflow_add-at-3 c =
     let a = c.args in site_of (words a.rule.now) (words a.scratch.now) (words a.counters.now) a.at a.to a.sp a.log a.scope in
     let counted : c.head_word.result.count + c.args.more ≡ count_of c.get-w.result + c.args.more =
     ap (λ (i : ℕ). i + c.args.more) (count_says c.head_word.ensures) in
-    let at_start : (w : ℕ) → w ≡ get_or (words c.args.rule.now) (c.args.at + 1) 0 → Changing (site) c.args.code c.args.more w =
-    λ w is. let k = site in
+    let at_start : (w : ℕ) → w ≡ get_or (words c.args.rule.now) (c.args.at + 1) 0 → Changing site c.args.code c.args.more w = λ w is. let k = site in
     record {
       begun =
           begun_as
@@ -170,13 +157,11 @@ overflow_add-at-3 c =
       is = is;
       few = c.requires.room.2;
     } in
-    let at_get : Changing (site) c.args.code c.args.more c.get-w.result =
-    at_start _ c.get-w.ensures.is in
-    let at_args : (let a = c.lower_arguments-args in let w = c.get-w.result in Argued (site) 2 max_depth (count_of w + c.args.more) w (words a.new.scratch) (words a.new.counters) a.result) =
+    let at_get : Changing site c.args.code c.args.more c.get-w.result = at_start _ c.get-w.ensures.is in
+    let at_args : (let a = c.lower_arguments-args in let w = c.get-w.result in Argued site 2 max_depth (count_of w + c.args.more) w (words a.new.scratch) (words a.new.counters) a.result) =
     let a = c.lower_arguments-args in
-    argued (counted) (at_get).begun (length_words_kept _ _ a.auto.scratch) (length_words_kept _ _ a.auto.counters) a.ensures in
-    let at_else : Fine (at_args) =
-    is_fine (at_args) (omega arith) c.if-args-ne0.false in
+    argued counted at_get.begun (length_words_kept _ _ a.auto.scratch) (length_words_kept _ _ a.auto.counters) a.ensures in
+    let at_else : Fine at_args = is_fine at_args (omega arith) c.if-args-ne0.false in
     omega (arith, at_else.next)
 
 pub put_change-requires : goal.put_change-requires
@@ -185,8 +170,7 @@ put_change-requires c =
     ap (λ (i : ℕ). i + c.args.more) (count_says c.head_word.ensures) in
     let site : Site =
     let a = c.args in site_of (words a.rule.now) (words a.scratch.now) (words a.counters.now) a.at a.to a.sp a.log a.scope in
-    let at_start : (w : ℕ) → w ≡ get_or (words c.args.rule.now) (c.args.at + 1) 0 → Changing (site) c.args.code c.args.more w =
-    λ w is. let k = site in
+    let at_start : (w : ℕ) → w ≡ get_or (words c.args.rule.now) (c.args.at + 1) 0 → Changing site c.args.code c.args.more w = λ w is. let k = site in
     record {
       begun =
           begun_as
@@ -196,13 +180,11 @@ put_change-requires c =
       is = is;
       few = c.requires.room.2;
     } in
-    let at_get : Changing (site) c.args.code c.args.more c.get-w.result =
-    at_start _ c.get-w.ensures.is in
-    let at_args : (let a = c.lower_arguments-args in let w = c.get-w.result in Argued (site) 2 max_depth (count_of w + c.args.more) w (words a.new.scratch) (words a.new.counters) a.result) =
+    let at_get : Changing site c.args.code c.args.more c.get-w.result = at_start _ c.get-w.ensures.is in
+    let at_args : (let a = c.lower_arguments-args in let w = c.get-w.result in Argued site 2 max_depth (count_of w + c.args.more) w (words a.new.scratch) (words a.new.counters) a.result) =
     let a = c.lower_arguments-args in
-    argued (counted) (at_get).begun (length_words_kept _ _ a.auto.scratch) (length_words_kept _ _ a.auto.counters) a.ensures in
-    let at_else : Fine (at_args) =
-    is_fine (at_args) (omega arith) c.if-args-ne0.false in
+    argued counted at_get.begun (length_words_kept _ _ a.auto.scratch) (length_words_kept _ _ a.auto.counters) a.ensures in
+    let at_else : Fine at_args = is_fine at_args (omega arith) c.if-args-ne0.false in
     fits_as counted at_else.fits
 
 pub shape_of-counters : goal.shape_of-counters
@@ -217,8 +199,7 @@ pub returns : goal.returns
 returns c =
     let site : Site =
     let a = c.args in site_of (words a.rule.now) (words a.scratch.now) (words a.counters.now) a.at a.to a.sp a.log a.scope in
-    let at_start : (w : ℕ) → w ≡ get_or (words c.args.rule.now) (c.args.at + 1) 0 → Changing (site) c.args.code c.args.more w =
-    λ w is. let k = site in
+    let at_start : (w : ℕ) → w ≡ get_or (words c.args.rule.now) (c.args.at + 1) 0 → Changing site c.args.code c.args.more w = λ w is. let k = site in
     record {
       begun =
           begun_as
@@ -228,13 +209,11 @@ returns c =
       is = is;
       few = c.requires.room.2;
     } in
-    let at_get : Changing (site) c.args.code c.args.more c.get-w.result =
-    at_start _ c.get-w.ensures.is in
+    let at_get : Changing site c.args.code c.args.more c.get-w.result = at_start _ c.get-w.ensures.is in
     let counted : c.head_word.result.count + c.args.more ≡ count_of c.get-w.result + c.args.more =
     ap (λ (i : ℕ). i + c.args.more) (count_says c.head_word.ensures) in
-    let at_args : (let a = c.lower_arguments-args in let w = c.get-w.result in Argued (site) 2 max_depth (count_of w + c.args.more) w (words a.new.scratch) (words a.new.counters) a.result) =
+    let at_args : (let a = c.lower_arguments-args in let w = c.get-w.result in Argued site 2 max_depth (count_of w + c.args.more) w (words a.new.scratch) (words a.new.counters) a.result) =
     let a = c.lower_arguments-args in
-    argued (counted) (at_get).begun (length_words_kept _ _ a.auto.scratch) (length_words_kept _ _ a.auto.counters) a.ensures in
-    let at_else : Fine (at_args) =
-    is_fine (at_args) (omega arith) c.if-args-ne0.false in
+    argued counted at_get.begun (length_words_kept _ _ a.auto.scratch) (length_words_kept _ _ a.auto.counters) a.ensures in
+    let at_else : Fine at_args = is_fine at_args (omega arith) c.if-args-ne0.false in
     change_ends at_get at_args at_else counted c.put_change.ensures

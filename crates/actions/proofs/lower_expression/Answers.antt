@@ -13,7 +13,7 @@ pub overflow_add-next : goal.overflow_add-next
 overflow_add-next c =
     let site : Site =
     let a = c.args in site_of (words a.rule.now) (words a.scratch.now) (words a.counters.now) a.at a.to a.sp a.log a.scope in
-    let at_start : Begun (site) (λ sig. ExprAt sig (site).ws max_depth ((site).at + 1)) =
+    let at_start : Begun site (λ sig. ExprAt sig site.ws max_depth (site.at + 1)) =
     begun c.requires.under c.requires.room.0 c.requires.room.1 (omega (arith, length_words c.args.rule.now, c.well_formed))
     (omega (arith, length_words c.args.scratch.now, c.well_formed)) in
     omega (arith, at_start)
@@ -22,7 +22,7 @@ pub lower-e-requires : goal.lower-e-requires
 lower-e-requires c =
     let site : Site =
     let a = c.args in site_of (words a.rule.now) (words a.scratch.now) (words a.counters.now) a.at a.to a.sp a.log a.scope in
-    let at_start : Begun (site) (λ sig. ExprAt sig (site).ws max_depth ((site).at + 1)) =
+    let at_start : Begun site (λ sig. ExprAt sig site.ws max_depth (site.at + 1)) =
     begun c.requires.under c.requires.room.0 c.requires.room.1 (omega (arith, length_words c.args.rule.now, c.well_formed))
     (omega (arith, length_words c.args.scratch.now, c.well_formed)) in
     let h = asks at_start (c.args.at + 1) (omega arith) in
@@ -32,7 +32,7 @@ pub returns-then-e-ne0 : goal.returns-then-e-ne0
 returns-then-e-ne0 c =
     let site : Site =
     let a = c.args in site_of (words a.rule.now) (words a.scratch.now) (words a.counters.now) a.at a.to a.sp a.log a.scope in
-    let at_start : Begun (site) (λ sig. ExprAt sig (site).ws max_depth ((site).at + 1)) =
+    let at_start : Begun site (λ sig. ExprAt sig site.ws max_depth (site.at + 1)) =
     begun c.requires.under c.requires.room.0 c.requires.room.1 (omega (arith, length_words c.args.rule.now, c.well_formed))
     (omega (arith, length_words c.args.scratch.now, c.well_formed)) in
     let at_lower : (let e = c.lower-e in let k = site in LowAt k (k.at + 1) (words e.new.scratch) (words e.new.counters) e.result) =
@@ -44,19 +44,19 @@ pub overflow_sub-e : goal.overflow_sub-e
 overflow_sub-e c =
     let site : Site =
     let a = c.args in site_of (words a.rule.now) (words a.scratch.now) (words a.counters.now) a.at a.to a.sp a.log a.scope in
-    let at_start : Begun (site) (λ sig. ExprAt sig (site).ws max_depth ((site).at + 1)) =
+    let at_start : Begun site (λ sig. ExprAt sig site.ws max_depth (site.at + 1)) =
     begun c.requires.under c.requires.room.0 c.requires.room.1 (omega (arith, length_words c.args.rule.now, c.well_formed))
     (omega (arith, length_words c.args.scratch.now, c.well_formed)) in
     let at_lower : (let e = c.lower-e in let k = site in LowAt k (k.at + 1) (words e.new.scratch) (words e.new.counters) e.result) =
     let e = c.lower-e in
     record { walk = e.ensures; size = length_words_kept _ _ e.auto.scratch; counters = length_words_kept _ _ e.auto.counters } in
-    expression_logged at_start (at_lower)
+    expression_logged at_start at_lower
 
 pub returns : goal.returns
 returns c =
     let site : Site =
     let a = c.args in site_of (words a.rule.now) (words a.scratch.now) (words a.counters.now) a.at a.to a.sp a.log a.scope in
-    let at_start : Begun (site) (λ sig. ExprAt sig (site).ws max_depth ((site).at + 1)) =
+    let at_start : Begun site (λ sig. ExprAt sig site.ws max_depth (site.at + 1)) =
     begun c.requires.under c.requires.room.0 c.requires.room.1 (omega (arith, length_words c.args.rule.now, c.well_formed))
     (omega (arith, length_words c.args.scratch.now, c.well_formed)) in
     let at_lower : (let e = c.lower-e in let k = site in LowAt k (k.at + 1) (words e.new.scratch) (words e.new.counters) e.result) =

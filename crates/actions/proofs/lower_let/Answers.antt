@@ -16,7 +16,7 @@ pub overflow_add-at : goal.overflow_add-at
 overflow_add-at c =
     let site : Site =
     let a = c.args in site_of (words a.rule.now) (words a.scratch.now) (words a.counters.now) a.at a.to a.sp a.log a.scope in
-    let at_start : (v : ℕ) → v ≡ get_or (words c.args.rule.now) (c.args.at + 1) 0 → Letting (site) v =
+    let at_start : (v : ℕ) → v ≡ get_or (words c.args.rule.now) (c.args.at + 1) 0 → Letting site v =
     λ v is. record {
       begun =
           begun c.requires.under c.requires.room.0 c.requires.room.1 (omega (arith, length_words c.args.rule.now, c.well_formed))
@@ -30,7 +30,7 @@ pub get-name-requires : goal.get-name-requires
 get-name-requires c =
     let site : Site =
     let a = c.args in site_of (words a.rule.now) (words a.scratch.now) (words a.counters.now) a.at a.to a.sp a.log a.scope in
-    let at_start : (v : ℕ) → v ≡ get_or (words c.args.rule.now) (c.args.at + 1) 0 → Letting (site) v =
+    let at_start : (v : ℕ) → v ≡ get_or (words c.args.rule.now) (c.args.at + 1) 0 → Letting site v =
     λ v is. record {
       begun =
           begun c.requires.under c.requires.room.0 c.requires.room.1 (omega (arith, length_words c.args.rule.now, c.well_formed))
@@ -44,7 +44,7 @@ pub taken-requires : goal.taken-requires
 taken-requires c =
     let site : Site =
     let a = c.args in site_of (words a.rule.now) (words a.scratch.now) (words a.counters.now) a.at a.to a.sp a.log a.scope in
-    let at_start : (v : ℕ) → v ≡ get_or (words c.args.rule.now) (c.args.at + 1) 0 → Letting (site) v =
+    let at_start : (v : ℕ) → v ≡ get_or (words c.args.rule.now) (c.args.at + 1) 0 → Letting site v =
     λ v is. record {
       begun =
           begun c.requires.under c.requires.room.0 c.requires.room.1 (omega (arith, length_words c.args.rule.now, c.well_formed))
@@ -52,15 +52,14 @@ taken-requires c =
       is = is;
       end = c.requires.room.2;
     } in
-    let at_get : Letting (site) c.get-name.result =
-    at_start _ c.get-name.ensures.is in
-    name_asks (at_get)
+    let at_get : Letting site c.get-name.result = at_start _ c.get-name.ensures.is in
+    name_asks at_get
 
 pub returns-then-taken : goal.returns-then-taken
 returns-then-taken c =
     let site : Site =
     let a = c.args in site_of (words a.rule.now) (words a.scratch.now) (words a.counters.now) a.at a.to a.sp a.log a.scope in
-    let at_start : (v : ℕ) → v ≡ get_or (words c.args.rule.now) (c.args.at + 1) 0 → Letting (site) v =
+    let at_start : (v : ℕ) → v ≡ get_or (words c.args.rule.now) (c.args.at + 1) 0 → Letting site v =
     λ v is. record {
       begun =
           begun c.requires.under c.requires.room.0 c.requires.room.1 (omega (arith, length_words c.args.rule.now, c.well_formed))
@@ -68,15 +67,14 @@ returns-then-taken c =
       is = is;
       end = c.requires.room.2;
     } in
-    let at_get : Letting (site) c.get-name.result =
-    at_start _ c.get-name.ensures.is in
+    let at_get : Letting site c.get-name.result = at_start _ c.get-name.ensures.is in
     rw (c.refused_action.ensures, c.stopped.ensures) (let_twice at_get (taken_as c.get-name.result c.taken.ensures) c.if-taken.true)
 
 pub overflow_add-next : goal.overflow_add-next
 overflow_add-next c =
     let site : Site =
     let a = c.args in site_of (words a.rule.now) (words a.scratch.now) (words a.counters.now) a.at a.to a.sp a.log a.scope in
-    let at_start : (v : ℕ) → v ≡ get_or (words c.args.rule.now) (c.args.at + 1) 0 → Letting (site) v =
+    let at_start : (v : ℕ) → v ≡ get_or (words c.args.rule.now) (c.args.at + 1) 0 → Letting site v =
     λ v is. record {
       begun =
           begun c.requires.under c.requires.room.0 c.requires.room.1 (omega (arith, length_words c.args.rule.now, c.well_formed))
@@ -84,15 +82,14 @@ overflow_add-next c =
       is = is;
       end = c.requires.room.2;
     } in
-    let at_get : Letting (site) c.get-name.result =
-    at_start _ c.get-name.ensures.is in
+    let at_get : Letting site c.get-name.result = at_start _ c.get-name.ensures.is in
     omega (arith, at_get.begun)
 
 pub lower-e-requires : goal.lower-e-requires
 lower-e-requires c =
     let site : Site =
     let a = c.args in site_of (words a.rule.now) (words a.scratch.now) (words a.counters.now) a.at a.to a.sp a.log a.scope in
-    let at_start : (v : ℕ) → v ≡ get_or (words c.args.rule.now) (c.args.at + 1) 0 → Letting (site) v =
+    let at_start : (v : ℕ) → v ≡ get_or (words c.args.rule.now) (c.args.at + 1) 0 → Letting site v =
     λ v is. record {
       begun =
           begun c.requires.under c.requires.room.0 c.requires.room.1 (omega (arith, length_words c.args.rule.now, c.well_formed))
@@ -100,8 +97,7 @@ lower-e-requires c =
       is = is;
       end = c.requires.room.2;
     } in
-    let at_get : Letting (site) c.get-name.result =
-    at_start _ c.get-name.ensures.is in
+    let at_get : Letting site c.get-name.result = at_start _ c.get-name.ensures.is in
     let h = expr_asks at_get in
     record { under = h.0; room = h.1 }
 
@@ -109,7 +105,7 @@ pub returns-then-e-ne0 : goal.returns-then-e-ne0
 returns-then-e-ne0 c =
     let site : Site =
     let a = c.args in site_of (words a.rule.now) (words a.scratch.now) (words a.counters.now) a.at a.to a.sp a.log a.scope in
-    let at_start : (v : ℕ) → v ≡ get_or (words c.args.rule.now) (c.args.at + 1) 0 → Letting (site) v =
+    let at_start : (v : ℕ) → v ≡ get_or (words c.args.rule.now) (c.args.at + 1) 0 → Letting site v =
     λ v is. record {
       begun =
           begun c.requires.under c.requires.room.0 c.requires.room.1 (omega (arith, length_words c.args.rule.now, c.well_formed))
@@ -117,10 +113,8 @@ returns-then-e-ne0 c =
       is = is;
       end = c.requires.room.2;
     } in
-    let at_get : Letting (site) c.get-name.result =
-    at_start _ c.get-name.ensures.is in
-    let at_free : Free (site) c.get-name.result =
-    is_free (at_get) (taken_as c.get-name.result c.taken.ensures) c.if-taken.false in
+    let at_get : Letting site c.get-name.result = at_start _ c.get-name.ensures.is in
+    let at_free : Free site c.get-name.result = is_free at_get (taken_as c.get-name.result c.taken.ensures) c.if-taken.false in
     let at_lower : (let e = c.lower-e in let k = site in LowAt k (k.at + 2) (words e.new.scratch) (words e.new.counters) e.result) =
     let e = c.lower-e in
     record { walk = e.ensures; size = length_words_kept _ _ e.auto.scratch; counters = length_words_kept _ _ e.auto.counters } in
@@ -130,7 +124,7 @@ pub put_three-end-requires : goal.put_three-end-requires
 put_three-end-requires c =
     let site : Site =
     let a = c.args in site_of (words a.rule.now) (words a.scratch.now) (words a.counters.now) a.at a.to a.sp a.log a.scope in
-    let at_start : (v : ℕ) → v ≡ get_or (words c.args.rule.now) (c.args.at + 1) 0 → Letting (site) v =
+    let at_start : (v : ℕ) → v ≡ get_or (words c.args.rule.now) (c.args.at + 1) 0 → Letting site v =
     λ v is. record {
       begun =
           begun c.requires.under c.requires.room.0 c.requires.room.1 (omega (arith, length_words c.args.rule.now, c.well_formed))
@@ -138,22 +132,19 @@ put_three-end-requires c =
       is = is;
       end = c.requires.room.2;
     } in
-    let at_get : Letting (site) c.get-name.result =
-    at_start _ c.get-name.ensures.is in
-    let at_free : Free (site) c.get-name.result =
-    is_free (at_get) (taken_as c.get-name.result c.taken.ensures) c.if-taken.false in
+    let at_get : Letting site c.get-name.result = at_start _ c.get-name.ensures.is in
+    let at_free : Free site c.get-name.result = is_free at_get (taken_as c.get-name.result c.taken.ensures) c.if-taken.false in
     let at_lower : (let e = c.lower-e in let k = site in LowAt k (k.at + 2) (words e.new.scratch) (words e.new.counters) e.result) =
     let e = c.lower-e in
     record { walk = e.ensures; size = length_words_kept _ _ e.auto.scratch; counters = length_words_kept _ _ e.auto.counters } in
-    let at_else : (let e = c.lower-e in Fine (site) (words e.new.scratch) e.result) =
-    let_fine (at_free) (at_lower) c.if-e-ne0.false in
+    let at_else : (let e = c.lower-e in Fine site (words e.new.scratch) e.result) = let_fine at_free at_lower c.if-e-ne0.false in
     at_else.words
 
 pub put-requires : goal.put-requires
 put-requires c =
     let site : Site =
     let a = c.args in site_of (words a.rule.now) (words a.scratch.now) (words a.counters.now) a.at a.to a.sp a.log a.scope in
-    let at_start : (v : ℕ) → v ≡ get_or (words c.args.rule.now) (c.args.at + 1) 0 → Letting (site) v =
+    let at_start : (v : ℕ) → v ≡ get_or (words c.args.rule.now) (c.args.at + 1) 0 → Letting site v =
     λ v is. record {
       begun =
           begun c.requires.under c.requires.room.0 c.requires.room.1 (omega (arith, length_words c.args.rule.now, c.well_formed))
@@ -161,24 +152,20 @@ put-requires c =
       is = is;
       end = c.requires.room.2;
     } in
-    let at_get : Letting (site) c.get-name.result =
-    at_start _ c.get-name.ensures.is in
-    let at_free : Free (site) c.get-name.result =
-    is_free (at_get) (taken_as c.get-name.result c.taken.ensures) c.if-taken.false in
+    let at_get : Letting site c.get-name.result = at_start _ c.get-name.ensures.is in
+    let at_free : Free site c.get-name.result = is_free at_get (taken_as c.get-name.result c.taken.ensures) c.if-taken.false in
     let at_lower : (let e = c.lower-e in let k = site in LowAt k (k.at + 2) (words e.new.scratch) (words e.new.counters) e.result) =
     let e = c.lower-e in
     record { walk = e.ensures; size = length_words_kept _ _ e.auto.scratch; counters = length_words_kept _ _ e.auto.counters } in
-    let at_else : (let e = c.lower-e in Fine (site) (words e.new.scratch) e.result) =
-    let_fine (at_free) (at_lower) c.if-e-ne0.false in
-    let at_three : length (words c.put_three-end.new.buf) ≡ length (words c.lower-e.new.scratch) =
-    length_words_kept _ _ c.put_three-end.auto.buf in
+    let at_else : (let e = c.lower-e in Fine site (words e.new.scratch) e.result) = let_fine at_free at_lower c.if-e-ne0.false in
+    let at_three : length (words c.put_three-end.new.buf) ≡ length (words c.lower-e.new.scratch) = length_words_kept _ _ c.put_three-end.auto.buf in
     omega (arith, at_else.top, at_three)
 
 pub overflow_sub-e : goal.overflow_sub-e
 overflow_sub-e c =
     let site : Site =
     let a = c.args in site_of (words a.rule.now) (words a.scratch.now) (words a.counters.now) a.at a.to a.sp a.log a.scope in
-    let at_start : (v : ℕ) → v ≡ get_or (words c.args.rule.now) (c.args.at + 1) 0 → Letting (site) v =
+    let at_start : (v : ℕ) → v ≡ get_or (words c.args.rule.now) (c.args.at + 1) 0 → Letting site v =
     λ v is. record {
       begun =
           begun c.requires.under c.requires.room.0 c.requires.room.1 (omega (arith, length_words c.args.rule.now, c.well_formed))
@@ -186,22 +173,19 @@ overflow_sub-e c =
       is = is;
       end = c.requires.room.2;
     } in
-    let at_get : Letting (site) c.get-name.result =
-    at_start _ c.get-name.ensures.is in
-    let at_free : Free (site) c.get-name.result =
-    is_free (at_get) (taken_as c.get-name.result c.taken.ensures) c.if-taken.false in
+    let at_get : Letting site c.get-name.result = at_start _ c.get-name.ensures.is in
+    let at_free : Free site c.get-name.result = is_free at_get (taken_as c.get-name.result c.taken.ensures) c.if-taken.false in
     let at_lower : (let e = c.lower-e in let k = site in LowAt k (k.at + 2) (words e.new.scratch) (words e.new.counters) e.result) =
     let e = c.lower-e in
     record { walk = e.ensures; size = length_words_kept _ _ e.auto.scratch; counters = length_words_kept _ _ e.auto.counters } in
-    let at_else : (let e = c.lower-e in Fine (site) (words e.new.scratch) e.result) =
-    let_fine (at_free) (at_lower) c.if-e-ne0.false in
+    let at_else : (let e = c.lower-e in Fine site (words e.new.scratch) e.result) = let_fine at_free at_lower c.if-e-ne0.false in
     at_else.logged
 
 pub overflow_add-e : goal.overflow_add-e
 overflow_add-e c =
     let site : Site =
     let a = c.args in site_of (words a.rule.now) (words a.scratch.now) (words a.counters.now) a.at a.to a.sp a.log a.scope in
-    let at_start : (v : ℕ) → v ≡ get_or (words c.args.rule.now) (c.args.at + 1) 0 → Letting (site) v =
+    let at_start : (v : ℕ) → v ≡ get_or (words c.args.rule.now) (c.args.at + 1) 0 → Letting site v =
     λ v is. record {
       begun =
           begun c.requires.under c.requires.room.0 c.requires.room.1 (omega (arith, length_words c.args.rule.now, c.well_formed))
@@ -209,15 +193,12 @@ overflow_add-e c =
       is = is;
       end = c.requires.room.2;
     } in
-    let at_get : Letting (site) c.get-name.result =
-    at_start _ c.get-name.ensures.is in
-    let at_free : Free (site) c.get-name.result =
-    is_free (at_get) (taken_as c.get-name.result c.taken.ensures) c.if-taken.false in
+    let at_get : Letting site c.get-name.result = at_start _ c.get-name.ensures.is in
+    let at_free : Free site c.get-name.result = is_free at_get (taken_as c.get-name.result c.taken.ensures) c.if-taken.false in
     let at_lower : (let e = c.lower-e in let k = site in LowAt k (k.at + 2) (words e.new.scratch) (words e.new.counters) e.result) =
     let e = c.lower-e in
     record { walk = e.ensures; size = length_words_kept _ _ e.auto.scratch; counters = length_words_kept _ _ e.auto.counters } in
-    let at_else : (let e = c.lower-e in Fine (site) (words e.new.scratch) e.result) =
-    let_fine (at_free) (at_lower) c.if-e-ne0.false in
+    let at_else : (let e = c.lower-e in Fine site (words e.new.scratch) e.result) = let_fine at_free at_lower c.if-e-ne0.false in
     omega (arith, at_else)
 
 pub shape_of-counters : goal.shape_of-counters
@@ -231,7 +212,7 @@ pub returns : goal.returns
 returns c =
     let site : Site =
     let a = c.args in site_of (words a.rule.now) (words a.scratch.now) (words a.counters.now) a.at a.to a.sp a.log a.scope in
-    let at_start : (v : ℕ) → v ≡ get_or (words c.args.rule.now) (c.args.at + 1) 0 → Letting (site) v =
+    let at_start : (v : ℕ) → v ≡ get_or (words c.args.rule.now) (c.args.at + 1) 0 → Letting site v =
     λ v is. record {
       begun =
           begun c.requires.under c.requires.room.0 c.requires.room.1 (omega (arith, length_words c.args.rule.now, c.well_formed))
@@ -239,10 +220,8 @@ returns c =
       is = is;
       end = c.requires.room.2;
     } in
-    let at_get : Letting (site) c.get-name.result =
-    at_start _ c.get-name.ensures.is in
-    let at_free : Free (site) c.get-name.result =
-    is_free (at_get) (taken_as c.get-name.result c.taken.ensures) c.if-taken.false in
+    let at_get : Letting site c.get-name.result = at_start _ c.get-name.ensures.is in
+    let at_free : Free site c.get-name.result = is_free at_get (taken_as c.get-name.result c.taken.ensures) c.if-taken.false in
     let at_lower : (let e = c.lower-e in let k = site in LowAt k (k.at + 2) (words e.new.scratch) (words e.new.counters) e.result) =
     let e = c.lower-e in
     record { walk = e.ensures; size = length_words_kept _ _ e.auto.scratch; counters = length_words_kept _ _ e.auto.counters } in

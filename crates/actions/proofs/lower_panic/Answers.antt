@@ -13,7 +13,7 @@ pub overflow_add-at : goal.overflow_add-at
 overflow_add-at c =
     let site : Site =
     let a = c.args in site_of (words a.rule.now) (words a.scratch.now) (words a.counters.now) a.at a.to a.sp a.log a.scope in
-    let at_start : (l : ℕ) → l ≡ get_or (words c.args.rule.now) (c.args.at + 1) 0 → Panics (site) l =
+    let at_start : (l : ℕ) → l ≡ get_or (words c.args.rule.now) (c.args.at + 1) 0 → Panics site l =
     λ l is. record {
       is = is;
       inside = c.requires.at_in_bounds;
@@ -30,7 +30,7 @@ pub put_two-end-requires : goal.put_two-end-requires
 put_two-end-requires c =
     let site : Site =
     let a = c.args in site_of (words a.rule.now) (words a.scratch.now) (words a.counters.now) a.at a.to a.sp a.log a.scope in
-    let at_start : (l : ℕ) → l ≡ get_or (words c.args.rule.now) (c.args.at + 1) 0 → Panics (site) l =
+    let at_start : (l : ℕ) → l ≡ get_or (words c.args.rule.now) (c.args.at + 1) 0 → Panics site l =
     λ l is. record {
       is = is;
       inside = c.requires.at_in_bounds;
@@ -38,15 +38,14 @@ put_two-end-requires c =
       scope_room = c.requires.room.1;
       rule_fits = omega (arith, length_words c.args.rule.now, c.well_formed);
     } in
-    let at_get : Panics (site) c.get-l.result =
-    at_start _ c.get-l.ensures.is in
+    let at_get : Panics site c.get-l.result = at_start _ c.get-l.ensures.is in
     omega (arith, at_get)
 
 pub overflow_add-at-2 : goal.overflow_add-at-2
 overflow_add-at-2 c =
     let site : Site =
     let a = c.args in site_of (words a.rule.now) (words a.scratch.now) (words a.counters.now) a.at a.to a.sp a.log a.scope in
-    let at_start : (l : ℕ) → l ≡ get_or (words c.args.rule.now) (c.args.at + 1) 0 → Panics (site) l =
+    let at_start : (l : ℕ) → l ≡ get_or (words c.args.rule.now) (c.args.at + 1) 0 → Panics site l =
     λ l is. record {
       is = is;
       inside = c.requires.at_in_bounds;
@@ -54,15 +53,14 @@ overflow_add-at-2 c =
       scope_room = c.requires.room.1;
       rule_fits = omega (arith, length_words c.args.rule.now, c.well_formed);
     } in
-    let at_get : Panics (site) c.get-l.result =
-    at_start _ c.get-l.ensures.is in
+    let at_get : Panics site c.get-l.result = at_start _ c.get-l.ensures.is in
     omega (arith, at_get)
 
 pub returns : goal.returns
 returns c =
     let site : Site =
     let a = c.args in site_of (words a.rule.now) (words a.scratch.now) (words a.counters.now) a.at a.to a.sp a.log a.scope in
-    let at_start : (l : ℕ) → l ≡ get_or (words c.args.rule.now) (c.args.at + 1) 0 → Panics (site) l =
+    let at_start : (l : ℕ) → l ≡ get_or (words c.args.rule.now) (c.args.at + 1) 0 → Panics site l =
     λ l is. record {
       is = is;
       inside = c.requires.at_in_bounds;
@@ -70,6 +68,5 @@ returns c =
       scope_room = c.requires.room.1;
       rule_fits = omega (arith, length_words c.args.rule.now, c.well_formed);
     } in
-    let at_get : Panics (site) c.get-l.result =
-    at_start _ c.get-l.ensures.is in
+    let at_get : Panics site c.get-l.result = at_start _ c.get-l.ensures.is in
     rw c.done_action.ensures (panic_done at_get c.put_two-end.ensures)

@@ -35,8 +35,7 @@ put_terms-end-requires c =
 
 pub overflow_add-terms : goal.overflow_add-terms
 overflow_add-terms c =
-    let log_fits_lem : c.args.terms.log + 1 < 2 ^ 64 =
-    omega (arith, c.requires.0.log, length_words c.args.scratch.now, c.well_formed) in
+    let log_fits_lem : c.args.terms.log + 1 < 2 ^ 64 = omega (arith, c.requires.0.log, length_words c.args.scratch.now, c.well_formed) in
     omega (arith, log_fits_lem)
 
 pub overflow_sub-terms : goal.overflow_sub-terms
@@ -44,8 +43,7 @@ overflow_sub-terms c = c.requires.1
 
 pub overflow_add-terms-2 : goal.overflow_add-terms-2
 overflow_add-terms-2 c =
-    let log_fits_lem : c.args.terms.log + 1 < 2 ^ 64 =
-    omega (arith, c.requires.0.log, length_words c.args.scratch.now, c.well_formed) in
+    let log_fits_lem : c.args.terms.log + 1 < 2 ^ 64 = omega (arith, c.requires.0.log, length_words c.args.scratch.now, c.well_formed) in
     omega (arith, log_fits_lem)
 
 pub shape_of-scratch : goal.shape_of-scratch

@@ -19,7 +19,7 @@ pub overflow_add-at : goal.overflow_add-at
 overflow_add-at c =
     let site : Site =
     let a = c.args in site_of (words a.rule.now) (words a.scratch.now) (words a.counters.now) a.at a.to a.sp a.log a.scope in
-    let at_start : (v w : ℕ) → v ≡ get_or (words c.args.rule.now) (c.args.at + 1) 0 → w ≡ get_or (words c.args.rule.now) (c.args.at + 2) 0 → Naming (site) v w =
+    let at_start : (v w : ℕ) → v ≡ get_or (words c.args.rule.now) (c.args.at + 1) 0 → w ≡ get_or (words c.args.rule.now) (c.args.at + 2) 0 → Naming site v w =
     λ v w isv isw. let k = site in
     record {
       begun =
@@ -36,7 +36,7 @@ pub get-name-requires : goal.get-name-requires
 get-name-requires c =
     let site : Site =
     let a = c.args in site_of (words a.rule.now) (words a.scratch.now) (words a.counters.now) a.at a.to a.sp a.log a.scope in
-    let at_start : (v w : ℕ) → v ≡ get_or (words c.args.rule.now) (c.args.at + 1) 0 → w ≡ get_or (words c.args.rule.now) (c.args.at + 2) 0 → Naming (site) v w =
+    let at_start : (v w : ℕ) → v ≡ get_or (words c.args.rule.now) (c.args.at + 1) 0 → w ≡ get_or (words c.args.rule.now) (c.args.at + 2) 0 → Naming site v w =
     λ v w isv isw. let k = site in
     record {
       begun =
@@ -53,7 +53,7 @@ pub overflow_add-at-2 : goal.overflow_add-at-2
 overflow_add-at-2 c =
     let site : Site =
     let a = c.args in site_of (words a.rule.now) (words a.scratch.now) (words a.counters.now) a.at a.to a.sp a.log a.scope in
-    let at_start : (v w : ℕ) → v ≡ get_or (words c.args.rule.now) (c.args.at + 1) 0 → w ≡ get_or (words c.args.rule.now) (c.args.at + 2) 0 → Naming (site) v w =
+    let at_start : (v w : ℕ) → v ≡ get_or (words c.args.rule.now) (c.args.at + 1) 0 → w ≡ get_or (words c.args.rule.now) (c.args.at + 2) 0 → Naming site v w =
     λ v w isv isw. let k = site in
     record {
       begun =
@@ -70,7 +70,7 @@ pub get-w-requires : goal.get-w-requires
 get-w-requires c =
     let site : Site =
     let a = c.args in site_of (words a.rule.now) (words a.scratch.now) (words a.counters.now) a.at a.to a.sp a.log a.scope in
-    let at_start : (v w : ℕ) → v ≡ get_or (words c.args.rule.now) (c.args.at + 1) 0 → w ≡ get_or (words c.args.rule.now) (c.args.at + 2) 0 → Naming (site) v w =
+    let at_start : (v w : ℕ) → v ≡ get_or (words c.args.rule.now) (c.args.at + 1) 0 → w ≡ get_or (words c.args.rule.now) (c.args.at + 2) 0 → Naming site v w =
     λ v w isv isw. let k = site in
     record {
       begun =
@@ -87,7 +87,7 @@ pub head_word-n-requires : goal.head_word-n-requires
 head_word-n-requires c =
     let site : Site =
     let a = c.args in site_of (words a.rule.now) (words a.scratch.now) (words a.counters.now) a.at a.to a.sp a.log a.scope in
-    let at_start : (v w : ℕ) → v ≡ get_or (words c.args.rule.now) (c.args.at + 1) 0 → w ≡ get_or (words c.args.rule.now) (c.args.at + 2) 0 → Naming (site) v w =
+    let at_start : (v w : ℕ) → v ≡ get_or (words c.args.rule.now) (c.args.at + 1) 0 → w ≡ get_or (words c.args.rule.now) (c.args.at + 2) 0 → Naming site v w =
     λ v w isv isw. let k = site in
     record {
       begun =
@@ -98,15 +98,14 @@ head_word-n-requires c =
       isv = isv;
       isw = isw;
     } in
-    let at_get : Naming (site) c.get-name.result c.get-w.result =
-    at_start _ _ c.get-name.ensures.is c.get-w.ensures.is in
+    let at_get : Naming site c.get-name.result c.get-w.result = at_start _ _ c.get-name.ensures.is c.get-w.ensures.is in
     at_get.begun.tree.it.high
 
 pub overflow_add-at-3 : goal.overflow_add-at-3
 overflow_add-at-3 c =
     let site : Site =
     let a = c.args in site_of (words a.rule.now) (words a.scratch.now) (words a.counters.now) a.at a.to a.sp a.log a.scope in
-    let at_start : (v w : ℕ) → v ≡ get_or (words c.args.rule.now) (c.args.at + 1) 0 → w ≡ get_or (words c.args.rule.now) (c.args.at + 2) 0 → Naming (site) v w =
+    let at_start : (v w : ℕ) → v ≡ get_or (words c.args.rule.now) (c.args.at + 1) 0 → w ≡ get_or (words c.args.rule.now) (c.args.at + 2) 0 → Naming site v w =
     λ v w isv isw. let k = site in
     record {
       begun =
@@ -117,17 +116,15 @@ overflow_add-at-3 c =
       isv = isv;
       isw = isw;
     } in
-    let at_get : Naming (site) c.get-name.result c.get-w.result =
-    at_start _ _ c.get-name.ensures.is c.get-w.ensures.is in
+    let at_get : Naming site c.get-name.result c.get-w.result = at_start _ _ c.get-name.ensures.is c.get-w.ensures.is in
     omega (arith, at_get.begun)
 
 pub lower_all-args-requires : goal.lower_all-args-requires
 lower_all-args-requires c =
-    let counted : c.head_word-n.result.count ≡ count_of c.get-w.result =
-    count_says c.head_word-n.ensures in
+    let counted : c.head_word-n.result.count ≡ count_of c.get-w.result = count_says c.head_word-n.ensures in
     let site : Site =
     let a = c.args in site_of (words a.rule.now) (words a.scratch.now) (words a.counters.now) a.at a.to a.sp a.log a.scope in
-    let at_start : (v w : ℕ) → v ≡ get_or (words c.args.rule.now) (c.args.at + 1) 0 → w ≡ get_or (words c.args.rule.now) (c.args.at + 2) 0 → Naming (site) v w =
+    let at_start : (v w : ℕ) → v ≡ get_or (words c.args.rule.now) (c.args.at + 1) 0 → w ≡ get_or (words c.args.rule.now) (c.args.at + 2) 0 → Naming site v w =
     λ v w isv isw. let k = site in
     record {
       begun =
@@ -138,8 +135,7 @@ lower_all-args-requires c =
       isv = isv;
       isw = isw;
     } in
-    let at_get : Naming (site) c.get-name.result c.get-w.result =
-    at_start _ _ c.get-name.ensures.is c.get-w.ensures.is in
+    let at_get : Naming site c.get-name.result c.get-w.result = at_start _ _ c.get-name.ensures.is c.get-w.ensures.is in
     let h = exprs_ask counted at_get.begun in
     record { under = h.0; room = h.1 }
 
@@ -147,7 +143,7 @@ pub returns-then-args-ne0 : goal.returns-then-args-ne0
 returns-then-args-ne0 c =
     let site : Site =
     let a = c.args in site_of (words a.rule.now) (words a.scratch.now) (words a.counters.now) a.at a.to a.sp a.log a.scope in
-    let at_start : (v w : ℕ) → v ≡ get_or (words c.args.rule.now) (c.args.at + 1) 0 → w ≡ get_or (words c.args.rule.now) (c.args.at + 2) 0 → Naming (site) v w =
+    let at_start : (v w : ℕ) → v ≡ get_or (words c.args.rule.now) (c.args.at + 1) 0 → w ≡ get_or (words c.args.rule.now) (c.args.at + 2) 0 → Naming site v w =
     λ v w isv isw. let k = site in
     record {
       begun =
@@ -158,20 +154,18 @@ returns-then-args-ne0 c =
       isv = isv;
       isw = isw;
     } in
-    let at_get : Naming (site) c.get-name.result c.get-w.result =
-    at_start _ _ c.get-name.ensures.is c.get-w.ensures.is in
-    let counted : c.head_word-n.result.count ≡ count_of c.get-w.result =
-    count_says c.head_word-n.ensures in
-    let at_args : (let a = c.lower_all-args in let w = c.get-w.result in Argued (site) 3 (max_depth - 1) (count_of w) w (words a.new.scratch) (words a.new.counters) a.result) =
+    let at_get : Naming site c.get-name.result c.get-w.result = at_start _ _ c.get-name.ensures.is c.get-w.ensures.is in
+    let counted : c.head_word-n.result.count ≡ count_of c.get-w.result = count_says c.head_word-n.ensures in
+    let at_args : (let a = c.lower_all-args in let w = c.get-w.result in Argued site 3 (max_depth - 1) (count_of w) w (words a.new.scratch) (words a.new.counters) a.result) =
     let a = c.lower_all-args in
-    argued (counted) (at_get).begun (length_words_kept _ _ a.auto.scratch) (length_words_kept _ _ a.auto.counters) a.ensures in
+    argued counted at_get.begun (length_words_kept _ _ a.auto.scratch) (length_words_kept _ _ a.auto.counters) a.ensures in
     rw c.refused_action.ensures (args_refused at_get at_args c.if-args-ne0.true)
 
 pub may_read-requires : goal.may_read-requires
 may_read-requires c =
     let site : Site =
     let a = c.args in site_of (words a.rule.now) (words a.scratch.now) (words a.counters.now) a.at a.to a.sp a.log a.scope in
-    let at_start : (v w : ℕ) → v ≡ get_or (words c.args.rule.now) (c.args.at + 1) 0 → w ≡ get_or (words c.args.rule.now) (c.args.at + 2) 0 → Naming (site) v w =
+    let at_start : (v w : ℕ) → v ≡ get_or (words c.args.rule.now) (c.args.at + 1) 0 → w ≡ get_or (words c.args.rule.now) (c.args.at + 2) 0 → Naming site v w =
     λ v w isv isw. let k = site in
     record {
       begun =
@@ -182,24 +176,20 @@ may_read-requires c =
       isv = isv;
       isw = isw;
     } in
-    let at_get : Naming (site) c.get-name.result c.get-w.result =
-    at_start _ _ c.get-name.ensures.is c.get-w.ensures.is in
-    let counted : c.head_word-n.result.count ≡ count_of c.get-w.result =
-    count_says c.head_word-n.ensures in
-    let at_args : (let a = c.lower_all-args in let w = c.get-w.result in Argued (site) 3 (max_depth - 1) (count_of w) w (words a.new.scratch) (words a.new.counters) a.result) =
+    let at_get : Naming site c.get-name.result c.get-w.result = at_start _ _ c.get-name.ensures.is c.get-w.ensures.is in
+    let counted : c.head_word-n.result.count ≡ count_of c.get-w.result = count_says c.head_word-n.ensures in
+    let at_args : (let a = c.lower_all-args in let w = c.get-w.result in Argued site 3 (max_depth - 1) (count_of w) w (words a.new.scratch) (words a.new.counters) a.result) =
     let a = c.lower_all-args in
-    argued (counted) (at_get).begun (length_words_kept _ _ a.auto.scratch) (length_words_kept _ _ a.auto.counters) a.ensures in
-    let at_else : Fine (at_args) =
-    is_fine (at_args) (omega arith) c.if-args-ne0.false in
-    name_asks at_get at_args (at_else)
+    argued counted at_get.begun (length_words_kept _ _ a.auto.scratch) (length_words_kept _ _ a.auto.counters) a.ensures in
+    let at_else : Fine at_args = is_fine at_args (omega arith) c.if-args-ne0.false in
+    name_asks at_get at_args at_else
 
 pub overflow_add-sp : goal.overflow_add-sp
 overflow_add-sp c =
     let site : Site =
     let a = c.args in site_of (words a.rule.now) (words a.scratch.now) (words a.counters.now) a.at a.to a.sp a.log a.scope in
-    let counted : c.head_word-n.result.count ≡ count_of c.get-w.result =
-    count_says c.head_word-n.ensures in
-    let at_start : (v w : ℕ) → v ≡ get_or (words c.args.rule.now) (c.args.at + 1) 0 → w ≡ get_or (words c.args.rule.now) (c.args.at + 2) 0 → Naming (site) v w =
+    let counted : c.head_word-n.result.count ≡ count_of c.get-w.result = count_says c.head_word-n.ensures in
+    let at_start : (v w : ℕ) → v ≡ get_or (words c.args.rule.now) (c.args.at + 1) 0 → w ≡ get_or (words c.args.rule.now) (c.args.at + 2) 0 → Naming site v w =
     λ v w isv isw. let k = site in
     record {
       begun =
@@ -210,22 +200,19 @@ overflow_add-sp c =
       isv = isv;
       isw = isw;
     } in
-    let at_get : Naming (site) c.get-name.result c.get-w.result =
-    at_start _ _ c.get-name.ensures.is c.get-w.ensures.is in
-    let at_args : (let a = c.lower_all-args in let w = c.get-w.result in Argued (site) 3 (max_depth - 1) (count_of w) w (words a.new.scratch) (words a.new.counters) a.result) =
+    let at_get : Naming site c.get-name.result c.get-w.result = at_start _ _ c.get-name.ensures.is c.get-w.ensures.is in
+    let at_args : (let a = c.lower_all-args in let w = c.get-w.result in Argued site 3 (max_depth - 1) (count_of w) w (words a.new.scratch) (words a.new.counters) a.result) =
     let a = c.lower_all-args in
-    argued (counted) (at_get).begun (length_words_kept _ _ a.auto.scratch) (length_words_kept _ _ a.auto.counters) a.ensures in
-    let at_else : Fine (at_args) =
-    is_fine (at_args) (omega arith) c.if-args-ne0.false in
+    argued counted at_get.begun (length_words_kept _ _ a.auto.scratch) (length_words_kept _ _ a.auto.counters) a.ensures in
+    let at_else : Fine at_args = is_fine at_args (omega arith) c.if-args-ne0.false in
     omega (arith, at_else, counted)
 
 pub put-requires : goal.put-requires
 put-requires c =
     let site : Site =
     let a = c.args in site_of (words a.rule.now) (words a.scratch.now) (words a.counters.now) a.at a.to a.sp a.log a.scope in
-    let counted : c.head_word-n.result.count ≡ count_of c.get-w.result =
-    count_says c.head_word-n.ensures in
-    let at_start : (v w : ℕ) → v ≡ get_or (words c.args.rule.now) (c.args.at + 1) 0 → w ≡ get_or (words c.args.rule.now) (c.args.at + 2) 0 → Naming (site) v w =
+    let counted : c.head_word-n.result.count ≡ count_of c.get-w.result = count_says c.head_word-n.ensures in
+    let at_start : (v w : ℕ) → v ≡ get_or (words c.args.rule.now) (c.args.at + 1) 0 → w ≡ get_or (words c.args.rule.now) (c.args.at + 2) 0 → Naming site v w =
     λ v w isv isw. let k = site in
     record {
       begun =
@@ -236,22 +223,19 @@ put-requires c =
       isv = isv;
       isw = isw;
     } in
-    let at_get : Naming (site) c.get-name.result c.get-w.result =
-    at_start _ _ c.get-name.ensures.is c.get-w.ensures.is in
-    let at_args : (let a = c.lower_all-args in let w = c.get-w.result in Argued (site) 3 (max_depth - 1) (count_of w) w (words a.new.scratch) (words a.new.counters) a.result) =
+    let at_get : Naming site c.get-name.result c.get-w.result = at_start _ _ c.get-name.ensures.is c.get-w.ensures.is in
+    let at_args : (let a = c.lower_all-args in let w = c.get-w.result in Argued site 3 (max_depth - 1) (count_of w) w (words a.new.scratch) (words a.new.counters) a.result) =
     let a = c.lower_all-args in
-    argued (counted) (at_get).begun (length_words_kept _ _ a.auto.scratch) (length_words_kept _ _ a.auto.counters) a.ensures in
-    let at_else : Fine (at_args) =
-    is_fine (at_args) (omega arith) c.if-args-ne0.false in
+    argued counted at_get.begun (length_words_kept _ _ a.auto.scratch) (length_words_kept _ _ a.auto.counters) a.ensures in
+    let at_else : Fine at_args = is_fine at_args (omega arith) c.if-args-ne0.false in
     omega (arith, at_else, counted)
 
 pub overflow_add-at-then-may_read : goal.overflow_add-at-then-may_read
 overflow_add-at-then-may_read c =
     let site : Site =
     let a = c.args in site_of (words a.rule.now) (words a.scratch.now) (words a.counters.now) a.at a.to a.sp a.log a.scope in
-    let counted : c.head_word-n.result.count ≡ count_of c.get-w.result =
-    count_says c.head_word-n.ensures in
-    let at_start : (v w : ℕ) → v ≡ get_or (words c.args.rule.now) (c.args.at + 1) 0 → w ≡ get_or (words c.args.rule.now) (c.args.at + 2) 0 → Naming (site) v w =
+    let counted : c.head_word-n.result.count ≡ count_of c.get-w.result = count_says c.head_word-n.ensures in
+    let at_start : (v w : ℕ) → v ≡ get_or (words c.args.rule.now) (c.args.at + 1) 0 → w ≡ get_or (words c.args.rule.now) (c.args.at + 2) 0 → Naming site v w =
     λ v w isv isw. let k = site in
     record {
       begun =
@@ -262,22 +246,19 @@ overflow_add-at-then-may_read c =
       isv = isv;
       isw = isw;
     } in
-    let at_get : Naming (site) c.get-name.result c.get-w.result =
-    at_start _ _ c.get-name.ensures.is c.get-w.ensures.is in
-    let at_args : (let a = c.lower_all-args in let w = c.get-w.result in Argued (site) 3 (max_depth - 1) (count_of w) w (words a.new.scratch) (words a.new.counters) a.result) =
+    let at_get : Naming site c.get-name.result c.get-w.result = at_start _ _ c.get-name.ensures.is c.get-w.ensures.is in
+    let at_args : (let a = c.lower_all-args in let w = c.get-w.result in Argued site 3 (max_depth - 1) (count_of w) w (words a.new.scratch) (words a.new.counters) a.result) =
     let a = c.lower_all-args in
-    argued (counted) (at_get).begun (length_words_kept _ _ a.auto.scratch) (length_words_kept _ _ a.auto.counters) a.ensures in
-    let at_else : Fine (at_args) =
-    is_fine (at_args) (omega arith) c.if-args-ne0.false in
+    argued counted at_get.begun (length_words_kept _ _ a.auto.scratch) (length_words_kept _ _ a.auto.counters) a.ensures in
+    let at_else : Fine at_args = is_fine at_args (omega arith) c.if-args-ne0.false in
     omega (arith, at_else)
 
 pub overflow_add-n : goal.overflow_add-n
 overflow_add-n c =
     let site : Site =
     let a = c.args in site_of (words a.rule.now) (words a.scratch.now) (words a.counters.now) a.at a.to a.sp a.log a.scope in
-    let counted : c.head_word-n.result.count ≡ count_of c.get-w.result =
-    count_says c.head_word-n.ensures in
-    let at_start : (v w : ℕ) → v ≡ get_or (words c.args.rule.now) (c.args.at + 1) 0 → w ≡ get_or (words c.args.rule.now) (c.args.at + 2) 0 → Naming (site) v w =
+    let counted : c.head_word-n.result.count ≡ count_of c.get-w.result = count_says c.head_word-n.ensures in
+    let at_start : (v w : ℕ) → v ≡ get_or (words c.args.rule.now) (c.args.at + 1) 0 → w ≡ get_or (words c.args.rule.now) (c.args.at + 2) 0 → Naming site v w =
     λ v w isv isw. let k = site in
     record {
       begun =
@@ -288,22 +269,19 @@ overflow_add-n c =
       isv = isv;
       isw = isw;
     } in
-    let at_get : Naming (site) c.get-name.result c.get-w.result =
-    at_start _ _ c.get-name.ensures.is c.get-w.ensures.is in
-    let at_args : (let a = c.lower_all-args in let w = c.get-w.result in Argued (site) 3 (max_depth - 1) (count_of w) w (words a.new.scratch) (words a.new.counters) a.result) =
+    let at_get : Naming site c.get-name.result c.get-w.result = at_start _ _ c.get-name.ensures.is c.get-w.ensures.is in
+    let at_args : (let a = c.lower_all-args in let w = c.get-w.result in Argued site 3 (max_depth - 1) (count_of w) w (words a.new.scratch) (words a.new.counters) a.result) =
     let a = c.lower_all-args in
-    argued (counted) (at_get).begun (length_words_kept _ _ a.auto.scratch) (length_words_kept _ _ a.auto.counters) a.ensures in
-    let at_else : Fine (at_args) =
-    is_fine (at_args) (omega arith) c.if-args-ne0.false in
+    argued counted at_get.begun (length_words_kept _ _ a.auto.scratch) (length_words_kept _ _ a.auto.counters) a.ensures in
+    let at_else : Fine at_args = is_fine at_args (omega arith) c.if-args-ne0.false in
     omega (arith, at_else, counted)
 
 pub put_change-requires : goal.put_change-requires
 put_change-requires c =
-    let counted : c.head_word-n.result.count ≡ count_of c.get-w.result =
-    count_says c.head_word-n.ensures in
+    let counted : c.head_word-n.result.count ≡ count_of c.get-w.result = count_says c.head_word-n.ensures in
     let site : Site =
     let a = c.args in site_of (words a.rule.now) (words a.scratch.now) (words a.counters.now) a.at a.to a.sp a.log a.scope in
-    let at_start : (v w : ℕ) → v ≡ get_or (words c.args.rule.now) (c.args.at + 1) 0 → w ≡ get_or (words c.args.rule.now) (c.args.at + 2) 0 → Naming (site) v w =
+    let at_start : (v w : ℕ) → v ≡ get_or (words c.args.rule.now) (c.args.at + 1) 0 → w ≡ get_or (words c.args.rule.now) (c.args.at + 2) 0 → Naming site v w =
     λ v w isv isw. let k = site in
     record {
       begun =
@@ -314,17 +292,14 @@ put_change-requires c =
       isv = isv;
       isw = isw;
     } in
-    let at_get : Naming (site) c.get-name.result c.get-w.result =
-    at_start _ _ c.get-name.ensures.is c.get-w.ensures.is in
-    let at_args : (let a = c.lower_all-args in let w = c.get-w.result in Argued (site) 3 (max_depth - 1) (count_of w) w (words a.new.scratch) (words a.new.counters) a.result) =
+    let at_get : Naming site c.get-name.result c.get-w.result = at_start _ _ c.get-name.ensures.is c.get-w.ensures.is in
+    let at_args : (let a = c.lower_all-args in let w = c.get-w.result in Argued site 3 (max_depth - 1) (count_of w) w (words a.new.scratch) (words a.new.counters) a.result) =
     let a = c.lower_all-args in
-    argued (counted) (at_get).begun (length_words_kept _ _ a.auto.scratch) (length_words_kept _ _ a.auto.counters) a.ensures in
-    let at_else : Fine (at_args) =
-    is_fine (at_args) (omega arith) c.if-args-ne0.false in
+    argued counted at_get.begun (length_words_kept _ _ a.auto.scratch) (length_words_kept _ _ a.auto.counters) a.ensures in
+    let at_else : Fine at_args = is_fine at_args (omega arith) c.if-args-ne0.false in
     let pushed : words c.put.new.s ≡ set (words c.lower_all-args.new.scratch) (c.args.sp + count_of c.get-w.result) c.get-name.result =
-    c.put.ensures ∙ ap (λ (i : ℕ). set (words c.lower_all-args.new.scratch) (c.args.sp + i) c.get-name.result) (counted) in
-    let at_put : length (words c.put.new.s) ≡ length (words c.lower_all-args.new.scratch) =
-    length_words_kept _ _ c.put.auto.s in
+    c.put.ensures ∙ ap (λ (i : ℕ). set (words c.lower_all-args.new.scratch) (c.args.sp + i) c.get-name.result) counted in
+    let at_put : length (words c.put.new.s) ≡ length (words c.lower_all-args.new.scratch) = length_words_kept _ _ c.put.auto.s in
     fits_as (ap (λ (i : ℕ). i + 1) counted)
     (end_asks at_get at_args at_else (reads_as c.get-name.result c.may_read.ensures) c.if-may_read.true pushed at_put)
 
@@ -339,7 +314,7 @@ pub returns-then-may_read : goal.returns-then-may_read
 returns-then-may_read c =
     let site : Site =
     let a = c.args in site_of (words a.rule.now) (words a.scratch.now) (words a.counters.now) a.at a.to a.sp a.log a.scope in
-    let at_start : (v w : ℕ) → v ≡ get_or (words c.args.rule.now) (c.args.at + 1) 0 → w ≡ get_or (words c.args.rule.now) (c.args.at + 2) 0 → Naming (site) v w =
+    let at_start : (v w : ℕ) → v ≡ get_or (words c.args.rule.now) (c.args.at + 1) 0 → w ≡ get_or (words c.args.rule.now) (c.args.at + 2) 0 → Naming site v w =
     λ v w isv isw. let k = site in
     record {
       begun =
@@ -350,17 +325,14 @@ returns-then-may_read c =
       isv = isv;
       isw = isw;
     } in
-    let at_get : Naming (site) c.get-name.result c.get-w.result =
-    at_start _ _ c.get-name.ensures.is c.get-w.ensures.is in
-    let counted : c.head_word-n.result.count ≡ count_of c.get-w.result =
-    count_says c.head_word-n.ensures in
-    let at_args : (let a = c.lower_all-args in let w = c.get-w.result in Argued (site) 3 (max_depth - 1) (count_of w) w (words a.new.scratch) (words a.new.counters) a.result) =
+    let at_get : Naming site c.get-name.result c.get-w.result = at_start _ _ c.get-name.ensures.is c.get-w.ensures.is in
+    let counted : c.head_word-n.result.count ≡ count_of c.get-w.result = count_says c.head_word-n.ensures in
+    let at_args : (let a = c.lower_all-args in let w = c.get-w.result in Argued site 3 (max_depth - 1) (count_of w) w (words a.new.scratch) (words a.new.counters) a.result) =
     let a = c.lower_all-args in
-    argued (counted) (at_get).begun (length_words_kept _ _ a.auto.scratch) (length_words_kept _ _ a.auto.counters) a.ensures in
-    let at_else : Fine (at_args) =
-    is_fine (at_args) (omega arith) c.if-args-ne0.false in
+    argued counted at_get.begun (length_words_kept _ _ a.auto.scratch) (length_words_kept _ _ a.auto.counters) a.ensures in
+    let at_else : Fine at_args = is_fine at_args (omega arith) c.if-args-ne0.false in
     let pushed : words c.put.new.s ≡ set (words c.lower_all-args.new.scratch) (c.args.sp + count_of c.get-w.result) c.get-name.result =
-    c.put.ensures ∙ ap (λ (i : ℕ). set (words c.lower_all-args.new.scratch) (c.args.sp + i) c.get-name.result) (counted) in
+    c.put.ensures ∙ ap (λ (i : ℕ). set (words c.lower_all-args.new.scratch) (c.args.sp + i) c.get-name.result) counted in
     set_ends at_get at_args at_else (reads_as c.get-name.result c.may_read.ensures) c.if-may_read.true pushed
     counted c.put_change.ensures
 
@@ -370,9 +342,8 @@ pub overflow_add-at-4 : goal.overflow_add-at-4
 overflow_add-at-4 c =
     let site : Site =
     let a = c.args in site_of (words a.rule.now) (words a.scratch.now) (words a.counters.now) a.at a.to a.sp a.log a.scope in
-    let counted : c.head_word-n.result.count ≡ count_of c.get-w.result =
-    count_says c.head_word-n.ensures in
-    let at_start : (v w : ℕ) → v ≡ get_or (words c.args.rule.now) (c.args.at + 1) 0 → w ≡ get_or (words c.args.rule.now) (c.args.at + 2) 0 → Naming (site) v w =
+    let counted : c.head_word-n.result.count ≡ count_of c.get-w.result = count_says c.head_word-n.ensures in
+    let at_start : (v w : ℕ) → v ≡ get_or (words c.args.rule.now) (c.args.at + 1) 0 → w ≡ get_or (words c.args.rule.now) (c.args.at + 2) 0 → Naming site v w =
     λ v w isv isw. let k = site in
     record {
       begun =
@@ -383,20 +354,18 @@ overflow_add-at-4 c =
       isv = isv;
       isw = isw;
     } in
-    let at_get : Naming (site) c.get-name.result c.get-w.result =
-    at_start _ _ c.get-name.ensures.is c.get-w.ensures.is in
-    let at_args : (let a = c.lower_all-args in let w = c.get-w.result in Argued (site) 3 (max_depth - 1) (count_of w) w (words a.new.scratch) (words a.new.counters) a.result) =
+    let at_get : Naming site c.get-name.result c.get-w.result = at_start _ _ c.get-name.ensures.is c.get-w.ensures.is in
+    let at_args : (let a = c.lower_all-args in let w = c.get-w.result in Argued site 3 (max_depth - 1) (count_of w) w (words a.new.scratch) (words a.new.counters) a.result) =
     let a = c.lower_all-args in
-    argued (counted) (at_get).begun (length_words_kept _ _ a.auto.scratch) (length_words_kept _ _ a.auto.counters) a.ensures in
-    let at_else : Fine (at_args) =
-    is_fine (at_args) (omega arith) c.if-args-ne0.false in
+    argued counted at_get.begun (length_words_kept _ _ a.auto.scratch) (length_words_kept _ _ a.auto.counters) a.ensures in
+    let at_else : Fine at_args = is_fine at_args (omega arith) c.if-args-ne0.false in
     omega (arith, at_else)
 
 pub returns : goal.returns
 returns c =
     let site : Site =
     let a = c.args in site_of (words a.rule.now) (words a.scratch.now) (words a.counters.now) a.at a.to a.sp a.log a.scope in
-    let at_start : (v w : ℕ) → v ≡ get_or (words c.args.rule.now) (c.args.at + 1) 0 → w ≡ get_or (words c.args.rule.now) (c.args.at + 2) 0 → Naming (site) v w =
+    let at_start : (v w : ℕ) → v ≡ get_or (words c.args.rule.now) (c.args.at + 1) 0 → w ≡ get_or (words c.args.rule.now) (c.args.at + 2) 0 → Naming site v w =
     λ v w isv isw. let k = site in
     record {
       begun =
@@ -407,14 +376,11 @@ returns c =
       isv = isv;
       isw = isw;
     } in
-    let at_get : Naming (site) c.get-name.result c.get-w.result =
-    at_start _ _ c.get-name.ensures.is c.get-w.ensures.is in
-    let counted : c.head_word-n.result.count ≡ count_of c.get-w.result =
-    count_says c.head_word-n.ensures in
-    let at_args : (let a = c.lower_all-args in let w = c.get-w.result in Argued (site) 3 (max_depth - 1) (count_of w) w (words a.new.scratch) (words a.new.counters) a.result) =
+    let at_get : Naming site c.get-name.result c.get-w.result = at_start _ _ c.get-name.ensures.is c.get-w.ensures.is in
+    let counted : c.head_word-n.result.count ≡ count_of c.get-w.result = count_says c.head_word-n.ensures in
+    let at_args : (let a = c.lower_all-args in let w = c.get-w.result in Argued site 3 (max_depth - 1) (count_of w) w (words a.new.scratch) (words a.new.counters) a.result) =
     let a = c.lower_all-args in
-    argued (counted) (at_get).begun (length_words_kept _ _ a.auto.scratch) (length_words_kept _ _ a.auto.counters) a.ensures in
-    let at_else : Fine (at_args) =
-    is_fine (at_args) (omega arith) c.if-args-ne0.false in
+    argued counted at_get.begun (length_words_kept _ _ a.auto.scratch) (length_words_kept _ _ a.auto.counters) a.ensures in
+    let at_else : Fine at_args = is_fine at_args (omega arith) c.if-args-ne0.false in
     rw (c.refused_action-2.ensures, c.stopped.ensures)
     (name_refused at_get at_args at_else (reads_as c.get-name.result c.may_read.ensures) c.if-may_read.false)

@@ -49,7 +49,7 @@ loop-i-preserved c =
     let at_atom : (let a = c.args in First c.loop-i.invariant.todo (words a.s.now) (a.at + c.loop-i.i) (a.n - c.loop-i.i)) =
     leading_here c.requires c.loop-i.invariant c.loop-i-test.true in
     let at_word : (let a = c.args in get_or (words a.s.now) (a.at + c.loop-i.i) 0 ≡ equality_word) =
-    sign_word (at_atom).begins.first c.good_atom_at-atom.ensures c.in-Eq.is in
+    sign_word at_atom.begins.first c.good_atom_at-atom.ensures c.in-Eq.is in
     leading_next c.requires c.loop-i.invariant c.loop-i-test.true at_word (omega (arith, c.past_equality.ensures))
 
 -- ---- all are equalities

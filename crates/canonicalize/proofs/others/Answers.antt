@@ -39,7 +39,7 @@ overflow_sub-i c =
     let at_atom : (let a = c.args in First c.loop-i.invariant.todo (words a.s.now) (a.from + c.loop-i.i) (a.n - c.loop-i.i)) =
     passing_here c.requires c.loop-i.invariant c.loop-i-test.true in
     let at_next : (let a = c.args in let p = a.from + c.loop-i.i in c.good_atom_at-atom.result.next ≡ p + size_at (words a.s.now) p) =
-    next_at_lem (at_atom).begins c.good_atom_at-atom.ensures in
+    next_at_lem at_atom.begins c.good_atom_at-atom.ensures in
     omega (arith, at_next)
 
 pub loop-i-smaller : goal.loop-i-smaller
@@ -47,7 +47,7 @@ loop-i-smaller c =
     let at_atom : (let a = c.args in First c.loop-i.invariant.todo (words a.s.now) (a.from + c.loop-i.i) (a.n - c.loop-i.i)) =
     passing_here c.requires c.loop-i.invariant c.loop-i-test.true in
     let at_next : (let a = c.args in let p = a.from + c.loop-i.i in c.good_atom_at-atom.result.next ≡ p + size_at (words a.s.now) p) =
-    next_at_lem (at_atom).begins c.good_atom_at-atom.ensures in
+    next_at_lem at_atom.begins c.good_atom_at-atom.ensures in
     let t = at_atom in
     omega (arith, at_next, t.size, t.some)
 
@@ -56,7 +56,7 @@ loop-i-preserved c =
     let at_atom : (let a = c.args in First c.loop-i.invariant.todo (words a.s.now) (a.from + c.loop-i.i) (a.n - c.loop-i.i)) =
     passing_here c.requires c.loop-i.invariant c.loop-i-test.true in
     let at_next : (let a = c.args in let p = a.from + c.loop-i.i in c.good_atom_at-atom.result.next ≡ p + size_at (words a.s.now) p) =
-    next_at_lem (at_atom).begins c.good_atom_at-atom.ensures in
+    next_at_lem at_atom.begins c.good_atom_at-atom.ensures in
     passing_next c.requires c.loop-i.invariant c.loop-i-test.true
     (head_other at_atom.begins.first c.good_atom_at-atom.ensures c.in-Head.is) (omega (arith, at_next))
 

@@ -17,30 +17,24 @@ loop-p-init c = (refl, replacing_start c.requires.replace_asks)
 
 pub good_atom_at-atom-requires : goal.good_atom_at-atom-requires
 good_atom_at-atom-requires c =
-    let at_next : Next c.loop-p.invariant.1 =
-    next_atom c.loop-p.invariant.1 c.loop-p-test.true in
+    let at_next : Next c.loop-p.invariant.1 = next_atom c.loop-p.invariant.1 c.loop-p-test.true in
     at_next.asks.begins
 
 pub replace_step-e-requires : goal.replace_step-e-requires
 replace_step-e-requires c =
-    let at_next : Next c.loop-p.invariant.1 =
-    next_atom c.loop-p.invariant.1 c.loop-p-test.true in
+    let at_next : Next c.loop-p.invariant.1 = next_atom c.loop-p.invariant.1 c.loop-p-test.true in
     record { good_sign = c.requires.good_sign; step_asks = at_next.asks }
 
 pub loop-p-smaller : goal.loop-p-smaller
 loop-p-smaller c =
-    let at_next : Next c.loop-p.invariant.1 =
-    next_atom c.loop-p.invariant.1 c.loop-p-test.true in
-    let at_place : (let w = c.loop-p in c.good_atom_at-atom.result.next ≡ w.p + size_at (words w.s) w.p) =
-    (at_next).next c.good_atom_at-atom.ensures in
+    let at_next : Next c.loop-p.invariant.1 = next_atom c.loop-p.invariant.1 c.loop-p-test.true in
+    let at_place : (let w = c.loop-p in c.good_atom_at-atom.result.next ≡ w.p + size_at (words w.s) w.p) = at_next.next c.good_atom_at-atom.ensures in
     omega (arith, at_next.inside, at_next.some, at_place)
 
 pub loop-p-preserved : goal.loop-p-preserved
 loop-p-preserved c =
-    let at_next : Next c.loop-p.invariant.1 =
-    next_atom c.loop-p.invariant.1 c.loop-p-test.true in
-    let at_place : (let w = c.loop-p in c.good_atom_at-atom.result.next ≡ w.p + size_at (words w.s) w.p) =
-    (at_next).next c.good_atom_at-atom.ensures in
+    let at_next : Next c.loop-p.invariant.1 = next_atom c.loop-p.invariant.1 c.loop-p-test.true in
+    let at_place : (let w = c.loop-p in c.good_atom_at-atom.result.next ≡ w.p + size_at (words w.s) w.p) = at_next.next c.good_atom_at-atom.ensures in
     let w = c.loop-p.invariant in
     let k = c.replace_step-e.ensures in
     (c.replace_step-e.auto.s ∙ w.0, replacing_next w.1 at_next at_place k.0 k.1)

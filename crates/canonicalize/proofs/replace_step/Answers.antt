@@ -27,7 +27,7 @@ get-a-requires c =
     let says = c.good_atom_at-atom.ensures in
     equality_read (sign_word c.requires.step_asks.begins.first says c.in-Eq.is) says in
     let at_within : (let a = c.args in (a.p + equality_size ≤ length (words a.s.now)) × (length (words a.s.now) < 2 ^ 64)) =
-    (c.requires.step_asks.whole (at_equality).word, omega (arith, length_words c.args.s.now, c.well_formed)) in
+    (c.requires.step_asks.whole at_equality.word, omega (arith, length_words c.args.s.now, c.well_formed)) in
     omega (arith, at_equality, at_within)
 
 pub overflow_add-atom : goal.overflow_add-atom
@@ -36,7 +36,7 @@ overflow_add-atom c =
     let says = c.good_atom_at-atom.ensures in
     equality_read (sign_word c.requires.step_asks.begins.first says c.in-Eq.is) says in
     let at_within : (let a = c.args in (a.p + equality_size ≤ length (words a.s.now)) × (length (words a.s.now) < 2 ^ 64)) =
-    (c.requires.step_asks.whole (at_equality).word, omega (arith, length_words c.args.s.now, c.well_formed)) in
+    (c.requires.step_asks.whole at_equality.word, omega (arith, length_words c.args.s.now, c.well_formed)) in
     omega (arith, at_equality, at_within)
 
 pub get-b-requires : goal.get-b-requires
@@ -45,7 +45,7 @@ get-b-requires c =
     let says = c.good_atom_at-atom.ensures in
     equality_read (sign_word c.requires.step_asks.begins.first says c.in-Eq.is) says in
     let at_within : (let a = c.args in (a.p + equality_size ≤ length (words a.s.now)) × (length (words a.s.now) < 2 ^ 64)) =
-    (c.requires.step_asks.whole (at_equality).word, omega (arith, length_words c.args.s.now, c.well_formed)) in
+    (c.requires.step_asks.whole at_equality.word, omega (arith, length_words c.args.s.now, c.well_formed)) in
     omega (arith, at_equality, at_within)
 
 pub returns-then-not-asked : goal.returns-then-not-asked
@@ -55,7 +55,7 @@ returns-then-not-asked c =
     equality_read (sign_word c.requires.step_asks.begins.first says c.in-Eq.is) says in
     let at_asked : (let a = c.args in c.replacement_of-asked.result ≡ asked_of (ask_at (sig a.q) (words a.s.now) a.p)) =
     let x = c.get-a.ensures.is in
-    asks_terms (sig c.args.q) (at_equality) x c.get-b.ensures.is c.replacement_of-asked.ensures in
+    asks_terms (sig c.args.q) at_equality x c.get-b.ensures.is c.replacement_of-asked.ensures in
     step_none (sig c.args.q) c.requires.step_asks at_asked (not-true _ c.if-not-asked.true)
 
 pub replace-requires : goal.replace-requires
@@ -66,8 +66,7 @@ overflow_sub-d c = omega (arith, c.requires.step_asks.room)
 
 pub put_three-requires : goal.put_three-requires
 put_three-requires c =
-    let size_kept : length (words c.replace.new.s) ≡ length (words c.args.s.now) =
-    length_words_kept _ _ c.replace.auto.s in
+    let size_kept : length (words c.replace.new.s) ≡ length (words c.args.s.now) = length_words_kept _ _ c.replace.auto.s in
     let asks = c.requires.step_asks in
     omega (arith, asks.room, asks.top, size_kept)
 
@@ -81,8 +80,7 @@ returns c =
     equality_read (sign_word c.requires.step_asks.begins.first says c.in-Eq.is) says in
     let at_asked : (let a = c.args in c.replacement_of-asked.result ≡ asked_of (ask_at (sig a.q) (words a.s.now) a.p)) =
     let x = c.get-a.ensures.is in
-    asks_terms (sig c.args.q) (at_equality) x c.get-b.ensures.is c.replacement_of-asked.ensures in
-    let size_kept : length (words c.replace.new.s) ≡ length (words c.args.s.now) =
-    length_words_kept _ _ c.replace.auto.s in
+    asks_terms (sig c.args.q) at_equality x c.get-b.ensures.is c.replacement_of-asked.ensures in
+    let size_kept : length (words c.replace.new.s) ≡ length (words c.args.s.now) = length_words_kept _ _ c.replace.auto.s in
     step_some (sig c.args.q) c.requires.step_asks at_asked (not-false _ c.if-not-asked.false)
     c.replace.ensures size_kept c.put_three.ensures.1

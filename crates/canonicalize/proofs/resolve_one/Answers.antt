@@ -39,7 +39,7 @@ resolve_terms-requires c =
     let at_atom : (let a = c.args in Equality (words a.s.now) a.p c.good_atom_at-atom.result) =
     equality_read c.requires.resolve_one_asks.equality c.good_atom_at-atom.ensures in
     let at_terms : (let a = c.args in let x = c.get-a.result in let y = c.get-b.result in resolve_terms (same_term x y) (sig a.q) x y ≡ resolve_at (sig a.q) (words a.s.now) a.p) =
-    resolve_read (sig c.args.q) (at_atom) c.get-a.ensures.is c.get-b.ensures.is in
+    resolve_read (sig c.args.q) at_atom c.get-a.ensures.is c.get-b.ensures.is in
     record { good_sign = c.requires.good_sign; b_in_bounds = omega (arith, c.requires.resolve_one_asks.room, ap length at_terms) }
 
 pub returns : goal.returns
@@ -47,7 +47,7 @@ returns c =
     let at_atom : (let a = c.args in Equality (words a.s.now) a.p c.good_atom_at-atom.result) =
     equality_read c.requires.resolve_one_asks.equality c.good_atom_at-atom.ensures in
     let at_terms : (let a = c.args in let x = c.get-a.result in let y = c.get-b.result in resolve_terms (same_term x y) (sig a.q) x y ≡ resolve_at (sig a.q) (words a.s.now) a.p) =
-    resolve_read (sig c.args.q) (at_atom) c.get-a.ensures.is c.get-b.ensures.is in
+    resolve_read (sig c.args.q) at_atom c.get-a.ensures.is c.get-b.ensures.is in
     let a = c.args in
     let k = c.resolve_terms.ensures in
     (k.0 ∙ ap length (at_terms), k.1 ∙ ap (splice (words a.s.now) a.to) at_terms)

@@ -20,7 +20,7 @@ overflow_sub-code c =
     let site : Site =
     let a = c.args in
     site_of (words a.rule.now) (words a.scratch.now) (words a.counters.now) a.at a.to a.sp a.log a.scope in
-    let at_get : Coded (words c.args.signature.now) (site) c.get-w.result =
+    let at_get : Coded (words c.args.signature.now) site c.get-w.result =
     let p = c.requires in coded p.under p.room.0 p.room.1 p.room.2 c.get-w.ensures.is in
     omega (arith, at_get)
 
@@ -31,7 +31,7 @@ lower_let-requires c =
     let site : Site =
     let a = c.args in
     site_of (words a.rule.now) (words a.scratch.now) (words a.counters.now) a.at a.to a.sp a.log a.scope in
-    let at_get : Coded (words c.args.signature.now) (site) c.get-w.result =
+    let at_get : Coded (words c.args.signature.now) site c.get-w.result =
     let p = c.requires in coded p.under p.room.0 p.room.1 p.room.2 c.get-w.ensures.is in
     let g = at_get in
     record { under = let_asks g c.in-1.is; room = (g.room, g.scope_room, g.top) }
@@ -41,7 +41,7 @@ lower_change-requires c =
     let site : Site =
     let a = c.args in
     site_of (words a.rule.now) (words a.scratch.now) (words a.counters.now) a.at a.to a.sp a.log a.scope in
-    let at_get : Coded (words c.args.signature.now) (site) c.get-w.result =
+    let at_get : Coded (words c.args.signature.now) site c.get-w.result =
     let p = c.requires in coded p.under p.room.0 p.room.1 p.room.2 c.get-w.ensures.is in
     let g = at_get in
     record { under = set_asks g c.in-2.is; room = (g.room, g.scope_room, omega arith) }
@@ -51,7 +51,7 @@ lower_change-requires-in-3 c =
     let site : Site =
     let a = c.args in
     site_of (words a.rule.now) (words a.scratch.now) (words a.counters.now) a.at a.to a.sp a.log a.scope in
-    let at_get : Coded (words c.args.signature.now) (site) c.get-w.result =
+    let at_get : Coded (words c.args.signature.now) site c.get-w.result =
     let p = c.requires in coded p.under p.room.0 p.room.1 p.room.2 c.get-w.ensures.is in
     let g = at_get in
     record { under = delete_asks g c.in-3.is; room = (g.room, g.scope_room, omega arith) }
@@ -61,7 +61,7 @@ lower_change-requires-in-4 c =
     let site : Site =
     let a = c.args in
     site_of (words a.rule.now) (words a.scratch.now) (words a.counters.now) a.at a.to a.sp a.log a.scope in
-    let at_get : Coded (words c.args.signature.now) (site) c.get-w.result =
+    let at_get : Coded (words c.args.signature.now) site c.get-w.result =
     let p = c.requires in coded p.under p.room.0 p.room.1 p.room.2 c.get-w.ensures.is in
     let g = at_get in
     record { under = subsume_asks g c.in-4.is; room = (g.room, g.scope_room, omega arith) }
@@ -71,7 +71,7 @@ lower_union-requires c =
     let site : Site =
     let a = c.args in
     site_of (words a.rule.now) (words a.scratch.now) (words a.counters.now) a.at a.to a.sp a.log a.scope in
-    let at_get : Coded (words c.args.signature.now) (site) c.get-w.result =
+    let at_get : Coded (words c.args.signature.now) site c.get-w.result =
     let p = c.requires in coded p.under p.room.0 p.room.1 p.room.2 c.get-w.ensures.is in
     let g = at_get in
     record { under = union_asks g c.in-5.is; room = (g.room, g.scope_room) }
@@ -81,7 +81,7 @@ lower_panic-requires c =
     let site : Site =
     let a = c.args in
     site_of (words a.rule.now) (words a.scratch.now) (words a.counters.now) a.at a.to a.sp a.log a.scope in
-    let at_get : Coded (words c.args.signature.now) (site) c.get-w.result =
+    let at_get : Coded (words c.args.signature.now) site c.get-w.result =
     let p = c.requires in coded p.under p.room.0 p.room.1 p.room.2 c.get-w.ensures.is in
     let g = at_get in
     record { at_in_bounds = panic_asks g c.in-6.is; room = (g.room, g.scope_room) }
@@ -91,7 +91,7 @@ lower_expression-requires c =
     let site : Site =
     let a = c.args in
     site_of (words a.rule.now) (words a.scratch.now) (words a.counters.now) a.at a.to a.sp a.log a.scope in
-    let at_get : Coded (words c.args.signature.now) (site) c.get-w.result =
+    let at_get : Coded (words c.args.signature.now) site c.get-w.result =
     let p = c.requires in coded p.under p.room.0 p.room.1 p.room.2 c.get-w.ensures.is in
     let g = at_get in
     record { under = expression_asks g c.in-8.is; room = (g.room, g.scope_room) }
@@ -101,7 +101,7 @@ returns-in-1 c =
     let site : Site =
     let a = c.args in
     site_of (words a.rule.now) (words a.scratch.now) (words a.counters.now) a.at a.to a.sp a.log a.scope in
-    let at_get : Coded (words c.args.signature.now) (site) c.get-w.result =
+    let at_get : Coded (words c.args.signature.now) site c.get-w.result =
     let p = c.requires in coded p.under p.room.0 p.room.1 p.room.2 c.get-w.ensures.is in
     let_done at_get c.in-1.is c.lower_let.ensures
 
@@ -110,7 +110,7 @@ returns-in-2 c =
     let site : Site =
     let a = c.args in
     site_of (words a.rule.now) (words a.scratch.now) (words a.counters.now) a.at a.to a.sp a.log a.scope in
-    let at_get : Coded (words c.args.signature.now) (site) c.get-w.result =
+    let at_get : Coded (words c.args.signature.now) site c.get-w.result =
     let p = c.requires in coded p.under p.room.0 p.room.1 p.room.2 c.get-w.ensures.is in
     rw c.apart.ensures (set_done at_get c.in-2.is c.lower_change.ensures)
 
@@ -119,7 +119,7 @@ returns-in-3 c =
     let site : Site =
     let a = c.args in
     site_of (words a.rule.now) (words a.scratch.now) (words a.counters.now) a.at a.to a.sp a.log a.scope in
-    let at_get : Coded (words c.args.signature.now) (site) c.get-w.result =
+    let at_get : Coded (words c.args.signature.now) site c.get-w.result =
     let p = c.requires in coded p.under p.room.0 p.room.1 p.room.2 c.get-w.ensures.is in
     rw c.apart-in-3.ensures (delete_done at_get c.in-3.is c.lower_change-in-3.ensures)
 
@@ -128,7 +128,7 @@ returns-in-4 c =
     let site : Site =
     let a = c.args in
     site_of (words a.rule.now) (words a.scratch.now) (words a.counters.now) a.at a.to a.sp a.log a.scope in
-    let at_get : Coded (words c.args.signature.now) (site) c.get-w.result =
+    let at_get : Coded (words c.args.signature.now) site c.get-w.result =
     let p = c.requires in coded p.under p.room.0 p.room.1 p.room.2 c.get-w.ensures.is in
     rw c.apart-in-4.ensures (subsume_done at_get c.in-4.is c.lower_change-in-4.ensures)
 
@@ -137,7 +137,7 @@ returns-in-5 c =
     let site : Site =
     let a = c.args in
     site_of (words a.rule.now) (words a.scratch.now) (words a.counters.now) a.at a.to a.sp a.log a.scope in
-    let at_get : Coded (words c.args.signature.now) (site) c.get-w.result =
+    let at_get : Coded (words c.args.signature.now) site c.get-w.result =
     let p = c.requires in coded p.under p.room.0 p.room.1 p.room.2 c.get-w.ensures.is in
     union_done at_get c.in-5.is c.lower_union.ensures
 
@@ -146,7 +146,7 @@ returns-in-6 c =
     let site : Site =
     let a = c.args in
     site_of (words a.rule.now) (words a.scratch.now) (words a.counters.now) a.at a.to a.sp a.log a.scope in
-    let at_get : Coded (words c.args.signature.now) (site) c.get-w.result =
+    let at_get : Coded (words c.args.signature.now) site c.get-w.result =
     let p = c.requires in coded p.under p.room.0 p.room.1 p.room.2 c.get-w.ensures.is in
     panic_done at_get c.in-6.is c.lower_panic.ensures
 
@@ -155,7 +155,7 @@ returns-in-8 c =
     let site : Site =
     let a = c.args in
     site_of (words a.rule.now) (words a.scratch.now) (words a.counters.now) a.at a.to a.sp a.log a.scope in
-    let at_get : Coded (words c.args.signature.now) (site) c.get-w.result =
+    let at_get : Coded (words c.args.signature.now) site c.get-w.result =
     let p = c.requires in coded p.under p.room.0 p.room.1 p.room.2 c.get-w.ensures.is in
     expression_done at_get c.in-8.is c.lower_expression.ensures
 
@@ -164,7 +164,7 @@ returns-in_default c =
     let site : Site =
     let a = c.args in
     site_of (words a.rule.now) (words a.scratch.now) (words a.counters.now) a.at a.to a.sp a.log a.scope in
-    let at_get : Coded (words c.args.signature.now) (site) c.get-w.result =
+    let at_get : Coded (words c.args.signature.now) site c.get-w.result =
     let p = c.requires in coded p.under p.room.0 p.room.1 p.room.2 c.get-w.ensures.is in
     let r = c.in_default.in_default-own.rest in
     rw (c.refused_action.ensures, c.stopped.ensures)

@@ -20,9 +20,8 @@ overflow_mul-bound c =
 
 pub copy-requires : goal.copy-requires
 copy-requires c =
-    let output : List ℕ =
-    words c.args.output.now in
-    let at_put : Fronted (output) (c.args.header ∷ []) (words c.put.new.s) =
+    let output : List ℕ = words c.args.output.now in
+    let at_put : Fronted output (c.args.header ∷ []) (words c.put.new.s) =
     fronted c.args.header c.put.ensures (length_words_kept _ _ c.put.auto.s) (omega (arith, c.requires.room)) in
     let f = c.requires in
     (omega (arith, at_put.size, f.room), f.atoms)
@@ -35,14 +34,12 @@ overflow_add-atoms c =
 
 pub copy-requires-2 : goal.copy-requires-2
 copy-requires-2 c =
-    let output : List ℕ =
-    words c.args.output.now in
-    let atoms : List ℕ =
-    part (words c.args.scratch.now) c.args.body.at c.args.body.words in
-    let at_put : Fronted (output) (c.args.header ∷ []) (words c.put.new.s) =
+    let output : List ℕ = words c.args.output.now in
+    let atoms : List ℕ = part (words c.args.scratch.now) c.args.body.at c.args.body.words in
+    let at_put : Fronted output (c.args.header ∷ []) (words c.put.new.s) =
     fronted c.args.header c.put.ensures (length_words_kept _ _ c.put.auto.s) (omega (arith, c.requires.room)) in
-    let at_copy : Fronted (output) (c.args.header ∷ atoms) (words c.copy.new.out) =
-    fronted_then (at_put) 1 (atoms) c.copy.ensures refl (length_words_kept _ _ c.copy.auto.out) in
+    let at_copy : Fronted output (c.args.header ∷ atoms) (words c.copy.new.out) =
+    fronted_then at_put 1 atoms c.copy.ensures refl (length_words_kept _ _ c.copy.auto.out) in
     let f = c.requires in
     (omega (arith, at_copy.size, f.room), f.binds)
 
@@ -60,47 +57,37 @@ overflow_add-atoms-3 c =
 
 pub copy-requires-3 : goal.copy-requires-3
 copy-requires-3 c =
-    let output : List ℕ =
-    words c.args.output.now in
-    let atoms : List ℕ =
-    part (words c.args.scratch.now) c.args.body.at c.args.body.words in
-    let bindings : List ℕ =
-    part (words c.args.scratch.now) c.args.body.binds (bound_size * c.args.body.replacements) in
-    let at_put : Fronted (output) (c.args.header ∷ []) (words c.put.new.s) =
+    let output : List ℕ = words c.args.output.now in
+    let atoms : List ℕ = part (words c.args.scratch.now) c.args.body.at c.args.body.words in
+    let bindings : List ℕ = part (words c.args.scratch.now) c.args.body.binds (bound_size * c.args.body.replacements) in
+    let at_put : Fronted output (c.args.header ∷ []) (words c.put.new.s) =
     fronted c.args.header c.put.ensures (length_words_kept _ _ c.put.auto.s) (omega (arith, c.requires.room)) in
-    let at_copy : Fronted (output) (c.args.header ∷ atoms) (words c.copy.new.out) =
-    fronted_then (at_put) 1 (atoms) c.copy.ensures refl (length_words_kept _ _ c.copy.auto.out) in
-    let atoms_size : length (atoms) ≡ c.args.body.words =
-    length_part _ _ _ c.requires.atoms in
-    let at_copy2 : Fronted (output) ((c.args.header ∷ atoms) ++ bindings) (words c.copy-2.new.out) =
-    fronted_then (at_copy) (1 + c.args.body.words) (bindings) c.copy-2.ensures (omega (arith, atoms_size))
+    let at_copy : Fronted output (c.args.header ∷ atoms) (words c.copy.new.out) =
+    fronted_then at_put 1 atoms c.copy.ensures refl (length_words_kept _ _ c.copy.auto.out) in
+    let atoms_size : length atoms ≡ c.args.body.words = length_part _ _ _ c.requires.atoms in
+    let at_copy2 : Fronted output ((c.args.header ∷ atoms) ++ bindings) (words c.copy-2.new.out) =
+    fronted_then at_copy (1 + c.args.body.words) bindings c.copy-2.ensures (omega (arith, atoms_size))
     (length_words_kept _ _ c.copy-2.auto.out) in
     let f = c.requires in
     (omega (arith, at_copy2.size, f.room), f.actions)
 
 pub returns : goal.returns
 returns c =
-    let output : List ℕ =
-    words c.args.output.now in
-    let atoms : List ℕ =
-    part (words c.args.scratch.now) c.args.body.at c.args.body.words in
-    let bindings : List ℕ =
-    part (words c.args.scratch.now) c.args.body.binds (bound_size * c.args.body.replacements) in
-    let actions : List ℕ =
-    part (words c.args.source.now) c.args.from c.args.rest in
-    let at_put : Fronted (output) (c.args.header ∷ []) (words c.put.new.s) =
+    let output : List ℕ = words c.args.output.now in
+    let atoms : List ℕ = part (words c.args.scratch.now) c.args.body.at c.args.body.words in
+    let bindings : List ℕ = part (words c.args.scratch.now) c.args.body.binds (bound_size * c.args.body.replacements) in
+    let actions : List ℕ = part (words c.args.source.now) c.args.from c.args.rest in
+    let at_put : Fronted output (c.args.header ∷ []) (words c.put.new.s) =
     fronted c.args.header c.put.ensures (length_words_kept _ _ c.put.auto.s) (omega (arith, c.requires.room)) in
-    let at_copy : Fronted (output) (c.args.header ∷ atoms) (words c.copy.new.out) =
-    fronted_then (at_put) 1 (atoms) c.copy.ensures refl (length_words_kept _ _ c.copy.auto.out) in
-    let atoms_size : length (atoms) ≡ c.args.body.words =
-    length_part _ _ _ c.requires.atoms in
-    let at_copy2 : Fronted (output) ((c.args.header ∷ atoms) ++ bindings) (words c.copy-2.new.out) =
-    fronted_then (at_copy) (1 + c.args.body.words) (bindings) c.copy-2.ensures (omega (arith, atoms_size))
+    let at_copy : Fronted output (c.args.header ∷ atoms) (words c.copy.new.out) =
+    fronted_then at_put 1 atoms c.copy.ensures refl (length_words_kept _ _ c.copy.auto.out) in
+    let atoms_size : length atoms ≡ c.args.body.words = length_part _ _ _ c.requires.atoms in
+    let at_copy2 : Fronted output ((c.args.header ∷ atoms) ++ bindings) (words c.copy-2.new.out) =
+    fronted_then at_copy (1 + c.args.body.words) bindings c.copy-2.ensures (omega (arith, atoms_size))
     (length_words_kept _ _ c.copy-2.auto.out) in
-    let bindings_size : length (bindings) ≡ bound_size * c.args.body.replacements =
-    length_part _ _ _ c.requires.binds in
-    let at_copy3 : Fronted (output) (((c.args.header ∷ atoms) ++ bindings) ++ actions) (words c.copy-3.new.out) =
+    let bindings_size : length bindings ≡ bound_size * c.args.body.replacements = length_part _ _ _ c.requires.binds in
+    let at_copy3 : Fronted output (((c.args.header ∷ atoms) ++ bindings) ++ actions) (words c.copy-3.new.out) =
     let b = c.args.body in
-    fronted_then (at_copy2) (1 + b.words + bound_size * b.replacements) (actions) c.copy-3.ensures
-    (omega (arith, atoms_size, bindings_size, length-append (atoms) (bindings))) (length_words_kept _ _ c.copy-3.auto.out) in
+    fronted_then at_copy2 (1 + b.words + bound_size * b.replacements) actions c.copy-3.ensures
+    (omega (arith, atoms_size, bindings_size, length-append atoms bindings)) (length_words_kept _ _ c.copy-3.auto.out) in
     at_copy3.is

@@ -14,32 +14,27 @@ returns-in_default c =
 
 pub returns-then-heads-number : goal.returns-then-heads-number
 returns-then-heads-number c =
-    let at_first : (let a = c.args in AtomAt (words a.rule.now) a.at c.in-Atom.atom) =
-    atom_there c.first_at-first.ensures c.in-Atom.is in
+    let at_first : (let a = c.args in AtomAt (words a.rule.now) a.at c.in-Atom.atom) = atom_there c.first_at-first.ensures c.in-Atom.is in
     head_refused c.args.heads at_first c.in-Head.is c.if-heads-number.true
 
 pub returns-then-count-eq0 : goal.returns-then-count-eq0
 returns-then-count-eq0 c =
-    let at_first : (let a = c.args in AtomAt (words a.rule.now) a.at c.in-Atom.atom) =
-    atom_there c.first_at-first.ensures c.in-Atom.is in
+    let at_first : (let a = c.args in AtomAt (words a.rule.now) a.at c.in-Atom.atom) = atom_there c.first_at-first.ensures c.in-Atom.is in
     empty_refused c.args.heads at_first c.in-Head.is (omega arith) c.if-count-eq0.true
 
 -- ---- its terms
 
 pub returns-then-count-eq2 : goal.returns-then-count-eq2
 returns-then-count-eq2 c =
-    let at_first : (let a = c.args in AtomAt (words a.rule.now) a.at c.in-Atom.atom) =
-    atom_there c.first_at-first.ensures c.in-Atom.is in
+    let at_first : (let a = c.args in AtomAt (words a.rule.now) a.at c.in-Atom.atom) = atom_there c.first_at-first.ensures c.in-Atom.is in
     c.terms.ensures ∙ pair_goes c.args.heads at_first c.in-Eq.is c.if-count-eq2.true
 
 pub returns-else-count-eq2 : goal.returns-else-count-eq2
 returns-else-count-eq2 c =
-    let at_first : (let a = c.args in AtomAt (words a.rule.now) a.at c.in-Atom.atom) =
-    atom_there c.first_at-first.ensures c.in-Atom.is in
+    let at_first : (let a = c.args in AtomAt (words a.rule.now) a.at c.in-Atom.atom) = atom_there c.first_at-first.ensures c.in-Atom.is in
     odd_refused c.args.heads at_first c.in-Eq.is c.if-count-eq2.false
 
 pub returns-else-count-eq0 : goal.returns-else-count-eq0
 returns-else-count-eq0 c =
-    let at_first : (let a = c.args in AtomAt (words a.rule.now) a.at c.in-Atom.atom) =
-    atom_there c.first_at-first.ensures c.in-Atom.is in
+    let at_first : (let a = c.args in AtomAt (words a.rule.now) a.at c.in-Atom.atom) = atom_there c.first_at-first.ensures c.in-Atom.is in
     c.terms-in-Head.ensures ∙ table_goes c.args.heads at_first c.in-Head.is (omega arith) c.if-count-eq0.false

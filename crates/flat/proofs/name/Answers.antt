@@ -17,12 +17,10 @@ returns-in_default c = kind_refused is_name_word 1 name_kind (not_kind c.word_at
 
 pub overflow_add-result : goal.overflow_add-result
 overflow_add-result c =
-    let at_word : (let a = c.args in There (words a.rule.now) a.at (Name c.in-Name.field-0)) =
-    there c.word_at-w.ensures c.in-Name.is (lit< tt) in
+    let at_word : (let a = c.args in There (words a.rule.now) a.at (Name c.in-Name.field-0)) = there c.word_at-w.ensures c.in-Name.is (lit< tt) in
     omega (arith, at_word.inside, length_words c.args.rule.now)
 
 pub returns : goal.returns
 returns c =
-    let at_word : (let a = c.args in There (words a.rule.now) a.at (Name c.in-Name.field-0)) =
-    there c.word_at-w.ensures c.in-Name.is (lit< tt) in
+    let at_word : (let a = c.args in There (words a.rule.now) a.at (Name c.in-Name.field-0)) = there c.word_at-w.ensures c.in-Name.is (lit< tt) in
     kind_taken is_name_word 1 name_kind at_word refl

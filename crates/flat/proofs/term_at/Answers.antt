@@ -21,16 +21,13 @@ returns-then-count-at c = let a = c.args in no_word (with_globals a.heads a.glob
 
 pub overflow_sub-head : goal.overflow_sub-head
 overflow_sub-head c =
-    let fresh_range : fresh_base ≤ c.get-w.result =
-    (kind_range 0 31 c.get-w.result refl c.get-w.ensures.fits c.in-0.is).0 in
+    let fresh_range : fresh_base ≤ c.get-w.result = (kind_range 0 31 c.get-w.result refl c.get-w.ensures.fits c.in-0.is).0 in
     fresh_range
 
 pub returns-then-head-heads : goal.returns-then-head-heads
 returns-then-head-heads c =
-    let fresh_range : fresh_base ≤ c.get-w.result =
-    (kind_range 0 31 c.get-w.result refl c.get-w.ensures.fits c.in-0.is).0 in
-    let at_get : Here (words c.args.rule.now) c.args.at c.get-w.result =
-    record { inside = omega arith; is = c.get-w.ensures.is } in
+    let fresh_range : fresh_base ≤ c.get-w.result = (kind_range 0 31 c.get-w.result refl c.get-w.ensures.fits c.in-0.is).0 in
+    let at_get : Here (words c.args.rule.now) c.args.at c.get-w.result = record { inside = omega arith; is = c.get-w.ensures.is } in
     let w = c.get-w.result in
     let a = c.args in
     let r = fresh_range in
@@ -38,12 +35,10 @@ returns-then-head-heads c =
 
 pub returns-else-head-heads : goal.returns-else-head-heads
 returns-else-head-heads c =
-    let at_get : Here (words c.args.rule.now) c.args.at c.get-w.result =
-    record { inside = omega arith; is = c.get-w.ensures.is } in
+    let at_get : Here (words c.args.rule.now) c.args.at c.get-w.result = record { inside = omega arith; is = c.get-w.ensures.is } in
     let none_at : (let a = c.args in is_term (with_heads a.heads) c.get-w.result ≡ false → taken_says Taken.Nothing a.at ≡ term_at (with_globals a.heads a.globals) (words a.rule.now) a.at) =
-    let a = c.args in term_none a.heads a.globals (at_get) in
-    let fresh_range : fresh_base ≤ c.get-w.result =
-    (kind_range 0 31 c.get-w.result refl c.get-w.ensures.fits c.in-0.is).0 in
+    let a = c.args in term_none a.heads a.globals at_get in
+    let fresh_range : fresh_base ≤ c.get-w.result = (kind_range 0 31 c.get-w.result refl c.get-w.ensures.fits c.in-0.is).0 in
     none_at (sym (fresh_term c.args.heads c.get-w.result fresh_range) ∙ c.if-head-heads.false)
 
 pub overflow_sub-w : goal.overflow_sub-w
@@ -56,8 +51,7 @@ pub returns-then-w-lt-LIMIT_12 : goal.returns-then-w-lt-LIMIT_12
 returns-then-w-lt-LIMIT_12 c =
     let name_range : (let w = c.get-w.result in (name_base ≤ w) × (w < fresh_base)) =
     kind_range 1 30 c.get-w.result refl c.get-w.ensures.fits c.in-1.is in
-    let at_get : Here (words c.args.rule.now) c.args.at c.get-w.result =
-    record { inside = omega arith; is = c.get-w.ensures.is } in
+    let at_get : Here (words c.args.rule.now) c.args.at c.get-w.result = record { inside = omega arith; is = c.get-w.ensures.is } in
     let a = c.args in
     let r = name_range in
     term_fits a.heads a.globals at_get (name_fits a.heads c.get-w.result r.0 (omega (arith, c.if-w-lt-LIMIT_12.true))) c.term_of.ensures
@@ -66,10 +60,9 @@ pub returns-else-w-lt-LIMIT_12 : goal.returns-else-w-lt-LIMIT_12
 returns-else-w-lt-LIMIT_12 c =
     let name_range : (let w = c.get-w.result in (name_base ≤ w) × (w < fresh_base)) =
     kind_range 1 30 c.get-w.result refl c.get-w.ensures.fits c.in-1.is in
-    let at_get : Here (words c.args.rule.now) c.args.at c.get-w.result =
-    record { inside = omega arith; is = c.get-w.ensures.is } in
+    let at_get : Here (words c.args.rule.now) c.args.at c.get-w.result = record { inside = omega arith; is = c.get-w.ensures.is } in
     let none_at : (let a = c.args in is_term (with_heads a.heads) c.get-w.result ≡ false → taken_says Taken.Nothing a.at ≡ term_at (with_globals a.heads a.globals) (words a.rule.now) a.at) =
-    let a = c.args in term_none a.heads a.globals (at_get) in
+    let a = c.args in term_none a.heads a.globals at_get in
     let w = c.get-w.result in
     let r = name_range in
     none_at (none_fits c.args.heads w r.1 (false_above name_base limit12 w (omega arith)) (false_above literal_base limit16 w (omega arith)))
@@ -84,8 +77,7 @@ pub returns-then-w-lt-LIMIT_16 : goal.returns-then-w-lt-LIMIT_16
 returns-then-w-lt-LIMIT_16 c =
     let literal_range : (let w = c.get-w.result in (literal_base ≤ w) × (w < name_base)) =
     kind_range 2 29 c.get-w.result refl c.get-w.ensures.fits c.in-2.is in
-    let at_get : Here (words c.args.rule.now) c.args.at c.get-w.result =
-    record { inside = omega arith; is = c.get-w.ensures.is } in
+    let at_get : Here (words c.args.rule.now) c.args.at c.get-w.result = record { inside = omega arith; is = c.get-w.ensures.is } in
     let w = c.get-w.result in
     let a = c.args in
     let r = literal_range in
@@ -95,10 +87,9 @@ pub returns-else-w-lt-LIMIT_16 : goal.returns-else-w-lt-LIMIT_16
 returns-else-w-lt-LIMIT_16 c =
     let literal_range : (let w = c.get-w.result in (literal_base ≤ w) × (w < name_base)) =
     kind_range 2 29 c.get-w.result refl c.get-w.ensures.fits c.in-2.is in
-    let at_get : Here (words c.args.rule.now) c.args.at c.get-w.result =
-    record { inside = omega arith; is = c.get-w.ensures.is } in
+    let at_get : Here (words c.args.rule.now) c.args.at c.get-w.result = record { inside = omega arith; is = c.get-w.ensures.is } in
     let none_at : (let a = c.args in is_term (with_heads a.heads) c.get-w.result ≡ false → taken_says Taken.Nothing a.at ≡ term_at (with_globals a.heads a.globals) (words a.rule.now) a.at) =
-    let a = c.args in term_none a.heads a.globals (at_get) in
+    let a = c.args in term_none a.heads a.globals at_get in
     let w = c.get-w.result in
     let r = literal_range in
     none_at (none_fits c.args.heads w (omega arith) (false_below name_base limit12 w r.1) (false_above literal_base limit16 w (omega arith)))
@@ -106,10 +97,9 @@ returns-else-w-lt-LIMIT_16 c =
 -- another kind
 pub returns-in_default : goal.returns-in_default
 returns-in_default c =
-    let at_get : Here (words c.args.rule.now) c.args.at c.get-w.result =
-    record { inside = omega arith; is = c.get-w.ensures.is } in
+    let at_get : Here (words c.args.rule.now) c.args.at c.get-w.result = record { inside = omega arith; is = c.get-w.ensures.is } in
     let none_at : (let a = c.args in is_term (with_heads a.heads) c.get-w.result ≡ false → taken_says Taken.Nothing a.at ≡ term_at (with_globals a.heads a.globals) (words a.rule.now) a.at) =
-    let a = c.args in term_none a.heads a.globals (at_get) in
+    let a = c.args in term_none a.heads a.globals at_get in
     let w = c.get-w.result in
     let r = c.in_default.in_default-own.rest in
     let low : w < literal_base = kind_from 3 29 w refl c.get-w.ensures.fits (past (past (past zero-le r.0.0.1) r.0.1) r.1) in

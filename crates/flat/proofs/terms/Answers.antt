@@ -19,8 +19,7 @@ pub returns-in_default : goal.returns-in_default
 returns-in_default c =
     let s : Sig =
     let a = c.args in with_globals a.heads a.globals in
-    let ws : List ℕ =
-    words c.args.rule.now in
+    let ws : List ℕ = words c.args.rule.now in
     left_stops c.loop-left.invariant (omega arith) (term_refused s ws c.loop-left.next c.term_at-taken.ensures c.in_default.is) (λ z. omega arith)
 
 -- it is one
@@ -28,8 +27,7 @@ pub overflow_add-next : goal.overflow_add-next
 overflow_add-next c =
     let s : Sig =
     let a = c.args in with_globals a.heads a.globals in
-    let ws : List ℕ =
-    words c.args.rule.now in
+    let ws : List ℕ = words c.args.rule.now in
     let here = term_inside s ws c.loop-left.next c.term_at-taken.ensures c.in-Term.is in
     omega (arith, length_words c.args.rule.now)
 
@@ -37,8 +35,7 @@ pub loop-left-preserved : goal.loop-left-preserved
 loop-left-preserved c =
     let s : Sig =
     let a = c.args in with_globals a.heads a.globals in
-    let ws : List ℕ =
-    words c.args.rule.now in
+    let ws : List ℕ = words c.args.rule.now in
     left_next c.loop-left.invariant (omega arith) (term_taken s ws c.loop-left.next c.term_at-taken.ensures c.in-Term.is) refl
 
 -- ---- none is left

@@ -12,7 +12,7 @@ pub overflow_add-scope : goal.overflow_add-scope
 overflow_add-scope c =
     let site : Site =
     let a = c.args in site_of (words a.rule.now) (words a.scratch.now) (words a.counters.now) a.at a.to a.sp a.log a.scope in
-    let at_start : Begun (site) (Row (site) max_depth c.args.n) =
+    let at_start : Begun site (Row site max_depth c.args.n) =
     let q = c.requires.under in
     begun (record { sig = q.sig; known = (record { exprs = q.known.0 }, q.known.1, q.known.2) }) c.requires.room.0 c.requires.room.1
     (omega (arith, length_words c.args.rule.now, c.well_formed)) (omega (arith, length_words c.args.scratch.now, c.well_formed)) in
@@ -22,58 +22,58 @@ pub leaves-k-requires : goal.leaves-k-requires
 leaves-k-requires c =
     let site : Site =
     let a = c.args in site_of (words a.rule.now) (words a.scratch.now) (words a.counters.now) a.at a.to a.sp a.log a.scope in
-    let at_start : Begun (site) (Row (site) max_depth c.args.n) =
+    let at_start : Begun site (Row site max_depth c.args.n) =
     let q = c.requires.under in
     begun (record { sig = q.sig; known = (record { exprs = q.known.0 }, q.known.1, q.known.2) }) c.requires.room.0 c.requires.room.1
     (omega (arith, length_words c.args.rule.now, c.well_formed)) (omega (arith, length_words c.args.scratch.now, c.well_formed)) in
-    front_room (at_start)
+    front_room at_start
 
 pub overflow_add-at : goal.overflow_add-at
 overflow_add-at c =
     let site : Site =
     let a = c.args in site_of (words a.rule.now) (words a.scratch.now) (words a.counters.now) a.at a.to a.sp a.log a.scope in
-    let at_start : Begun (site) (Row (site) max_depth c.args.n) =
+    let at_start : Begun site (Row site max_depth c.args.n) =
     let q = c.requires.under in
     begun (record { sig = q.sig; known = (record { exprs = q.known.0 }, q.known.1, q.known.2) }) c.requires.room.0 c.requires.room.1
     (omega (arith, length_words c.args.rule.now, c.well_formed)) (omega (arith, length_words c.args.scratch.now, c.well_formed)) in
-    let at_leaves : Stacked (at_start) c.leaves-k.result (words c.leaves-k.new.scratch) =
-    stacked (at_start) (length_words_kept _ _ c.leaves-k.auto.scratch) c.leaves-k.ensures in
+    let at_leaves : Stacked at_start c.leaves-k.result (words c.leaves-k.new.scratch) =
+    stacked at_start (length_words_kept _ _ c.leaves-k.auto.scratch) c.leaves-k.ensures in
     omega (arith, at_start, at_leaves)
 
 pub overflow_sub-n : goal.overflow_sub-n
 overflow_sub-n c =
     let site : Site =
     let a = c.args in site_of (words a.rule.now) (words a.scratch.now) (words a.counters.now) a.at a.to a.sp a.log a.scope in
-    let at_start : Begun (site) (Row (site) max_depth c.args.n) =
+    let at_start : Begun site (Row site max_depth c.args.n) =
     let q = c.requires.under in
     begun (record { sig = q.sig; known = (record { exprs = q.known.0 }, q.known.1, q.known.2) }) c.requires.room.0 c.requires.room.1
     (omega (arith, length_words c.args.rule.now, c.well_formed)) (omega (arith, length_words c.args.scratch.now, c.well_formed)) in
-    let at_leaves : Stacked (at_start) c.leaves-k.result (words c.leaves-k.new.scratch) =
-    stacked (at_start) (length_words_kept _ _ c.leaves-k.auto.scratch) c.leaves-k.ensures in
+    let at_leaves : Stacked at_start c.leaves-k.result (words c.leaves-k.new.scratch) =
+    stacked at_start (length_words_kept _ _ c.leaves-k.auto.scratch) c.leaves-k.ensures in
     at_leaves.most
 
 pub overflow_add-sp : goal.overflow_add-sp
 overflow_add-sp c =
     let site : Site =
     let a = c.args in site_of (words a.rule.now) (words a.scratch.now) (words a.counters.now) a.at a.to a.sp a.log a.scope in
-    let at_start : Begun (site) (Row (site) max_depth c.args.n) =
+    let at_start : Begun site (Row site max_depth c.args.n) =
     let q = c.requires.under in
     begun (record { sig = q.sig; known = (record { exprs = q.known.0 }, q.known.1, q.known.2) }) c.requires.room.0 c.requires.room.1
     (omega (arith, length_words c.args.rule.now, c.well_formed)) (omega (arith, length_words c.args.scratch.now, c.well_formed)) in
-    let at_leaves : Stacked (at_start) c.leaves-k.result (words c.leaves-k.new.scratch) =
-    stacked (at_start) (length_words_kept _ _ c.leaves-k.auto.scratch) c.leaves-k.ensures in
+    let at_leaves : Stacked at_start c.leaves-k.result (words c.leaves-k.new.scratch) =
+    stacked at_start (length_words_kept _ _ c.leaves-k.auto.scratch) c.leaves-k.ensures in
     omega (arith, at_start, at_leaves)
 
 pub lower_all-requires : goal.lower_all-requires
 lower_all-requires c =
     let site : Site =
     let a = c.args in site_of (words a.rule.now) (words a.scratch.now) (words a.counters.now) a.at a.to a.sp a.log a.scope in
-    let at_start : Begun (site) (Row (site) max_depth c.args.n) =
+    let at_start : Begun site (Row site max_depth c.args.n) =
     let q = c.requires.under in
     begun (record { sig = q.sig; known = (record { exprs = q.known.0 }, q.known.1, q.known.2) }) c.requires.room.0 c.requires.room.1
     (omega (arith, length_words c.args.rule.now, c.well_formed)) (omega (arith, length_words c.args.scratch.now, c.well_formed)) in
-    let at_leaves : Stacked (at_start) c.leaves-k.result (words c.leaves-k.new.scratch) =
-    stacked (at_start) (length_words_kept _ _ c.leaves-k.auto.scratch) c.leaves-k.ensures in
+    let at_leaves : Stacked at_start c.leaves-k.result (words c.leaves-k.new.scratch) =
+    stacked at_start (length_words_kept _ _ c.leaves-k.auto.scratch) c.leaves-k.ensures in
     let h = rest_asks at_leaves in
     record { under = h.0; room = h.1 }
 
@@ -81,10 +81,10 @@ pub returns : goal.returns
 returns c =
     let site : Site =
     let a = c.args in site_of (words a.rule.now) (words a.scratch.now) (words a.counters.now) a.at a.to a.sp a.log a.scope in
-    let at_start : Begun (site) (Row (site) max_depth c.args.n) =
+    let at_start : Begun site (Row site max_depth c.args.n) =
     let q = c.requires.under in
     begun (record { sig = q.sig; known = (record { exprs = q.known.0 }, q.known.1, q.known.2) }) c.requires.room.0 c.requires.room.1
     (omega (arith, length_words c.args.rule.now, c.well_formed)) (omega (arith, length_words c.args.scratch.now, c.well_formed)) in
-    let at_leaves : Stacked (at_start) c.leaves-k.result (words c.leaves-k.new.scratch) =
-    stacked (at_start) (length_words_kept _ _ c.leaves-k.auto.scratch) c.leaves-k.ensures in
+    let at_leaves : Stacked at_start c.leaves-k.result (words c.leaves-k.new.scratch) =
+    stacked at_start (length_words_kept _ _ c.leaves-k.auto.scratch) c.leaves-k.ensures in
     λ sig x bound n sc. row_walked at_leaves c.lower_all.ensures (tree sig (record { exprs = x }) bound n sc)

@@ -28,8 +28,8 @@ overflow_mul-n c =
     let at_core : (let k = c.to_core_rule-core in Laid c.requires (words k.new.scratch) (words k.new.counters) k.result) =
     let k = c.to_core_rule-core in
     laid c.requires (length_words_kept _ _ k.auto.scratch) k.ensures c.if-core-ne0.false in
-    let at_settle : Done (at_core) c.count-n.result (words c.settle-body.new.s) c.settle-body.result =
-    is_done (at_core) c.count-n.ensures c.settle-body.ensures in
+    let at_settle : Done at_core c.count-n.result (words c.settle-body.new.s) c.settle-body.result =
+    is_done at_core c.count-n.ensures c.settle-body.ensures in
     omega (arith, at_settle.fits)
 
 pub finish-needed-requires : goal.finish-needed-requires
@@ -37,17 +37,17 @@ finish-needed-requires c =
     let at_core : (let k = c.to_core_rule-core in Laid c.requires (words k.new.scratch) (words k.new.counters) k.result) =
     let k = c.to_core_rule-core in
     laid c.requires (length_words_kept _ _ k.auto.scratch) k.ensures c.if-core-ne0.false in
-    let at_settle : Done (at_core) c.count-n.result (words c.settle-body.new.s) c.settle-body.result =
-    is_done (at_core) c.count-n.ensures c.settle-body.ensures in
-    stands (at_settle)
+    let at_settle : Done at_core c.count-n.result (words c.settle-body.new.s) c.settle-body.result =
+    is_done at_core c.count-n.ensures c.settle-body.ensures in
+    stands at_settle
 
 pub overflow_mul-n-then-count-needed : goal.overflow_mul-n-then-count-needed
 overflow_mul-n-then-count-needed c =
     let at_core : (let k = c.to_core_rule-core in Laid c.requires (words k.new.scratch) (words k.new.counters) k.result) =
     let k = c.to_core_rule-core in
     laid c.requires (length_words_kept _ _ k.auto.scratch) k.ensures c.if-core-ne0.false in
-    let at_settle : Done (at_core) c.count-n.result (words c.settle-body.new.s) c.settle-body.result =
-    is_done (at_core) c.count-n.ensures c.settle-body.ensures in
+    let at_settle : Done at_core c.count-n.result (words c.settle-body.new.s) c.settle-body.result =
+    is_done at_core c.count-n.ensures c.settle-body.ensures in
     omega (arith, at_settle.fits)
 
 pub restore-requires : goal.restore-requires
@@ -55,8 +55,8 @@ restore-requires c =
     let at_core : (let k = c.to_core_rule-core in Laid c.requires (words k.new.scratch) (words k.new.counters) k.result) =
     let k = c.to_core_rule-core in
     laid c.requires (length_words_kept _ _ k.auto.scratch) k.ensures c.if-core-ne0.false in
-    let at_settle : Done (at_core) c.count-n.result (words c.settle-body.new.s) c.settle-body.result =
-    is_done (at_core) c.count-n.ensures c.settle-body.ensures in
+    let at_settle : Done at_core c.count-n.result (words c.settle-body.new.s) c.settle-body.result =
+    is_done at_core c.count-n.ensures c.settle-body.ensures in
     at_settle.log
 
 pub shape_of-counters-then-count-needed : goal.shape_of-counters-then-count-needed
@@ -68,8 +68,8 @@ returns-then-count-needed c =
     let at_core : (let k = c.to_core_rule-core in Laid c.requires (words k.new.scratch) (words k.new.counters) k.result) =
     let k = c.to_core_rule-core in
     laid c.requires (length_words_kept _ _ k.auto.scratch) k.ensures c.if-core-ne0.false in
-    let at_settle : Done (at_core) c.count-n.result (words c.settle-body.new.s) c.settle-body.result =
-    is_done (at_core) c.count-n.ensures c.settle-body.ensures in
+    let at_settle : Done at_core c.count-n.result (words c.settle-body.new.s) c.settle-body.result =
+    is_done at_core c.count-n.ensures c.settle-body.ensures in
     let f = c.finish-needed in
     ends_short at_settle f.ensures c.count.ensures f.auto.output c.if-count-needed.true c.restore.ensures c.accepted-lowered.ensures
 
@@ -78,7 +78,7 @@ returns c =
     let at_core : (let k = c.to_core_rule-core in Laid c.requires (words k.new.scratch) (words k.new.counters) k.result) =
     let k = c.to_core_rule-core in
     laid c.requires (length_words_kept _ _ k.auto.scratch) k.ensures c.if-core-ne0.false in
-    let at_settle : Done (at_core) c.count-n.result (words c.settle-body.new.s) c.settle-body.result =
-    is_done (at_core) c.count-n.ensures c.settle-body.ensures in
+    let at_settle : Done at_core c.count-n.result (words c.settle-body.new.s) c.settle-body.result =
+    is_done at_core c.count-n.ensures c.settle-body.ensures in
     let f = c.finish-needed in
     ends_good at_settle f.ensures c.count.ensures f.auto.output c.if-count-needed.false c.accepted-lowered.ensures

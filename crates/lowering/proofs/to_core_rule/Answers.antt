@@ -13,106 +13,73 @@ use Rattle.lowering.proofs.to_core_rule.Goals as goal
 
 pub overflow_mul-log : goal.overflow_mul-log
 overflow_mul-log c =
-    let gs : List ℕ =
-    words c.args.signature.now in
-    let ws : List ℕ =
-    words c.args.rule.now in
-    let cs : List ℕ =
-    words c.args.counters.now in
-    let s : List ℕ =
-    words c.args.scratch.now in
-    let Begun-at : ℕ → ℕ → Type 0 =
-    λ n w. Begun (gs) (ws) (cs) (s) n w in
-    let at_count : Begun-at c.count-n.result (get_or (ws) 0 0) =
+    let gs : List ℕ = words c.args.signature.now in
+    let ws : List ℕ = words c.args.rule.now in
+    let cs : List ℕ = words c.args.counters.now in
+    let s : List ℕ = words c.args.scratch.now in
+    let Begun-at : ℕ → ℕ → Type 0 = λ n w. Begun gs ws cs s n w in
+    let at_count : Begun-at c.count-n.result (get_or ws 0 0) =
     begun c.requires (omega (arith, length_words c.args.scratch.now, c.well_formed)) c.count-n.ensures in
     omega (arith, at_count)
 
 pub get-counts-requires : goal.get-counts-requires
 get-counts-requires c =
-    let gs : List ℕ =
-    words c.args.signature.now in
-    let ws : List ℕ =
-    words c.args.rule.now in
-    let cs : List ℕ =
-    words c.args.counters.now in
-    let s : List ℕ =
-    words c.args.scratch.now in
-    let Begun-at : ℕ → ℕ → Type 0 =
-    λ n w. Begun (gs) (ws) (cs) (s) n w in
-    let at_count : Begun-at c.count-n.result (get_or (ws) 0 0) =
+    let gs : List ℕ = words c.args.signature.now in
+    let ws : List ℕ = words c.args.rule.now in
+    let cs : List ℕ = words c.args.counters.now in
+    let s : List ℕ = words c.args.scratch.now in
+    let Begun-at : ℕ → ℕ → Type 0 = λ n w. Begun gs ws cs s n w in
+    let at_count : Begun-at c.count-n.result (get_or ws 0 0) =
     begun c.requires (omega (arith, length_words c.args.scratch.now, c.well_formed)) c.count-n.ensures in
     at_count.read.some
 
 pub overflow_sub-counts : goal.overflow_sub-counts
 overflow_sub-counts c =
-    let gs : List ℕ =
-    words c.args.signature.now in
-    let ws : List ℕ =
-    words c.args.rule.now in
-    let cs : List ℕ =
-    words c.args.counters.now in
-    let s : List ℕ =
-    words c.args.scratch.now in
-    let Begun-at : ℕ → ℕ → Type 0 =
-    λ n w. Begun (gs) (ws) (cs) (s) n w in
-    let at_count : Begun-at c.count-n.result (get_or (ws) 0 0) =
+    let gs : List ℕ = words c.args.signature.now in
+    let ws : List ℕ = words c.args.rule.now in
+    let cs : List ℕ = words c.args.counters.now in
+    let s : List ℕ = words c.args.scratch.now in
+    let Begun-at : ℕ → ℕ → Type 0 = λ n w. Begun gs ws cs s n w in
+    let at_count : Begun-at c.count-n.result (get_or ws 0 0) =
     begun c.requires (omega (arith, length_words c.args.scratch.now, c.well_formed)) c.count-n.ensures in
-    let at_get : Begun-at c.count-n.result c.get-counts.result =
-    rw c.get-counts.ensures.is (at_count) in
+    let at_get : Begun-at c.count-n.result c.get-counts.result = rw c.get-counts.ensures.is at_count in
     at_get.read.header
 
 pub overflow_mul-stack : goal.overflow_mul-stack
 overflow_mul-stack c =
-    let gs : List ℕ =
-    words c.args.signature.now in
-    let ws : List ℕ =
-    words c.args.rule.now in
-    let cs : List ℕ =
-    words c.args.counters.now in
-    let s : List ℕ =
-    words c.args.scratch.now in
-    let Begun-at : ℕ → ℕ → Type 0 =
-    λ n w. Begun (gs) (ws) (cs) (s) n w in
-    let at_count : Begun-at c.count-n.result (get_or (ws) 0 0) =
+    let gs : List ℕ = words c.args.signature.now in
+    let ws : List ℕ = words c.args.rule.now in
+    let cs : List ℕ = words c.args.counters.now in
+    let s : List ℕ = words c.args.scratch.now in
+    let Begun-at : ℕ → ℕ → Type 0 = λ n w. Begun gs ws cs s n w in
+    let at_count : Begun-at c.count-n.result (get_or ws 0 0) =
     begun c.requires (omega (arith, length_words c.args.scratch.now, c.well_formed)) c.count-n.ensures in
     omega (arith, at_count)
 
 pub to_query-body-requires : goal.to_query-body-requires
 to_query-body-requires c =
-    let gs : List ℕ =
-    words c.args.signature.now in
-    let ws : List ℕ =
-    words c.args.rule.now in
-    let cs : List ℕ =
-    words c.args.counters.now in
-    let s : List ℕ =
-    words c.args.scratch.now in
-    let Begun-at : ℕ → ℕ → Type 0 =
-    λ n w. Begun (gs) (ws) (cs) (s) n w in
-    let at_count : Begun-at c.count-n.result (get_or (ws) 0 0) =
+    let gs : List ℕ = words c.args.signature.now in
+    let ws : List ℕ = words c.args.rule.now in
+    let cs : List ℕ = words c.args.counters.now in
+    let s : List ℕ = words c.args.scratch.now in
+    let Begun-at : ℕ → ℕ → Type 0 = λ n w. Begun gs ws cs s n w in
+    let at_count : Begun-at c.count-n.result (get_or ws 0 0) =
     begun c.requires (omega (arith, length_words c.args.scratch.now, c.well_formed)) c.count-n.ensures in
-    let at_get : Begun-at c.count-n.result c.get-counts.result =
-    rw c.get-counts.ensures.is (at_count) in
+    let at_get : Begun-at c.count-n.result c.get-counts.result = rw c.get-counts.ensures.is at_count in
     let k = at_get in
     record { under = record { sig = k.good.sig; known = (k.read.facts, k.counted) }; room = body_room k }
 
 pub refuse-requires : goal.refuse-requires
 refuse-requires c =
-    let gs : List ℕ =
-    words c.args.signature.now in
-    let ws : List ℕ =
-    words c.args.rule.now in
-    let cs : List ℕ =
-    words c.args.counters.now in
-    let s : List ℕ =
-    words c.args.scratch.now in
-    let Begun-at : ℕ → ℕ → Type 0 =
-    λ n w. Begun (gs) (ws) (cs) (s) n w in
-    let at_count : Begun-at c.count-n.result (get_or (ws) 0 0) =
+    let gs : List ℕ = words c.args.signature.now in
+    let ws : List ℕ = words c.args.rule.now in
+    let cs : List ℕ = words c.args.counters.now in
+    let s : List ℕ = words c.args.scratch.now in
+    let Begun-at : ℕ → ℕ → Type 0 = λ n w. Begun gs ws cs s n w in
+    let at_count : Begun-at c.count-n.result (get_or ws 0 0) =
     begun c.requires (omega (arith, length_words c.args.scratch.now, c.well_formed)) c.count-n.ensures in
-    let at_get : Begun-at c.count-n.result c.get-counts.result =
-    rw c.get-counts.ensures.is (at_count) in
-    let at_query : (let q = c.to_query-body in Flattened (at_get) (words q.new.scratch) (words q.new.counters) q.result) =
+    let at_get : Begun-at c.count-n.result c.get-counts.result = rw c.get-counts.ensures.is at_count in
+    let at_query : (let q = c.to_query-body in Flattened at_get (words q.new.scratch) (words q.new.counters) q.result) =
     let k = at_get in
     let q = c.to_query-body in
     flattened (length_words_kept _ _ q.auto.scratch) (length_words_kept _ _ q.auto.counters) (q.ensures k.good.sig k.read.facts k.counted) in
@@ -123,21 +90,15 @@ shape_of-counters-then-body-ne0 c = c.refuse.auto.counters ∙ c.to_query-body.a
 
 pub returns-then-body-ne0 : goal.returns-then-body-ne0
 returns-then-body-ne0 c =
-    let gs : List ℕ =
-    words c.args.signature.now in
-    let ws : List ℕ =
-    words c.args.rule.now in
-    let cs : List ℕ =
-    words c.args.counters.now in
-    let s : List ℕ =
-    words c.args.scratch.now in
-    let Begun-at : ℕ → ℕ → Type 0 =
-    λ n w. Begun (gs) (ws) (cs) (s) n w in
-    let at_count : Begun-at c.count-n.result (get_or (ws) 0 0) =
+    let gs : List ℕ = words c.args.signature.now in
+    let ws : List ℕ = words c.args.rule.now in
+    let cs : List ℕ = words c.args.counters.now in
+    let s : List ℕ = words c.args.scratch.now in
+    let Begun-at : ℕ → ℕ → Type 0 = λ n w. Begun gs ws cs s n w in
+    let at_count : Begun-at c.count-n.result (get_or ws 0 0) =
     begun c.requires (omega (arith, length_words c.args.scratch.now, c.well_formed)) c.count-n.ensures in
-    let at_get : Begun-at c.count-n.result c.get-counts.result =
-    rw c.get-counts.ensures.is (at_count) in
-    let at_query : (let q = c.to_query-body in Flattened (at_get) (words q.new.scratch) (words q.new.counters) q.result) =
+    let at_get : Begun-at c.count-n.result c.get-counts.result = rw c.get-counts.ensures.is at_count in
+    let at_query : (let q = c.to_query-body in Flattened at_get (words q.new.scratch) (words q.new.counters) q.result) =
     let k = at_get in
     let q = c.to_query-body in
     flattened (length_words_kept _ _ q.auto.scratch) (length_words_kept _ _ q.auto.counters) (q.ensures k.good.sig k.read.facts k.counted) in
@@ -146,79 +107,55 @@ returns-then-body-ne0 c =
 
 pub get-globals-requires : goal.get-globals-requires
 get-globals-requires c =
-    let gs : List ℕ =
-    words c.args.signature.now in
-    let ws : List ℕ =
-    words c.args.rule.now in
-    let cs : List ℕ =
-    words c.args.counters.now in
-    let s : List ℕ =
-    words c.args.scratch.now in
-    let Begun-at : ℕ → ℕ → Type 0 =
-    λ n w. Begun (gs) (ws) (cs) (s) n w in
-    let at_count : Begun-at c.count-n.result (get_or (ws) 0 0) =
+    let gs : List ℕ = words c.args.signature.now in
+    let ws : List ℕ = words c.args.rule.now in
+    let cs : List ℕ = words c.args.counters.now in
+    let s : List ℕ = words c.args.scratch.now in
+    let Begun-at : ℕ → ℕ → Type 0 = λ n w. Begun gs ws cs s n w in
+    let at_count : Begun-at c.count-n.result (get_or ws 0 0) =
     begun c.requires (omega (arith, length_words c.args.scratch.now, c.well_formed)) c.count-n.ensures in
-    let at_get : Begun-at c.count-n.result c.get-counts.result =
-    rw c.get-counts.ensures.is (at_count) in
+    let at_get : Begun-at c.count-n.result c.get-counts.result = rw c.get-counts.ensures.is at_count in
     omega (arith, at_get.signature.signed.inside)
 
 pub overflow_sub-globals : goal.overflow_sub-globals
 overflow_sub-globals c =
-    let gs : List ℕ =
-    words c.args.signature.now in
-    let ws : List ℕ =
-    words c.args.rule.now in
-    let cs : List ℕ =
-    words c.args.counters.now in
-    let s : List ℕ =
-    words c.args.scratch.now in
-    let Begun-at : ℕ → ℕ → Type 0 =
-    λ n w. Begun (gs) (ws) (cs) (s) n w in
-    let at_count : Begun-at c.count-n.result (get_or (ws) 0 0) =
+    let gs : List ℕ = words c.args.signature.now in
+    let ws : List ℕ = words c.args.rule.now in
+    let cs : List ℕ = words c.args.counters.now in
+    let s : List ℕ = words c.args.scratch.now in
+    let Begun-at : ℕ → ℕ → Type 0 = λ n w. Begun gs ws cs s n w in
+    let at_count : Begun-at c.count-n.result (get_or ws 0 0) =
     begun c.requires (omega (arith, length_words c.args.scratch.now, c.well_formed)) c.count-n.ensures in
-    let at_get : Begun-at c.count-n.result c.get-counts.result =
-    rw c.get-counts.ensures.is (at_count) in
+    let at_get : Begun-at c.count-n.result c.get-counts.result = rw c.get-counts.ensures.is at_count in
     omega (arith, at_get.signature.globals, c.get-globals.ensures.is)
 
 pub overflow_mul-n : goal.overflow_mul-n
 overflow_mul-n c =
-    let gs : List ℕ =
-    words c.args.signature.now in
-    let ws : List ℕ =
-    words c.args.rule.now in
-    let cs : List ℕ =
-    words c.args.counters.now in
-    let s : List ℕ =
-    words c.args.scratch.now in
-    let Begun-at : ℕ → ℕ → Type 0 =
-    λ n w. Begun (gs) (ws) (cs) (s) n w in
-    let at_count : Begun-at c.count-n.result (get_or (ws) 0 0) =
+    let gs : List ℕ = words c.args.signature.now in
+    let ws : List ℕ = words c.args.rule.now in
+    let cs : List ℕ = words c.args.counters.now in
+    let s : List ℕ = words c.args.scratch.now in
+    let Begun-at : ℕ → ℕ → Type 0 = λ n w. Begun gs ws cs s n w in
+    let at_count : Begun-at c.count-n.result (get_or ws 0 0) =
     begun c.requires (omega (arith, length_words c.args.scratch.now, c.well_formed)) c.count-n.ensures in
-    let at_get : Begun-at c.count-n.result c.get-counts.result =
-    rw c.get-counts.ensures.is (at_count) in
+    let at_get : Begun-at c.count-n.result c.get-counts.result = rw c.get-counts.ensures.is at_count in
     omega (arith, at_get)
 
 pub to_core_actions-head-requires : goal.to_core_actions-head-requires
 to_core_actions-head-requires c =
-    let gs : List ℕ =
-    words c.args.signature.now in
-    let ws : List ℕ =
-    words c.args.rule.now in
-    let cs : List ℕ =
-    words c.args.counters.now in
-    let s : List ℕ =
-    words c.args.scratch.now in
-    let Begun-at : ℕ → ℕ → Type 0 =
-    λ n w. Begun (gs) (ws) (cs) (s) n w in
-    let at_count : Begun-at c.count-n.result (get_or (ws) 0 0) =
+    let gs : List ℕ = words c.args.signature.now in
+    let ws : List ℕ = words c.args.rule.now in
+    let cs : List ℕ = words c.args.counters.now in
+    let s : List ℕ = words c.args.scratch.now in
+    let Begun-at : ℕ → ℕ → Type 0 = λ n w. Begun gs ws cs s n w in
+    let at_count : Begun-at c.count-n.result (get_or ws 0 0) =
     begun c.requires (omega (arith, length_words c.args.scratch.now, c.well_formed)) c.count-n.ensures in
-    let at_get : Begun-at c.count-n.result c.get-counts.result =
-    rw c.get-counts.ensures.is (at_count) in
-    let at_query : (let q = c.to_query-body in Flattened (at_get) (words q.new.scratch) (words q.new.counters) q.result) =
+    let at_get : Begun-at c.count-n.result c.get-counts.result = rw c.get-counts.ensures.is at_count in
+    let at_query : (let q = c.to_query-body in Flattened at_get (words q.new.scratch) (words q.new.counters) q.result) =
     let k = at_get in
     let q = c.to_query-body in
     flattened (length_words_kept _ _ q.auto.scratch) (length_words_kept _ _ q.auto.counters) (q.ensures k.good.sig k.read.facts k.counted) in
-    let at_get2 : Ready (at_query) (c.get-globals.result - signature_base) =
+    let at_get2 : Ready at_query (c.get-globals.result - signature_base) =
     record { fine = c.if-body-ne0.false; globals = ap (λ (u : ℕ). u - signature_base) c.get-globals.ensures.is } in
     let k = at_get in
     let y = at_get2 in
@@ -229,27 +166,21 @@ to_core_actions-head-requires c =
 
 pub refuse-requires-then-head-ne0 : goal.refuse-requires-then-head-ne0
 refuse-requires-then-head-ne0 c =
-    let gs : List ℕ =
-    words c.args.signature.now in
-    let ws : List ℕ =
-    words c.args.rule.now in
-    let cs : List ℕ =
-    words c.args.counters.now in
-    let s : List ℕ =
-    words c.args.scratch.now in
-    let Begun-at : ℕ → ℕ → Type 0 =
-    λ n w. Begun (gs) (ws) (cs) (s) n w in
-    let at_count : Begun-at c.count-n.result (get_or (ws) 0 0) =
+    let gs : List ℕ = words c.args.signature.now in
+    let ws : List ℕ = words c.args.rule.now in
+    let cs : List ℕ = words c.args.counters.now in
+    let s : List ℕ = words c.args.scratch.now in
+    let Begun-at : ℕ → ℕ → Type 0 = λ n w. Begun gs ws cs s n w in
+    let at_count : Begun-at c.count-n.result (get_or ws 0 0) =
     begun c.requires (omega (arith, length_words c.args.scratch.now, c.well_formed)) c.count-n.ensures in
-    let at_get : Begun-at c.count-n.result c.get-counts.result =
-    rw c.get-counts.ensures.is (at_count) in
-    let at_query : (let q = c.to_query-body in Flattened (at_get) (words q.new.scratch) (words q.new.counters) q.result) =
+    let at_get : Begun-at c.count-n.result c.get-counts.result = rw c.get-counts.ensures.is at_count in
+    let at_query : (let q = c.to_query-body in Flattened at_get (words q.new.scratch) (words q.new.counters) q.result) =
     let k = at_get in
     let q = c.to_query-body in
     flattened (length_words_kept _ _ q.auto.scratch) (length_words_kept _ _ q.auto.counters) (q.ensures k.good.sig k.read.facts k.counted) in
-    let at_get2 : Ready (at_query) (c.get-globals.result - signature_base) =
+    let at_get2 : Ready at_query (c.get-globals.result - signature_base) =
     record { fine = c.if-body-ne0.false; globals = ap (λ (u : ℕ). u - signature_base) c.get-globals.ensures.is } in
-    let at_actions : (let a = c.to_core_actions-head in Headed (at_get2) (words a.new.scratch) (words a.new.counters) a.result) =
+    let at_actions : (let a = c.to_core_actions-head in Headed at_get2 (words a.new.scratch) (words a.new.counters) a.result) =
     let k = at_get in
     let y = at_get2 in
     let a = c.to_core_actions-head in
@@ -271,27 +202,21 @@ shape_of-scratch-then-head-ne0 c =
 
 pub returns-then-head-ne0 : goal.returns-then-head-ne0
 returns-then-head-ne0 c =
-    let gs : List ℕ =
-    words c.args.signature.now in
-    let ws : List ℕ =
-    words c.args.rule.now in
-    let cs : List ℕ =
-    words c.args.counters.now in
-    let s : List ℕ =
-    words c.args.scratch.now in
-    let Begun-at : ℕ → ℕ → Type 0 =
-    λ n w. Begun (gs) (ws) (cs) (s) n w in
-    let at_count : Begun-at c.count-n.result (get_or (ws) 0 0) =
+    let gs : List ℕ = words c.args.signature.now in
+    let ws : List ℕ = words c.args.rule.now in
+    let cs : List ℕ = words c.args.counters.now in
+    let s : List ℕ = words c.args.scratch.now in
+    let Begun-at : ℕ → ℕ → Type 0 = λ n w. Begun gs ws cs s n w in
+    let at_count : Begun-at c.count-n.result (get_or ws 0 0) =
     begun c.requires (omega (arith, length_words c.args.scratch.now, c.well_formed)) c.count-n.ensures in
-    let at_get : Begun-at c.count-n.result c.get-counts.result =
-    rw c.get-counts.ensures.is (at_count) in
-    let at_query : (let q = c.to_query-body in Flattened (at_get) (words q.new.scratch) (words q.new.counters) q.result) =
+    let at_get : Begun-at c.count-n.result c.get-counts.result = rw c.get-counts.ensures.is at_count in
+    let at_query : (let q = c.to_query-body in Flattened at_get (words q.new.scratch) (words q.new.counters) q.result) =
     let k = at_get in
     let q = c.to_query-body in
     flattened (length_words_kept _ _ q.auto.scratch) (length_words_kept _ _ q.auto.counters) (q.ensures k.good.sig k.read.facts k.counted) in
-    let at_get2 : Ready (at_query) (c.get-globals.result - signature_base) =
+    let at_get2 : Ready at_query (c.get-globals.result - signature_base) =
     record { fine = c.if-body-ne0.false; globals = ap (λ (u : ℕ). u - signature_base) c.get-globals.ensures.is } in
-    let at_actions : (let a = c.to_core_actions-head in Headed (at_get2) (words a.new.scratch) (words a.new.counters) a.result) =
+    let at_actions : (let a = c.to_core_actions-head in Headed at_get2 (words a.new.scratch) (words a.new.counters) a.result) =
     let k = at_get in
     let y = at_get2 in
     let a = c.to_core_actions-head in
@@ -302,45 +227,33 @@ returns-then-head-ne0 c =
 
 pub overflow_mul-n-2 : goal.overflow_mul-n-2
 overflow_mul-n-2 c =
-    let gs : List ℕ =
-    words c.args.signature.now in
-    let ws : List ℕ =
-    words c.args.rule.now in
-    let cs : List ℕ =
-    words c.args.counters.now in
-    let s : List ℕ =
-    words c.args.scratch.now in
-    let Begun-at : ℕ → ℕ → Type 0 =
-    λ n w. Begun (gs) (ws) (cs) (s) n w in
-    let at_count : Begun-at c.count-n.result (get_or (ws) 0 0) =
+    let gs : List ℕ = words c.args.signature.now in
+    let ws : List ℕ = words c.args.rule.now in
+    let cs : List ℕ = words c.args.counters.now in
+    let s : List ℕ = words c.args.scratch.now in
+    let Begun-at : ℕ → ℕ → Type 0 = λ n w. Begun gs ws cs s n w in
+    let at_count : Begun-at c.count-n.result (get_or ws 0 0) =
     begun c.requires (omega (arith, length_words c.args.scratch.now, c.well_formed)) c.count-n.ensures in
-    let at_get : Begun-at c.count-n.result c.get-counts.result =
-    rw c.get-counts.ensures.is (at_count) in
+    let at_get : Begun-at c.count-n.result c.get-counts.result = rw c.get-counts.ensures.is at_count in
     omega (arith, at_get)
 
 pub made-requires : goal.made-requires
 made-requires c =
-    let gs : List ℕ =
-    words c.args.signature.now in
-    let ws : List ℕ =
-    words c.args.rule.now in
-    let cs : List ℕ =
-    words c.args.counters.now in
-    let s : List ℕ =
-    words c.args.scratch.now in
-    let Begun-at : ℕ → ℕ → Type 0 =
-    λ n w. Begun (gs) (ws) (cs) (s) n w in
-    let at_count : Begun-at c.count-n.result (get_or (ws) 0 0) =
+    let gs : List ℕ = words c.args.signature.now in
+    let ws : List ℕ = words c.args.rule.now in
+    let cs : List ℕ = words c.args.counters.now in
+    let s : List ℕ = words c.args.scratch.now in
+    let Begun-at : ℕ → ℕ → Type 0 = λ n w. Begun gs ws cs s n w in
+    let at_count : Begun-at c.count-n.result (get_or ws 0 0) =
     begun c.requires (omega (arith, length_words c.args.scratch.now, c.well_formed)) c.count-n.ensures in
-    let at_get : Begun-at c.count-n.result c.get-counts.result =
-    rw c.get-counts.ensures.is (at_count) in
-    let at_query : (let q = c.to_query-body in Flattened (at_get) (words q.new.scratch) (words q.new.counters) q.result) =
+    let at_get : Begun-at c.count-n.result c.get-counts.result = rw c.get-counts.ensures.is at_count in
+    let at_query : (let q = c.to_query-body in Flattened at_get (words q.new.scratch) (words q.new.counters) q.result) =
     let k = at_get in
     let q = c.to_query-body in
     flattened (length_words_kept _ _ q.auto.scratch) (length_words_kept _ _ q.auto.counters) (q.ensures k.good.sig k.read.facts k.counted) in
-    let at_get2 : Ready (at_query) (c.get-globals.result - signature_base) =
+    let at_get2 : Ready at_query (c.get-globals.result - signature_base) =
     record { fine = c.if-body-ne0.false; globals = ap (λ (u : ℕ). u - signature_base) c.get-globals.ensures.is } in
-    let at_actions : (let a = c.to_core_actions-head in Headed (at_get2) (words a.new.scratch) (words a.new.counters) a.result) =
+    let at_actions : (let a = c.to_core_actions-head in Headed at_get2 (words a.new.scratch) (words a.new.counters) a.result) =
     let k = at_get in
     let y = at_get2 in
     let a = c.to_core_actions-head in
@@ -362,27 +275,21 @@ shape_of-scratch c =
 
 pub returns : goal.returns
 returns c =
-    let gs : List ℕ =
-    words c.args.signature.now in
-    let ws : List ℕ =
-    words c.args.rule.now in
-    let cs : List ℕ =
-    words c.args.counters.now in
-    let s : List ℕ =
-    words c.args.scratch.now in
-    let Begun-at : ℕ → ℕ → Type 0 =
-    λ n w. Begun (gs) (ws) (cs) (s) n w in
-    let at_count : Begun-at c.count-n.result (get_or (ws) 0 0) =
+    let gs : List ℕ = words c.args.signature.now in
+    let ws : List ℕ = words c.args.rule.now in
+    let cs : List ℕ = words c.args.counters.now in
+    let s : List ℕ = words c.args.scratch.now in
+    let Begun-at : ℕ → ℕ → Type 0 = λ n w. Begun gs ws cs s n w in
+    let at_count : Begun-at c.count-n.result (get_or ws 0 0) =
     begun c.requires (omega (arith, length_words c.args.scratch.now, c.well_formed)) c.count-n.ensures in
-    let at_get : Begun-at c.count-n.result c.get-counts.result =
-    rw c.get-counts.ensures.is (at_count) in
-    let at_query : (let q = c.to_query-body in Flattened (at_get) (words q.new.scratch) (words q.new.counters) q.result) =
+    let at_get : Begun-at c.count-n.result c.get-counts.result = rw c.get-counts.ensures.is at_count in
+    let at_query : (let q = c.to_query-body in Flattened at_get (words q.new.scratch) (words q.new.counters) q.result) =
     let k = at_get in
     let q = c.to_query-body in
     flattened (length_words_kept _ _ q.auto.scratch) (length_words_kept _ _ q.auto.counters) (q.ensures k.good.sig k.read.facts k.counted) in
-    let at_get2 : Ready (at_query) (c.get-globals.result - signature_base) =
+    let at_get2 : Ready at_query (c.get-globals.result - signature_base) =
     record { fine = c.if-body-ne0.false; globals = ap (λ (u : ℕ). u - signature_base) c.get-globals.ensures.is } in
-    let at_actions : (let a = c.to_core_actions-head in Headed (at_get2) (words a.new.scratch) (words a.new.counters) a.result) =
+    let at_actions : (let a = c.to_core_actions-head in Headed at_get2 (words a.new.scratch) (words a.new.counters) a.result) =
     let k = at_get in
     let y = at_get2 in
     let a = c.to_core_actions-head in

@@ -33,128 +33,104 @@ loop-next-init c =
 
 pub overflow_add-from : goal.overflow_add-from
 overflow_add-from c =
-    let at_in : Met c.loop-next.invariant.1 =
-    met c.loop-next.invariant.1 c.loop-next-test.true in
+    let at_in : Met c.loop-next.invariant.1 = met c.loop-next.invariant.1 c.loop-next-test.true in
     omega (arith, at_in)
 
 pub overflow_add-from-in-loop-next : goal.overflow_add-from-in-loop-next
 overflow_add-from-in-loop-next c =
-    let at_in : Met c.loop-next.invariant.1 =
-    met c.loop-next.invariant.1 c.loop-next-test.true in
+    let at_in : Met c.loop-next.invariant.1 = met c.loop-next.invariant.1 c.loop-next-test.true in
     omega (arith, at_in)
 
 pub overflow_sub-from : goal.overflow_sub-from
 overflow_sub-from c =
-    let at_in : Met c.loop-next.invariant.1 =
-    met c.loop-next.invariant.1 c.loop-next-test.true in
+    let at_in : Met c.loop-next.invariant.1 = met c.loop-next.invariant.1 c.loop-next-test.true in
     omega (arith, at_in)
 
 pub overflow_add-links-in-loop-next : goal.overflow_add-links-in-loop-next
 overflow_add-links-in-loop-next c =
-    let at_in : Met c.loop-next.invariant.1 =
-    met c.loop-next.invariant.1 c.loop-next-test.true in
+    let at_in : Met c.loop-next.invariant.1 = met c.loop-next.invariant.1 c.loop-next-test.true in
     omega (arith, at_in)
 
 pub overflow_add-links-in-loop-next-2 : goal.overflow_add-links-in-loop-next-2
 overflow_add-links-in-loop-next-2 c =
-    let at_in : Met c.loop-next.invariant.1 =
-    met c.loop-next.invariant.1 c.loop-next-test.true in
+    let at_in : Met c.loop-next.invariant.1 = met c.loop-next.invariant.1 c.loop-next-test.true in
     omega (arith, at_in)
 
 pub overflow_add-to : goal.overflow_add-to
 overflow_add-to c =
-    let at_in : Met c.loop-next.invariant.1 =
-    met c.loop-next.invariant.1 c.loop-next-test.true in
+    let at_in : Met c.loop-next.invariant.1 = met c.loop-next.invariant.1 c.loop-next-test.true in
     omega (arith, at_in)
 
 pub overflow_add-to-in-loop-next : goal.overflow_add-to-in-loop-next
 overflow_add-to-in-loop-next c =
-    let at_in : Met c.loop-next.invariant.1 =
-    met c.loop-next.invariant.1 c.loop-next-test.true in
+    let at_in : Met c.loop-next.invariant.1 = met c.loop-next.invariant.1 c.loop-next-test.true in
     omega (arith, at_in)
 
 pub member-k-requires : goal.member-k-requires
 member-k-requires c =
-    let at_in : Met c.loop-next.invariant.1 =
-    met c.loop-next.invariant.1 c.loop-next-test.true in
+    let at_in : Met c.loop-next.invariant.1 = met c.loop-next.invariant.1 c.loop-next-test.true in
     at_in.asks
 
 pub overflow_add-k : goal.overflow_add-k
 overflow_add-k c =
-    let at_in : Met c.loop-next.invariant.1 =
-    met c.loop-next.invariant.1 c.loop-next-test.true in
-    let at_member : Stepped (at_in) (words c.member-k.new.s) c.member-k.result =
-    stepped (at_in) c.member-k.ensures in
+    let at_in : Met c.loop-next.invariant.1 = met c.loop-next.invariant.1 c.loop-next-test.true in
+    let at_member : Stepped at_in (words c.member-k.new.s) c.member-k.result = stepped at_in c.member-k.ensures in
     omega (arith, at_member)
 
 pub overflow_add-links-in-loop-next-3 : goal.overflow_add-links-in-loop-next-3
 overflow_add-links-in-loop-next-3 c =
-    let at_in : Met c.loop-next.invariant.1 =
-    met c.loop-next.invariant.1 c.loop-next-test.true in
+    let at_in : Met c.loop-next.invariant.1 = met c.loop-next.invariant.1 c.loop-next-test.true in
     omega (arith, at_in)
 
 pub get-next-requires-in-loop-next : goal.get-next-requires-in-loop-next
 get-next-requires-in-loop-next c =
-    let at_in : Met c.loop-next.invariant.1 =
-    met c.loop-next.invariant.1 c.loop-next-test.true in
-    let at_member : Stepped (at_in) (words c.member-k.new.s) c.member-k.result =
-    stepped (at_in) c.member-k.ensures in
+    let at_in : Met c.loop-next.invariant.1 = met c.loop-next.invariant.1 c.loop-next-test.true in
+    let at_member : Stepped at_in (words c.member-k.new.s) c.member-k.result = stepped at_in c.member-k.ensures in
     at_member.link
 
 pub loop-next-smaller : goal.loop-next-smaller
 loop-next-smaller c =
-    let at_in : Met c.loop-next.invariant.1 =
-    met c.loop-next.invariant.1 c.loop-next-test.true in
-    let at_member : Stepped (at_in) (words c.member-k.new.s) c.member-k.result =
-    stepped (at_in) c.member-k.ensures in
+    let at_in : Met c.loop-next.invariant.1 = met c.loop-next.invariant.1 c.loop-next-test.true in
+    let at_member : Stepped at_in (words c.member-k.new.s) c.member-k.result = stepped at_in c.member-k.ensures in
     follow_falls at_member c.get-next-in-loop-next.ensures.is
 
 pub loop-next-preserved : goal.loop-next-preserved
 loop-next-preserved c =
-    let at_in : Met c.loop-next.invariant.1 =
-    met c.loop-next.invariant.1 c.loop-next-test.true in
-    let at_member : Stepped (at_in) (words c.member-k.new.s) c.member-k.result =
-    stepped (at_in) c.member-k.ensures in
+    let at_in : Met c.loop-next.invariant.1 = met c.loop-next.invariant.1 c.loop-next-test.true in
+    let at_member : Stepped at_in (words c.member-k.new.s) c.member-k.result = stepped at_in c.member-k.ensures in
     (c.member-k.auto.s ∙ c.loop-next.invariant.0, follow_next at_member c.get-next-in-loop-next.ensures.is)
 
 pub returns-then-k-eq0 : goal.returns-then-k-eq0
 returns-then-k-eq0 c =
-    let at_end : Ended c.loop-next.invariant.1 =
-    followed c.loop-next.invariant.1 c.loop-next-test.false in
+    let at_end : Ended c.loop-next.invariant.1 = followed c.loop-next.invariant.1 c.loop-next-test.false in
     follow_none at_end c.if-k-eq0.true
 
 pub overflow_add-from-2 : goal.overflow_add-from-2
 overflow_add-from-2 c =
-    let at_end : Ended c.loop-next.invariant.1 =
-    followed c.loop-next.invariant.1 c.loop-next-test.false in
+    let at_end : Ended c.loop-next.invariant.1 = followed c.loop-next.invariant.1 c.loop-next-test.false in
     omega (arith, at_end)
 
 pub output-left-requires : goal.output-left-requires
 output-left-requires c =
-    let at_end : Ended c.loop-next.invariant.1 =
-    followed c.loop-next.invariant.1 c.loop-next-test.false in
+    let at_end : Ended c.loop-next.invariant.1 = followed c.loop-next.invariant.1 c.loop-next-test.false in
     at_end.first
 
 pub overflow_cast-k : goal.overflow_cast-k
 overflow_cast-k c =
-    let at_end : Ended c.loop-next.invariant.1 =
-    followed c.loop-next.invariant.1 c.loop-next-test.false in
+    let at_end : Ended c.loop-next.invariant.1 = followed c.loop-next.invariant.1 c.loop-next-test.false in
     omega (arith, at_end)
 
 pub put_two-requires : goal.put_two-requires
 put_two-requires c =
-    let at_end : Ended c.loop-next.invariant.1 =
-    followed c.loop-next.invariant.1 c.loop-next-test.false in
+    let at_end : Ended c.loop-next.invariant.1 = followed c.loop-next.invariant.1 c.loop-next-test.false in
     at_end.room
 
 pub overflow_add-result : goal.overflow_add-result
 overflow_add-result c =
-    let at_end : Ended c.loop-next.invariant.1 =
-    followed c.loop-next.invariant.1 c.loop-next-test.false in
+    let at_end : Ended c.loop-next.invariant.1 = followed c.loop-next.invariant.1 c.loop-next-test.false in
     omega (arith, at_end)
 
 pub returns : goal.returns
 returns c =
-    let at_end : Ended c.loop-next.invariant.1 =
-    followed c.loop-next.invariant.1 c.loop-next-test.false in
+    let at_end : Ended c.loop-next.invariant.1 = followed c.loop-next.invariant.1 c.loop-next-test.false in
     follow_some at_end c.if-k-eq0.false c.output-left.ensures c.put_two.ensures.1

@@ -11,73 +11,61 @@ loop-i-init c = (refl, merging_start c.requires (omega (arith, length_words c.ar
 
 pub overflow_add-from : goal.overflow_add-from
 overflow_add-from c =
-    let at_in : Going c.loop-i.invariant.1 =
-    going c.loop-i.invariant.1 c.loop-i-test.true in
+    let at_in : Going c.loop-i.invariant.1 = going c.loop-i.invariant.1 c.loop-i-test.true in
     omega (arith, at_in)
 
 pub size-z-requires : goal.size-z-requires
 size-z-requires c =
-    let at_in : Going c.loop-i.invariant.1 =
-    going c.loop-i.invariant.1 c.loop-i-test.true in
+    let at_in : Going c.loop-i.invariant.1 = going c.loop-i.invariant.1 c.loop-i-test.true in
     at_in.begins
 
 pub merge_one-t-requires : goal.merge_one-t-requires
 merge_one-t-requires c =
-    let at_in : Going c.loop-i.invariant.1 =
-    going c.loop-i.invariant.1 c.loop-i-test.true in
-    one_asks (at_in)
+    let at_in : Going c.loop-i.invariant.1 = going c.loop-i.invariant.1 c.loop-i-test.true in
+    one_asks at_in
 
 pub overflow_add-i : goal.overflow_add-i
 overflow_add-i c =
-    let at_in : Going c.loop-i.invariant.1 =
-    going c.loop-i.invariant.1 c.loop-i-test.true in
+    let at_in : Going c.loop-i.invariant.1 = going c.loop-i.invariant.1 c.loop-i-test.true in
     omega (arith, at_in, c.size-z.ensures)
 
 pub loop-i-smaller : goal.loop-i-smaller
 loop-i-smaller c =
-    let at_in : Going c.loop-i.invariant.1 =
-    going c.loop-i.invariant.1 c.loop-i-test.true in
+    let at_in : Going c.loop-i.invariant.1 = going c.loop-i.invariant.1 c.loop-i-test.true in
     omega (arith, at_in.some, c.size-z.ensures)
 
 pub loop-i-preserved : goal.loop-i-preserved
 loop-i-preserved c =
-    let at_in : Going c.loop-i.invariant.1 =
-    going c.loop-i.invariant.1 c.loop-i-test.true in
+    let at_in : Going c.loop-i.invariant.1 = going c.loop-i.invariant.1 c.loop-i-test.true in
     let p = c.loop-i in
     (c.merge_one-t.auto.s ∙ p.invariant.0, merging_next at_in (ap (λ (x : ℕ). p.i + x) c.size-z.ensures) c.merge_one-t.ensures)
 
 pub overflow_sub-last : goal.overflow_sub-last
 overflow_sub-last c =
-    let at_end : Last c.loop-i.invariant.1 =
-    at_last c.loop-i.invariant.1 c.loop-i-test.false in
+    let at_end : Last c.loop-i.invariant.1 = at_last c.loop-i.invariant.1 c.loop-i-test.false in
     at_end.up
 
 pub overflow_add-from-2 : goal.overflow_add-from-2
 overflow_add-from-2 c =
-    let at_end : Last c.loop-i.invariant.1 =
-    at_last c.loop-i.invariant.1 c.loop-i-test.false in
+    let at_end : Last c.loop-i.invariant.1 = at_last c.loop-i.invariant.1 c.loop-i-test.false in
     omega (arith, at_end)
 
 pub overflow_add-from-3 : goal.overflow_add-from-3
 overflow_add-from-3 c =
-    let at_end : Last c.loop-i.invariant.1 =
-    at_last c.loop-i.invariant.1 c.loop-i-test.false in
+    let at_end : Last c.loop-i.invariant.1 = at_last c.loop-i.invariant.1 c.loop-i-test.false in
     omega (arith, at_end)
 
 pub carry_down-requires : goal.carry_down-requires
 carry_down-requires c =
-    let at_end : Last c.loop-i.invariant.1 =
-    at_last c.loop-i.invariant.1 c.loop-i-test.false in
+    let at_end : Last c.loop-i.invariant.1 = at_last c.loop-i.invariant.1 c.loop-i-test.false in
     let e = at_end in (omega (arith, e.down), e.within)
 
 pub overflow_add-result : goal.overflow_add-result
 overflow_add-result c =
-    let at_end : Last c.loop-i.invariant.1 =
-    at_last c.loop-i.invariant.1 c.loop-i-test.false in
+    let at_end : Last c.loop-i.invariant.1 = at_last c.loop-i.invariant.1 c.loop-i-test.false in
     omega (arith, at_end)
 
 pub returns : goal.returns
 returns c =
-    let at_end : Last c.loop-i.invariant.1 =
-    at_last c.loop-i.invariant.1 c.loop-i-test.false in
+    let at_end : Last c.loop-i.invariant.1 = at_last c.loop-i.invariant.1 c.loop-i-test.false in
     merging_end at_end c.carry_down.ensures

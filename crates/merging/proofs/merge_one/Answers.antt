@@ -83,24 +83,21 @@ pub overflow_add-eqs : goal.overflow_add-eqs
 overflow_add-eqs c =
     let at_start : (let a = c.args in Begun (words a.s.now) a.from a.n a.i a.eqs a.links a.t) =
     begun c.requires (omega (arith, length_words c.args.s.now, c.well_formed)) in
-    let at_else : Unmarked (at_start) =
-    unmarked (at_start) c.get.ensures.is c.if-get-ne0.false in
+    let at_else : Unmarked at_start = unmarked at_start c.get.ensures.is c.if-get-ne0.false in
     omega (arith, at_else)
 
 pub group-e-requires : goal.group-e-requires
 group-e-requires c =
     let at_start : (let a = c.args in Begun (words a.s.now) a.from a.n a.i a.eqs a.links a.t) =
     begun c.requires (omega (arith, length_words c.args.s.now, c.well_formed)) in
-    let at_else : Unmarked (at_start) =
-    unmarked (at_start) c.get.ensures.is c.if-get-ne0.false in
+    let at_else : Unmarked at_start = unmarked at_start c.get.ensures.is c.if-get-ne0.false in
     at_else.group
 
 pub overflow_add-result-2 : goal.overflow_add-result-2
 overflow_add-result-2 c =
     let at_start : (let a = c.args in Begun (words a.s.now) a.from a.n a.i a.eqs a.links a.t) =
     begun c.requires (omega (arith, length_words c.args.s.now, c.well_formed)) in
-    let at_else : Unmarked (at_start) =
-    unmarked (at_start) c.get.ensures.is c.if-get-ne0.false in
+    let at_else : Unmarked at_start = unmarked at_start c.get.ensures.is c.if-get-ne0.false in
     omega (arith, one_eqs at_else c.group-e.ensures)
 
 pub overflow_add-result-3 : goal.overflow_add-result-3
@@ -113,6 +110,5 @@ pub returns : goal.returns
 returns c =
     let at_start : (let a = c.args in Begun (words a.s.now) a.from a.n a.i a.eqs a.links a.t) =
     begun c.requires (omega (arith, length_words c.args.s.now, c.well_formed)) in
-    let at_else : Unmarked (at_start) =
-    unmarked (at_start) c.get.ensures.is c.if-get-ne0.false in
+    let at_else : Unmarked at_start = unmarked at_start c.get.ensures.is c.if-get-ne0.false in
     one_kept at_else c.group-e.ensures

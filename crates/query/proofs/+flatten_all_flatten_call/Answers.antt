@@ -186,9 +186,9 @@ flatten_call-head_word-call-requires t c =
     let spot : Spot =
     let a = c.args in
     record { ws = words a.rule.now; s = words a.scratch.now; cs = words a.counters.now; at = a.at; to = a.to; sp = a.sp; lg = a.log } in
-    let at_start : Begun (spot) c.args.depth c.args.w =
+    let at_start : Begun spot c.args.depth c.args.w =
     let a = c.args in
-    let held : Held (spot) = record { rule = omega (arith, length_words a.rule.now, c.well_formed); scratch = omega (arith, length_words a.scratch.now, c.well_formed) } in
+    let held : Held spot = record { rule = omega (arith, length_words a.rule.now, c.well_formed); scratch = omega (arith, length_words a.scratch.now, c.well_formed) } in
     begun c.requires.under c.requires.room held c.requires.w_value.0 c.requires.w_value.1 in
     at_start.facts.high
 
@@ -197,9 +197,9 @@ flatten_call-take-v-requires t c =
     let spot : Spot =
     let a = c.args in
     record { ws = words a.rule.now; s = words a.scratch.now; cs = words a.counters.now; at = a.at; to = a.to; sp = a.sp; lg = a.log } in
-    let at_start : Begun (spot) c.args.depth c.args.w =
+    let at_start : Begun spot c.args.depth c.args.w =
     let a = c.args in
-    let held : Held (spot) = record { rule = omega (arith, length_words a.rule.now, c.well_formed); scratch = omega (arith, length_words a.scratch.now, c.well_formed) } in
+    let held : Held spot = record { rule = omega (arith, length_words a.rule.now, c.well_formed); scratch = omega (arith, length_words a.scratch.now, c.well_formed) } in
     begun c.requires.under c.requires.room held c.requires.w_value.0 c.requires.w_value.1 in
     let b = at_start in
     rw (head_says c.head_word-call.ensures) (b.facts.small, b.facts.low, b.log)
@@ -209,14 +209,14 @@ flatten_call-returns-then-v-eq0 t c =
     let spot : Spot =
     let a = c.args in
     record { ws = words a.rule.now; s = words a.scratch.now; cs = words a.counters.now; at = a.at; to = a.to; sp = a.sp; lg = a.log } in
-    let at_start : Begun (spot) c.args.depth c.args.w =
+    let at_start : Begun spot c.args.depth c.args.w =
     let a = c.args in
-    let held : Held (spot) = record { rule = omega (arith, length_words a.rule.now, c.well_formed); scratch = omega (arith, length_words a.scratch.now, c.well_formed) } in
+    let held : Held spot = record { rule = omega (arith, length_words a.rule.now, c.well_formed); scratch = omega (arith, length_words a.scratch.now, c.well_formed) } in
     begun c.requires.under c.requires.room held c.requires.w_value.0 c.requires.w_value.1 in
-    let asked : Asked (spot) c.args.w c.take-v.result (words c.take-v.new.scratch) (words c.take-v.new.counters) =
+    let asked : Asked spot c.args.w c.take-v.result (words c.take-v.new.scratch) (words c.take-v.new.counters) =
     let t = c.take-v in
     let h = c.head_word-call in
-    asked_as (spot) c.args.w t.result h.result.head (words t.new.scratch) (words t.new.counters) (head_says h.ensures) t.ensures in
+    asked_as spot c.args.w t.result h.result.head (words t.new.scratch) (words t.new.counters) (head_says h.ensures) t.ensures in
     rw c.stopped.ensures (none_left at_start asked c.if-v-eq0.true)
 
 pub flatten_call-overflow_add-first : goal.flatten_call-overflow_add-first
@@ -224,9 +224,9 @@ flatten_call-overflow_add-first t c =
     let spot : Spot =
     let a = c.args in
     record { ws = words a.rule.now; s = words a.scratch.now; cs = words a.counters.now; at = a.at; to = a.to; sp = a.sp; lg = a.log } in
-    let at_start : Begun (spot) c.args.depth c.args.w =
+    let at_start : Begun spot c.args.depth c.args.w =
     let a = c.args in
-    let held : Held (spot) = record { rule = omega (arith, length_words a.rule.now, c.well_formed); scratch = omega (arith, length_words a.scratch.now, c.well_formed) } in
+    let held : Held spot = record { rule = omega (arith, length_words a.rule.now, c.well_formed); scratch = omega (arith, length_words a.scratch.now, c.well_formed) } in
     begun c.requires.under c.requires.room held c.requires.w_value.0 c.requires.w_value.1 in
     omega (arith, at_start)
 
@@ -235,9 +235,9 @@ flatten_call-overflow_add-to t c =
     let spot : Spot =
     let a = c.args in
     record { ws = words a.rule.now; s = words a.scratch.now; cs = words a.counters.now; at = a.at; to = a.to; sp = a.sp; lg = a.log } in
-    let at_start : Begun (spot) c.args.depth c.args.w =
+    let at_start : Begun spot c.args.depth c.args.w =
     let a = c.args in
-    let held : Held (spot) = record { rule = omega (arith, length_words a.rule.now, c.well_formed); scratch = omega (arith, length_words a.scratch.now, c.well_formed) } in
+    let held : Held spot = record { rule = omega (arith, length_words a.rule.now, c.well_formed); scratch = omega (arith, length_words a.scratch.now, c.well_formed) } in
     begun c.requires.under c.requires.room held c.requires.w_value.0 c.requires.w_value.1 in
     omega (arith, at_start)
 
@@ -246,17 +246,16 @@ flatten_call-leaves-k-requires t c =
     let spot : Spot =
     let a = c.args in
     record { ws = words a.rule.now; s = words a.scratch.now; cs = words a.counters.now; at = a.at; to = a.to; sp = a.sp; lg = a.log } in
-    let at_start : Begun (spot) c.args.depth c.args.w =
+    let at_start : Begun spot c.args.depth c.args.w =
     let a = c.args in
-    let held : Held (spot) = record { rule = omega (arith, length_words a.rule.now, c.well_formed); scratch = omega (arith, length_words a.scratch.now, c.well_formed) } in
+    let held : Held spot = record { rule = omega (arith, length_words a.rule.now, c.well_formed); scratch = omega (arith, length_words a.scratch.now, c.well_formed) } in
     begun c.requires.under c.requires.room held c.requires.w_value.0 c.requires.w_value.1 in
-    let counted : c.head_word-call.result.count ≡ count_of c.args.w =
-    count_says c.head_word-call.ensures in
-    let asked : Asked (spot) c.args.w c.take-v.result (words c.take-v.new.scratch) (words c.take-v.new.counters) =
+    let counted : c.head_word-call.result.count ≡ count_of c.args.w = count_says c.head_word-call.ensures in
+    let asked : Asked spot c.args.w c.take-v.result (words c.take-v.new.scratch) (words c.take-v.new.counters) =
     let t = c.take-v in
     let h = c.head_word-call in
-    asked_as (spot) c.args.w t.result h.result.head (words t.new.scratch) (words t.new.counters) (head_says h.ensures) t.ensures in
-    let at_named : (let v = c.take-v in Named (at_start) v.result (words v.new.scratch) (words v.new.counters)) =
+    asked_as spot c.args.w t.result h.result.head (words t.new.scratch) (words t.new.counters) (head_says h.ensures) t.ensures in
+    let at_named : (let v = c.take-v in Named at_start v.result (words v.new.scratch) (words v.new.counters)) =
     let v = c.take-v in
     record { asked = asked; some = c.if-v-eq0.false; counters = length_words_kept _ _ v.auto.counters; scratch = length_words_kept _ _ v.auto.scratch } in
     let b = at_start.atom in
@@ -268,9 +267,9 @@ flatten_call-overflow_add-w t c =
     let spot : Spot =
     let a = c.args in
     record { ws = words a.rule.now; s = words a.scratch.now; cs = words a.counters.now; at = a.at; to = a.to; sp = a.sp; lg = a.log } in
-    let at_start : Begun (spot) c.args.depth c.args.w =
+    let at_start : Begun spot c.args.depth c.args.w =
     let a = c.args in
-    let held : Held (spot) = record { rule = omega (arith, length_words a.rule.now, c.well_formed); scratch = omega (arith, length_words a.scratch.now, c.well_formed) } in
+    let held : Held spot = record { rule = omega (arith, length_words a.rule.now, c.well_formed); scratch = omega (arith, length_words a.scratch.now, c.well_formed) } in
     begun c.requires.under c.requires.room held c.requires.w_value.0 c.requires.w_value.1 in
     omega (arith, at_start.low)
 
@@ -279,35 +278,33 @@ flatten_call-put_around-end-requires t c =
     let spot : Spot =
     let a = c.args in
     record { ws = words a.rule.now; s = words a.scratch.now; cs = words a.counters.now; at = a.at; to = a.to; sp = a.sp; lg = a.log } in
-    let at_start : Begun (spot) c.args.depth c.args.w =
+    let at_start : Begun spot c.args.depth c.args.w =
     let a = c.args in
-    let held : Held (spot) = record { rule = omega (arith, length_words a.rule.now, c.well_formed); scratch = omega (arith, length_words a.scratch.now, c.well_formed) } in
+    let held : Held spot = record { rule = omega (arith, length_words a.rule.now, c.well_formed); scratch = omega (arith, length_words a.scratch.now, c.well_formed) } in
     begun c.requires.under c.requires.room held c.requires.w_value.0 c.requires.w_value.1 in
-    let asked : Asked (spot) c.args.w c.take-v.result (words c.take-v.new.scratch) (words c.take-v.new.counters) =
+    let asked : Asked spot c.args.w c.take-v.result (words c.take-v.new.scratch) (words c.take-v.new.counters) =
     let t = c.take-v in
     let h = c.head_word-call in
-    asked_as (spot) c.args.w t.result h.result.head (words t.new.scratch) (words t.new.counters) (head_says h.ensures) t.ensures in
-    let at_named : (let v = c.take-v in Named (at_start) v.result (words v.new.scratch) (words v.new.counters)) =
+    asked_as spot c.args.w t.result h.result.head (words t.new.scratch) (words t.new.counters) (head_says h.ensures) t.ensures in
+    let at_named : (let v = c.take-v in Named at_start v.result (words v.new.scratch) (words v.new.counters)) =
     let v = c.take-v in
     record { asked = asked; some = c.if-v-eq0.false; counters = length_words_kept _ _ v.auto.counters; scratch = length_words_kept _ _ v.auto.scratch } in
-    let counted : c.head_word-call.result.count ≡ count_of c.args.w =
-    count_says c.head_word-call.ensures in
-    let at_leaves : (let l = c.leaves-k in Fronted (at_named) l.result (words l.new.scratch)) =
+    let counted : c.head_word-call.result.count ≡ count_of c.args.w = count_says c.head_word-call.ensures in
+    let at_leaves : (let l = c.leaves-k in Fronted at_named l.result (words l.new.scratch)) =
     let l = c.leaves-k in
-    fronted (at_named) (2 ^ 32 - 1) (counted) l.ensures.0 l.ensures.1 (length_words_kept _ _ l.auto.scratch) in
-    around_room at_leaves (counted)
+    fronted at_named (2 ^ 32 - 1) counted l.ensures.0 l.ensures.1 (length_words_kept _ _ l.auto.scratch) in
+    around_room at_leaves counted
 
 pub flatten_call-overflow_add-first-then-k-n : goal.flatten_call-overflow_add-first-then-k-n
 flatten_call-overflow_add-first-then-k-n t c =
     let spot : Spot =
     let a = c.args in
     record { ws = words a.rule.now; s = words a.scratch.now; cs = words a.counters.now; at = a.at; to = a.to; sp = a.sp; lg = a.log } in
-    let at_start : Begun (spot) c.args.depth c.args.w =
+    let at_start : Begun spot c.args.depth c.args.w =
     let a = c.args in
-    let held : Held (spot) = record { rule = omega (arith, length_words a.rule.now, c.well_formed); scratch = omega (arith, length_words a.scratch.now, c.well_formed) } in
+    let held : Held spot = record { rule = omega (arith, length_words a.rule.now, c.well_formed); scratch = omega (arith, length_words a.scratch.now, c.well_formed) } in
     begun c.requires.under c.requires.room held c.requires.w_value.0 c.requires.w_value.1 in
-    let counted : c.head_word-call.result.count ≡ count_of c.args.w =
-    count_says c.head_word-call.ensures in
+    let counted : c.head_word-call.result.count ≡ count_of c.args.w = count_says c.head_word-call.ensures in
     omega (arith, at_start, c.if-k-n.true, counted)
 
 pub flatten_call-overflow_add-log : goal.flatten_call-overflow_add-log
@@ -315,9 +312,9 @@ flatten_call-overflow_add-log t c =
     let spot : Spot =
     let a = c.args in
     record { ws = words a.rule.now; s = words a.scratch.now; cs = words a.counters.now; at = a.at; to = a.to; sp = a.sp; lg = a.log } in
-    let at_start : Begun (spot) c.args.depth c.args.w =
+    let at_start : Begun spot c.args.depth c.args.w =
     let a = c.args in
-    let held : Held (spot) = record { rule = omega (arith, length_words a.rule.now, c.well_formed); scratch = omega (arith, length_words a.scratch.now, c.well_formed) } in
+    let held : Held spot = record { rule = omega (arith, length_words a.rule.now, c.well_formed); scratch = omega (arith, length_words a.scratch.now, c.well_formed) } in
     begun c.requires.under c.requires.room held c.requires.w_value.0 c.requires.w_value.1 in
     omega (arith, at_start)
 
@@ -326,8 +323,7 @@ flatten_call-shape_of-counters-then-k-n t c = c.take-v.auto.counters
 
 pub flatten_call-shape_of-scratch-then-k-n : goal.flatten_call-shape_of-scratch-then-k-n
 flatten_call-shape_of-scratch-then-k-n t c =
-    let leaves_kept : length c.leaves-k.new.scratch ≡ length c.args.scratch.now =
-    c.leaves-k.auto.scratch ∙ c.take-v.auto.scratch in
+    let leaves_kept : length c.leaves-k.new.scratch ≡ length c.args.scratch.now = c.leaves-k.auto.scratch ∙ c.take-v.auto.scratch in
     c.put_around-end.auto.scratch ∙ leaves_kept
 
 pub flatten_call-returns-then-k-n : goal.flatten_call-returns-then-k-n
@@ -335,22 +331,21 @@ flatten_call-returns-then-k-n t c =
     let spot : Spot =
     let a = c.args in
     record { ws = words a.rule.now; s = words a.scratch.now; cs = words a.counters.now; at = a.at; to = a.to; sp = a.sp; lg = a.log } in
-    let at_start : Begun (spot) c.args.depth c.args.w =
+    let at_start : Begun spot c.args.depth c.args.w =
     let a = c.args in
-    let held : Held (spot) = record { rule = omega (arith, length_words a.rule.now, c.well_formed); scratch = omega (arith, length_words a.scratch.now, c.well_formed) } in
+    let held : Held spot = record { rule = omega (arith, length_words a.rule.now, c.well_formed); scratch = omega (arith, length_words a.scratch.now, c.well_formed) } in
     begun c.requires.under c.requires.room held c.requires.w_value.0 c.requires.w_value.1 in
-    let asked : Asked (spot) c.args.w c.take-v.result (words c.take-v.new.scratch) (words c.take-v.new.counters) =
+    let asked : Asked spot c.args.w c.take-v.result (words c.take-v.new.scratch) (words c.take-v.new.counters) =
     let t = c.take-v in
     let h = c.head_word-call in
-    asked_as (spot) c.args.w t.result h.result.head (words t.new.scratch) (words t.new.counters) (head_says h.ensures) t.ensures in
-    let at_named : (let v = c.take-v in Named (at_start) v.result (words v.new.scratch) (words v.new.counters)) =
+    asked_as spot c.args.w t.result h.result.head (words t.new.scratch) (words t.new.counters) (head_says h.ensures) t.ensures in
+    let at_named : (let v = c.take-v in Named at_start v.result (words v.new.scratch) (words v.new.counters)) =
     let v = c.take-v in
     record { asked = asked; some = c.if-v-eq0.false; counters = length_words_kept _ _ v.auto.counters; scratch = length_words_kept _ _ v.auto.scratch } in
-    let counted : c.head_word-call.result.count ≡ count_of c.args.w =
-    count_says c.head_word-call.ensures in
-    let at_leaves : (let l = c.leaves-k in Fronted (at_named) l.result (words l.new.scratch)) =
+    let counted : c.head_word-call.result.count ≡ count_of c.args.w = count_says c.head_word-call.ensures in
+    let at_leaves : (let l = c.leaves-k in Fronted at_named l.result (words l.new.scratch)) =
     let l = c.leaves-k in
-    fronted (at_named) (2 ^ 32 - 1) (counted) l.ensures.0 l.ensures.1 (length_words_kept _ _ l.auto.scratch) in
+    fronted at_named (2 ^ 32 - 1) counted l.ensures.0 l.ensures.1 (length_words_kept _ _ l.auto.scratch) in
     let e = c.put_around-end.ensures in
     rw c.reached.ensures (leaves_answer at_leaves counted _ _ c.if-k-n.true e.0 e.1)
 
@@ -359,9 +354,9 @@ flatten_call-overflow_sub-less t c =
     let spot : Spot =
     let a = c.args in
     record { ws = words a.rule.now; s = words a.scratch.now; cs = words a.counters.now; at = a.at; to = a.to; sp = a.sp; lg = a.log } in
-    let at_start : Begun (spot) c.args.depth c.args.w =
+    let at_start : Begun spot c.args.depth c.args.w =
     let a = c.args in
-    let held : Held (spot) = record { rule = omega (arith, length_words a.rule.now, c.well_formed); scratch = omega (arith, length_words a.scratch.now, c.well_formed) } in
+    let held : Held spot = record { rule = omega (arith, length_words a.rule.now, c.well_formed); scratch = omega (arith, length_words a.scratch.now, c.well_formed) } in
     begun c.requires.under c.requires.room held c.requires.w_value.0 c.requires.w_value.1 in
     omega (arith, at_start.facts.deep)
 
@@ -370,9 +365,9 @@ flatten_call-overflow_add-log-2 t c =
     let spot : Spot =
     let a = c.args in
     record { ws = words a.rule.now; s = words a.scratch.now; cs = words a.counters.now; at = a.at; to = a.to; sp = a.sp; lg = a.log } in
-    let at_start : Begun (spot) c.args.depth c.args.w =
+    let at_start : Begun spot c.args.depth c.args.w =
     let a = c.args in
-    let held : Held (spot) = record { rule = omega (arith, length_words a.rule.now, c.well_formed); scratch = omega (arith, length_words a.scratch.now, c.well_formed) } in
+    let held : Held spot = record { rule = omega (arith, length_words a.rule.now, c.well_formed); scratch = omega (arith, length_words a.scratch.now, c.well_formed) } in
     begun c.requires.under c.requires.room held c.requires.w_value.0 c.requires.w_value.1 in
     omega (arith, at_start)
 
@@ -381,22 +376,21 @@ flatten_call-flatten_all-args-requires t c =
     let spot : Spot =
     let a = c.args in
     record { ws = words a.rule.now; s = words a.scratch.now; cs = words a.counters.now; at = a.at; to = a.to; sp = a.sp; lg = a.log } in
-    let at_start : Begun (spot) c.args.depth c.args.w =
+    let at_start : Begun spot c.args.depth c.args.w =
     let a = c.args in
-    let held : Held (spot) = record { rule = omega (arith, length_words a.rule.now, c.well_formed); scratch = omega (arith, length_words a.scratch.now, c.well_formed) } in
+    let held : Held spot = record { rule = omega (arith, length_words a.rule.now, c.well_formed); scratch = omega (arith, length_words a.scratch.now, c.well_formed) } in
     begun c.requires.under c.requires.room held c.requires.w_value.0 c.requires.w_value.1 in
-    let asked : Asked (spot) c.args.w c.take-v.result (words c.take-v.new.scratch) (words c.take-v.new.counters) =
+    let asked : Asked spot c.args.w c.take-v.result (words c.take-v.new.scratch) (words c.take-v.new.counters) =
     let t = c.take-v in
     let h = c.head_word-call in
-    asked_as (spot) c.args.w t.result h.result.head (words t.new.scratch) (words t.new.counters) (head_says h.ensures) t.ensures in
-    let at_named : (let v = c.take-v in Named (at_start) v.result (words v.new.scratch) (words v.new.counters)) =
+    asked_as spot c.args.w t.result h.result.head (words t.new.scratch) (words t.new.counters) (head_says h.ensures) t.ensures in
+    let at_named : (let v = c.take-v in Named at_start v.result (words v.new.scratch) (words v.new.counters)) =
     let v = c.take-v in
     record { asked = asked; some = c.if-v-eq0.false; counters = length_words_kept _ _ v.auto.counters; scratch = length_words_kept _ _ v.auto.scratch } in
-    let counted : c.head_word-call.result.count ≡ count_of c.args.w =
-    count_says c.head_word-call.ensures in
-    let at_leaves : (let l = c.leaves-k in Fronted (at_named) l.result (words l.new.scratch)) =
+    let counted : c.head_word-call.result.count ≡ count_of c.args.w = count_says c.head_word-call.ensures in
+    let at_leaves : (let l = c.leaves-k in Fronted at_named l.result (words l.new.scratch)) =
     let l = c.leaves-k in
-    fronted (at_named) (2 ^ 32 - 1) (counted) l.ensures.0 l.ensures.1 (length_words_kept _ _ l.auto.scratch) in
+    fronted at_named (2 ^ 32 - 1) counted l.ensures.0 l.ensures.1 (length_words_kept _ _ l.auto.scratch) in
     let f = at_leaves in
     let n = counted in
     (omega (arith, c.decreases, at_start.facts.inside, at_start.facts.deep), (args_known f n, args_room f n))
@@ -409,10 +403,8 @@ flatten_call-shape_of-counters-then-args-ne0 t c =
 
 pub flatten_call-shape_of-scratch-then-args-ne0 : goal.flatten_call-shape_of-scratch-then-args-ne0
 flatten_call-shape_of-scratch-then-args-ne0 t c =
-    let leaves_kept : length c.leaves-k.new.scratch ≡ length c.args.scratch.now =
-    c.leaves-k.auto.scratch ∙ c.take-v.auto.scratch in
-    let call_scratch_kept : length c.flatten_all-args.new.scratch ≡ length c.args.scratch.now =
-    c.flatten_all-args.auto.scratch ∙ leaves_kept in
+    let leaves_kept : length c.leaves-k.new.scratch ≡ length c.args.scratch.now = c.leaves-k.auto.scratch ∙ c.take-v.auto.scratch in
+    let call_scratch_kept : length c.flatten_all-args.new.scratch ≡ length c.args.scratch.now = c.flatten_all-args.auto.scratch ∙ leaves_kept in
     call_scratch_kept
 
 pub flatten_call-returns-then-args-ne0 : goal.flatten_call-returns-then-args-ne0
@@ -420,23 +412,22 @@ flatten_call-returns-then-args-ne0 t c =
     let spot : Spot =
     let a = c.args in
     record { ws = words a.rule.now; s = words a.scratch.now; cs = words a.counters.now; at = a.at; to = a.to; sp = a.sp; lg = a.log } in
-    let at_start : Begun (spot) c.args.depth c.args.w =
+    let at_start : Begun spot c.args.depth c.args.w =
     let a = c.args in
-    let held : Held (spot) = record { rule = omega (arith, length_words a.rule.now, c.well_formed); scratch = omega (arith, length_words a.scratch.now, c.well_formed) } in
+    let held : Held spot = record { rule = omega (arith, length_words a.rule.now, c.well_formed); scratch = omega (arith, length_words a.scratch.now, c.well_formed) } in
     begun c.requires.under c.requires.room held c.requires.w_value.0 c.requires.w_value.1 in
-    let asked : Asked (spot) c.args.w c.take-v.result (words c.take-v.new.scratch) (words c.take-v.new.counters) =
+    let asked : Asked spot c.args.w c.take-v.result (words c.take-v.new.scratch) (words c.take-v.new.counters) =
     let t = c.take-v in
     let h = c.head_word-call in
-    asked_as (spot) c.args.w t.result h.result.head (words t.new.scratch) (words t.new.counters) (head_says h.ensures) t.ensures in
-    let at_named : (let v = c.take-v in Named (at_start) v.result (words v.new.scratch) (words v.new.counters)) =
+    asked_as spot c.args.w t.result h.result.head (words t.new.scratch) (words t.new.counters) (head_says h.ensures) t.ensures in
+    let at_named : (let v = c.take-v in Named at_start v.result (words v.new.scratch) (words v.new.counters)) =
     let v = c.take-v in
     record { asked = asked; some = c.if-v-eq0.false; counters = length_words_kept _ _ v.auto.counters; scratch = length_words_kept _ _ v.auto.scratch } in
-    let counted : c.head_word-call.result.count ≡ count_of c.args.w =
-    count_says c.head_word-call.ensures in
-    let at_leaves : (let l = c.leaves-k in Fronted (at_named) l.result (words l.new.scratch)) =
+    let counted : c.head_word-call.result.count ≡ count_of c.args.w = count_says c.head_word-call.ensures in
+    let at_leaves : (let l = c.leaves-k in Fronted at_named l.result (words l.new.scratch)) =
     let l = c.leaves-k in
-    fronted (at_named) (2 ^ 32 - 1) (counted) l.ensures.0 l.ensures.1 (length_words_kept _ _ l.auto.scratch) in
-    let at_args : (let k = c.flatten_all-args in Argued (at_leaves) c.head_word-call.result.count (words k.new.scratch) (words k.new.counters) k.result) =
+    fronted at_named (2 ^ 32 - 1) counted l.ensures.0 l.ensures.1 (length_words_kept _ _ l.auto.scratch) in
+    let at_args : (let k = c.flatten_all-args in Argued at_leaves c.head_word-call.result.count (words k.new.scratch) (words k.new.counters) k.result) =
     let k = c.flatten_all-args in
     record { count = counted; walk = k.ensures; scratch = length_words_kept _ _ k.auto.scratch } in
     args_refused at_args c.if-args-ne0.true
@@ -446,9 +437,9 @@ flatten_call-overflow_add-w-2 t c =
     let spot : Spot =
     let a = c.args in
     record { ws = words a.rule.now; s = words a.scratch.now; cs = words a.counters.now; at = a.at; to = a.to; sp = a.sp; lg = a.log } in
-    let at_start : Begun (spot) c.args.depth c.args.w =
+    let at_start : Begun spot c.args.depth c.args.w =
     let a = c.args in
-    let held : Held (spot) = record { rule = omega (arith, length_words a.rule.now, c.well_formed); scratch = omega (arith, length_words a.scratch.now, c.well_formed) } in
+    let held : Held spot = record { rule = omega (arith, length_words a.rule.now, c.well_formed); scratch = omega (arith, length_words a.scratch.now, c.well_formed) } in
     begun c.requires.under c.requires.room held c.requires.w_value.0 c.requires.w_value.1 in
     omega (arith, at_start.low)
 
@@ -457,23 +448,22 @@ flatten_call-put_atom-end-requires t c =
     let spot : Spot =
     let a = c.args in
     record { ws = words a.rule.now; s = words a.scratch.now; cs = words a.counters.now; at = a.at; to = a.to; sp = a.sp; lg = a.log } in
-    let at_start : Begun (spot) c.args.depth c.args.w =
+    let at_start : Begun spot c.args.depth c.args.w =
     let a = c.args in
-    let held : Held (spot) = record { rule = omega (arith, length_words a.rule.now, c.well_formed); scratch = omega (arith, length_words a.scratch.now, c.well_formed) } in
+    let held : Held spot = record { rule = omega (arith, length_words a.rule.now, c.well_formed); scratch = omega (arith, length_words a.scratch.now, c.well_formed) } in
     begun c.requires.under c.requires.room held c.requires.w_value.0 c.requires.w_value.1 in
-    let asked : Asked (spot) c.args.w c.take-v.result (words c.take-v.new.scratch) (words c.take-v.new.counters) =
+    let asked : Asked spot c.args.w c.take-v.result (words c.take-v.new.scratch) (words c.take-v.new.counters) =
     let t = c.take-v in
     let h = c.head_word-call in
-    asked_as (spot) c.args.w t.result h.result.head (words t.new.scratch) (words t.new.counters) (head_says h.ensures) t.ensures in
-    let at_named : (let v = c.take-v in Named (at_start) v.result (words v.new.scratch) (words v.new.counters)) =
+    asked_as spot c.args.w t.result h.result.head (words t.new.scratch) (words t.new.counters) (head_says h.ensures) t.ensures in
+    let at_named : (let v = c.take-v in Named at_start v.result (words v.new.scratch) (words v.new.counters)) =
     let v = c.take-v in
     record { asked = asked; some = c.if-v-eq0.false; counters = length_words_kept _ _ v.auto.counters; scratch = length_words_kept _ _ v.auto.scratch } in
-    let counted : c.head_word-call.result.count ≡ count_of c.args.w =
-    count_says c.head_word-call.ensures in
-    let at_leaves : (let l = c.leaves-k in Fronted (at_named) l.result (words l.new.scratch)) =
+    let counted : c.head_word-call.result.count ≡ count_of c.args.w = count_says c.head_word-call.ensures in
+    let at_leaves : (let l = c.leaves-k in Fronted at_named l.result (words l.new.scratch)) =
     let l = c.leaves-k in
-    fronted (at_named) (2 ^ 32 - 1) (counted) l.ensures.0 l.ensures.1 (length_words_kept _ _ l.auto.scratch) in
-    let at_args : (let k = c.flatten_all-args in Argued (at_leaves) c.head_word-call.result.count (words k.new.scratch) (words k.new.counters) k.result) =
+    fronted at_named (2 ^ 32 - 1) counted l.ensures.0 l.ensures.1 (length_words_kept _ _ l.auto.scratch) in
+    let at_args : (let k = c.flatten_all-args in Argued at_leaves c.head_word-call.result.count (words k.new.scratch) (words k.new.counters) k.result) =
     let k = c.flatten_all-args in
     record { count = counted; walk = k.ensures; scratch = length_words_kept _ _ k.auto.scratch } in
     atom_asks at_args c.if-args-ne0.false
@@ -486,10 +476,8 @@ flatten_call-shape_of-counters t c =
 
 pub flatten_call-shape_of-scratch : goal.flatten_call-shape_of-scratch
 flatten_call-shape_of-scratch t c =
-    let leaves_kept : length c.leaves-k.new.scratch ≡ length c.args.scratch.now =
-    c.leaves-k.auto.scratch ∙ c.take-v.auto.scratch in
-    let call_scratch_kept : length c.flatten_all-args.new.scratch ≡ length c.args.scratch.now =
-    c.flatten_all-args.auto.scratch ∙ leaves_kept in
+    let leaves_kept : length c.leaves-k.new.scratch ≡ length c.args.scratch.now = c.leaves-k.auto.scratch ∙ c.take-v.auto.scratch in
+    let call_scratch_kept : length c.flatten_all-args.new.scratch ≡ length c.args.scratch.now = c.flatten_all-args.auto.scratch ∙ leaves_kept in
     c.put_atom-end.auto.buf ∙ call_scratch_kept
 
 pub flatten_call-returns : goal.flatten_call-returns
@@ -497,23 +485,22 @@ flatten_call-returns t c =
     let spot : Spot =
     let a = c.args in
     record { ws = words a.rule.now; s = words a.scratch.now; cs = words a.counters.now; at = a.at; to = a.to; sp = a.sp; lg = a.log } in
-    let at_start : Begun (spot) c.args.depth c.args.w =
+    let at_start : Begun spot c.args.depth c.args.w =
     let a = c.args in
-    let held : Held (spot) = record { rule = omega (arith, length_words a.rule.now, c.well_formed); scratch = omega (arith, length_words a.scratch.now, c.well_formed) } in
+    let held : Held spot = record { rule = omega (arith, length_words a.rule.now, c.well_formed); scratch = omega (arith, length_words a.scratch.now, c.well_formed) } in
     begun c.requires.under c.requires.room held c.requires.w_value.0 c.requires.w_value.1 in
-    let asked : Asked (spot) c.args.w c.take-v.result (words c.take-v.new.scratch) (words c.take-v.new.counters) =
+    let asked : Asked spot c.args.w c.take-v.result (words c.take-v.new.scratch) (words c.take-v.new.counters) =
     let t = c.take-v in
     let h = c.head_word-call in
-    asked_as (spot) c.args.w t.result h.result.head (words t.new.scratch) (words t.new.counters) (head_says h.ensures) t.ensures in
-    let at_named : (let v = c.take-v in Named (at_start) v.result (words v.new.scratch) (words v.new.counters)) =
+    asked_as spot c.args.w t.result h.result.head (words t.new.scratch) (words t.new.counters) (head_says h.ensures) t.ensures in
+    let at_named : (let v = c.take-v in Named at_start v.result (words v.new.scratch) (words v.new.counters)) =
     let v = c.take-v in
     record { asked = asked; some = c.if-v-eq0.false; counters = length_words_kept _ _ v.auto.counters; scratch = length_words_kept _ _ v.auto.scratch } in
-    let counted : c.head_word-call.result.count ≡ count_of c.args.w =
-    count_says c.head_word-call.ensures in
-    let at_leaves : (let l = c.leaves-k in Fronted (at_named) l.result (words l.new.scratch)) =
+    let counted : c.head_word-call.result.count ≡ count_of c.args.w = count_says c.head_word-call.ensures in
+    let at_leaves : (let l = c.leaves-k in Fronted at_named l.result (words l.new.scratch)) =
     let l = c.leaves-k in
-    fronted (at_named) (2 ^ 32 - 1) (counted) l.ensures.0 l.ensures.1 (length_words_kept _ _ l.auto.scratch) in
-    let at_args : (let k = c.flatten_all-args in Argued (at_leaves) c.head_word-call.result.count (words k.new.scratch) (words k.new.counters) k.result) =
+    fronted at_named (2 ^ 32 - 1) counted l.ensures.0 l.ensures.1 (length_words_kept _ _ l.auto.scratch) in
+    let at_args : (let k = c.flatten_all-args in Argued at_leaves c.head_word-call.result.count (words k.new.scratch) (words k.new.counters) k.result) =
     let k = c.flatten_all-args in
     record { count = counted; walk = k.ensures; scratch = length_words_kept _ _ k.auto.scratch } in
     let e = c.put_atom-end.ensures in

@@ -15,8 +15,8 @@ get-w-requires c =
     let spot : Spot =
     let a = c.args in
     record { ws = words a.rule.now; s = words a.scratch.now; cs = words a.counters.now; at = a.at; to = a.to; sp = a.sp; lg = a.log } in
-    let inside : (spot).at < length (spot).ws =
-    let q = c.requires.under in expr_inside q.sig (spot).ws c.args.depth (spot).at q.known.0 in
+    let inside : spot.at < length spot.ws =
+    let q = c.requires.under in expr_inside q.sig spot.ws c.args.depth spot.at q.known.0 in
     inside
 
 pub overflow_add-at : goal.overflow_add-at
@@ -24,8 +24,8 @@ overflow_add-at c =
     let spot : Spot =
     let a = c.args in
     record { ws = words a.rule.now; s = words a.scratch.now; cs = words a.counters.now; at = a.at; to = a.to; sp = a.sp; lg = a.log } in
-    let inside : (spot).at < length (spot).ws =
-    let q = c.requires.under in expr_inside q.sig (spot).ws c.args.depth (spot).at q.known.0 in
+    let inside : spot.at < length spot.ws =
+    let q = c.requires.under in expr_inside q.sig spot.ws c.args.depth spot.at q.known.0 in
     omega (arith, inside, length_words c.args.rule.now)
 
 pub returns-then-is_leaf : goal.returns-then-is_leaf

@@ -16,9 +16,8 @@ get-w-requires c =
     let spot : Spot =
     let a = c.args in
     record { ws = words a.rule.now; s = words a.scratch.now; cs = words a.counters.now; at = a.at; to = a.to; sp = a.sp; lg = a.log } in
-    let at_start : (w : ℕ) → w ≡ get_or (spot).ws (spot).at 0 → Begun (spot) w =
-    λ w is. let a = c.args in
-    let held : Held (spot) = record { rule = omega (arith, length_words a.rule.now, c.well_formed); scratch = omega (arith, length_words a.scratch.now, c.well_formed) } in
+    let at_start : (w : ℕ) → w ≡ get_or spot.ws spot.at 0 → Begun spot w = λ w is. let a = c.args in
+    let held : Held spot = record { rule = omega (arith, length_words a.rule.now, c.well_formed); scratch = omega (arith, length_words a.scratch.now, c.well_formed) } in
     begun c.requires.under c.requires.room held is in
     (at_start _ refl).inside
 
@@ -27,12 +26,10 @@ flatten-e-requires c =
     let spot : Spot =
     let a = c.args in
     record { ws = words a.rule.now; s = words a.scratch.now; cs = words a.counters.now; at = a.at; to = a.to; sp = a.sp; lg = a.log } in
-    let at_start : (w : ℕ) → w ≡ get_or (spot).ws (spot).at 0 → Begun (spot) w =
-    λ w is. let a = c.args in
-    let held : Held (spot) = record { rule = omega (arith, length_words a.rule.now, c.well_formed); scratch = omega (arith, length_words a.scratch.now, c.well_formed) } in
+    let at_start : (w : ℕ) → w ≡ get_or spot.ws spot.at 0 → Begun spot w = λ w is. let a = c.args in
+    let held : Held spot = record { rule = omega (arith, length_words a.rule.now, c.well_formed); scratch = omega (arith, length_words a.scratch.now, c.well_formed) } in
     begun c.requires.under c.requires.room held is in
-    let at_get : Begun (spot) c.get-w.result =
-    at_start c.get-w.result c.get-w.ensures.is in
+    let at_get : Begun spot c.get-w.result = at_start c.get-w.result c.get-w.ensures.is in
     record { under = holds_known at_get c.if-w-ne-EQUALITY.true; room = c.requires.room }
 
 pub returns-then-w-ne-EQUALITY : goal.returns-then-w-ne-EQUALITY
@@ -40,12 +37,10 @@ returns-then-w-ne-EQUALITY c =
     let spot : Spot =
     let a = c.args in
     record { ws = words a.rule.now; s = words a.scratch.now; cs = words a.counters.now; at = a.at; to = a.to; sp = a.sp; lg = a.log } in
-    let at_start : (w : ℕ) → w ≡ get_or (spot).ws (spot).at 0 → Begun (spot) w =
-    λ w is. let a = c.args in
-    let held : Held (spot) = record { rule = omega (arith, length_words a.rule.now, c.well_formed); scratch = omega (arith, length_words a.scratch.now, c.well_formed) } in
+    let at_start : (w : ℕ) → w ≡ get_or spot.ws spot.at 0 → Begun spot w = λ w is. let a = c.args in
+    let held : Held spot = record { rule = omega (arith, length_words a.rule.now, c.well_formed); scratch = omega (arith, length_words a.scratch.now, c.well_formed) } in
     begun c.requires.under c.requires.room held is in
-    let at_get : Begun (spot) c.get-w.result =
-    at_start c.get-w.result c.get-w.ensures.is in
+    let at_get : Begun spot c.get-w.result = at_start c.get-w.result c.get-w.ensures.is in
     rw c.without_term.ensures
     (holds_answer at_get c.if-w-ne-EQUALITY.true _ _ _ c.flatten-e.ensures)
 
@@ -56,12 +51,10 @@ overflow_add-at c =
     let spot : Spot =
     let a = c.args in
     record { ws = words a.rule.now; s = words a.scratch.now; cs = words a.counters.now; at = a.at; to = a.to; sp = a.sp; lg = a.log } in
-    let at_start : (w : ℕ) → w ≡ get_or (spot).ws (spot).at 0 → Begun (spot) w =
-    λ w is. let a = c.args in
-    let held : Held (spot) = record { rule = omega (arith, length_words a.rule.now, c.well_formed); scratch = omega (arith, length_words a.scratch.now, c.well_formed) } in
+    let at_start : (w : ℕ) → w ≡ get_or spot.ws spot.at 0 → Begun spot w = λ w is. let a = c.args in
+    let held : Held spot = record { rule = omega (arith, length_words a.rule.now, c.well_formed); scratch = omega (arith, length_words a.scratch.now, c.well_formed) } in
     begun c.requires.under c.requires.room held is in
-    let at_get : Begun (spot) c.get-w.result =
-    at_start c.get-w.result c.get-w.ensures.is in
+    let at_get : Begun spot c.get-w.result = at_start c.get-w.result c.get-w.ensures.is in
     omega (arith, at_get)
 
 pub flatten-left-requires : goal.flatten-left-requires
@@ -69,12 +62,10 @@ flatten-left-requires c =
     let spot : Spot =
     let a = c.args in
     record { ws = words a.rule.now; s = words a.scratch.now; cs = words a.counters.now; at = a.at; to = a.to; sp = a.sp; lg = a.log } in
-    let at_start : (w : ℕ) → w ≡ get_or (spot).ws (spot).at 0 → Begun (spot) w =
-    λ w is. let a = c.args in
-    let held : Held (spot) = record { rule = omega (arith, length_words a.rule.now, c.well_formed); scratch = omega (arith, length_words a.scratch.now, c.well_formed) } in
+    let at_start : (w : ℕ) → w ≡ get_or spot.ws spot.at 0 → Begun spot w = λ w is. let a = c.args in
+    let held : Held spot = record { rule = omega (arith, length_words a.rule.now, c.well_formed); scratch = omega (arith, length_words a.scratch.now, c.well_formed) } in
     begun c.requires.under c.requires.room held is in
-    let at_get : Begun (spot) c.get-w.result =
-    at_start c.get-w.result c.get-w.ensures.is in
+    let at_get : Begun spot c.get-w.result = at_start c.get-w.result c.get-w.ensures.is in
     record { under = left_known at_get c.if-w-ne-EQUALITY.false; room = left_room at_get c.if-w-ne-EQUALITY.false }
 
 pub returns-then-left-ne0 : goal.returns-then-left-ne0
@@ -82,13 +73,11 @@ returns-then-left-ne0 c =
     let spot : Spot =
     let a = c.args in
     record { ws = words a.rule.now; s = words a.scratch.now; cs = words a.counters.now; at = a.at; to = a.to; sp = a.sp; lg = a.log } in
-    let at_start : (w : ℕ) → w ≡ get_or (spot).ws (spot).at 0 → Begun (spot) w =
-    λ w is. let a = c.args in
-    let held : Held (spot) = record { rule = omega (arith, length_words a.rule.now, c.well_formed); scratch = omega (arith, length_words a.scratch.now, c.well_formed) } in
+    let at_start : (w : ℕ) → w ≡ get_or spot.ws spot.at 0 → Begun spot w = λ w is. let a = c.args in
+    let held : Held spot = record { rule = omega (arith, length_words a.rule.now, c.well_formed); scratch = omega (arith, length_words a.scratch.now, c.well_formed) } in
     begun c.requires.under c.requires.room held is in
-    let at_get : Begun (spot) c.get-w.result =
-    at_start c.get-w.result c.get-w.ensures.is in
-    let at_left : (let l = c.flatten-left in Lefted (at_get) (words l.new.scratch) (words l.new.counters) l.result) =
+    let at_get : Begun spot c.get-w.result = at_start c.get-w.result c.get-w.ensures.is in
+    let at_left : (let l = c.flatten-left in Lefted at_get (words l.new.scratch) (words l.new.counters) l.result) =
     let l = c.flatten-left in
     record {
       eq = c.if-w-ne-EQUALITY.false;
@@ -103,13 +92,11 @@ flatten-right-requires c =
     let spot : Spot =
     let a = c.args in
     record { ws = words a.rule.now; s = words a.scratch.now; cs = words a.counters.now; at = a.at; to = a.to; sp = a.sp; lg = a.log } in
-    let at_start : (w : ℕ) → w ≡ get_or (spot).ws (spot).at 0 → Begun (spot) w =
-    λ w is. let a = c.args in
-    let held : Held (spot) = record { rule = omega (arith, length_words a.rule.now, c.well_formed); scratch = omega (arith, length_words a.scratch.now, c.well_formed) } in
+    let at_start : (w : ℕ) → w ≡ get_or spot.ws spot.at 0 → Begun spot w = λ w is. let a = c.args in
+    let held : Held spot = record { rule = omega (arith, length_words a.rule.now, c.well_formed); scratch = omega (arith, length_words a.scratch.now, c.well_formed) } in
     begun c.requires.under c.requires.room held is in
-    let at_get : Begun (spot) c.get-w.result =
-    at_start c.get-w.result c.get-w.ensures.is in
-    let at_left : (let l = c.flatten-left in Lefted (at_get) (words l.new.scratch) (words l.new.counters) l.result) =
+    let at_get : Begun spot c.get-w.result = at_start c.get-w.result c.get-w.ensures.is in
+    let at_left : (let l = c.flatten-left in Lefted at_get (words l.new.scratch) (words l.new.counters) l.result) =
     let l = c.flatten-left in
     record {
       eq = c.if-w-ne-EQUALITY.false;
@@ -128,8 +115,7 @@ shape_of-counters-then-right-ne0 c =
 
 pub shape_of-scratch-then-right-ne0 : goal.shape_of-scratch-then-right-ne0
 shape_of-scratch-then-right-ne0 c =
-    let scratch_kept : length c.flatten-right.new.scratch ≡ length c.args.scratch.now =
-    c.flatten-right.auto.scratch ∙ c.flatten-left.auto.scratch in
+    let scratch_kept : length c.flatten-right.new.scratch ≡ length c.args.scratch.now = c.flatten-right.auto.scratch ∙ c.flatten-left.auto.scratch in
     scratch_kept
 
 pub returns-then-right-ne0 : goal.returns-then-right-ne0
@@ -137,13 +123,11 @@ returns-then-right-ne0 c =
     let spot : Spot =
     let a = c.args in
     record { ws = words a.rule.now; s = words a.scratch.now; cs = words a.counters.now; at = a.at; to = a.to; sp = a.sp; lg = a.log } in
-    let at_start : (w : ℕ) → w ≡ get_or (spot).ws (spot).at 0 → Begun (spot) w =
-    λ w is. let a = c.args in
-    let held : Held (spot) = record { rule = omega (arith, length_words a.rule.now, c.well_formed); scratch = omega (arith, length_words a.scratch.now, c.well_formed) } in
+    let at_start : (w : ℕ) → w ≡ get_or spot.ws spot.at 0 → Begun spot w = λ w is. let a = c.args in
+    let held : Held spot = record { rule = omega (arith, length_words a.rule.now, c.well_formed); scratch = omega (arith, length_words a.scratch.now, c.well_formed) } in
     begun c.requires.under c.requires.room held is in
-    let at_get : Begun (spot) c.get-w.result =
-    at_start c.get-w.result c.get-w.ensures.is in
-    let at_left : (let l = c.flatten-left in Lefted (at_get) (words l.new.scratch) (words l.new.counters) l.result) =
+    let at_get : Begun spot c.get-w.result = at_start c.get-w.result c.get-w.ensures.is in
+    let at_left : (let l = c.flatten-left in Lefted at_get (words l.new.scratch) (words l.new.counters) l.result) =
     let l = c.flatten-left in
     record {
       eq = c.if-w-ne-EQUALITY.false;
@@ -151,10 +135,9 @@ returns-then-right-ne0 c =
       counters = length_words_kept _ _ l.auto.counters;
       scratch = length_words_kept _ _ l.auto.scratch;
     } in
-    let scratch_kept : length c.flatten-right.new.scratch ≡ length c.args.scratch.now =
-    c.flatten-right.auto.scratch ∙ c.flatten-left.auto.scratch in
-    let at_right : (let r = c.flatten-right in Righted (at_left) (words r.new.scratch) (words r.new.counters) r.result) =
-    record { fine = c.if-left-ne0.false; walk = c.flatten-right.ensures; scratch = length_words_kept _ _ (scratch_kept) } in
+    let scratch_kept : length c.flatten-right.new.scratch ≡ length c.args.scratch.now = c.flatten-right.auto.scratch ∙ c.flatten-left.auto.scratch in
+    let at_right : (let r = c.flatten-right in Righted at_left (words r.new.scratch) (words r.new.counters) r.result) =
+    record { fine = c.if-left-ne0.false; walk = c.flatten-right.ensures; scratch = length_words_kept _ _ scratch_kept } in
     right_refused at_right c.if-right-ne0.true
 
 pub put_three-end-requires : goal.put_three-end-requires
@@ -162,13 +145,11 @@ put_three-end-requires c =
     let spot : Spot =
     let a = c.args in
     record { ws = words a.rule.now; s = words a.scratch.now; cs = words a.counters.now; at = a.at; to = a.to; sp = a.sp; lg = a.log } in
-    let at_start : (w : ℕ) → w ≡ get_or (spot).ws (spot).at 0 → Begun (spot) w =
-    λ w is. let a = c.args in
-    let held : Held (spot) = record { rule = omega (arith, length_words a.rule.now, c.well_formed); scratch = omega (arith, length_words a.scratch.now, c.well_formed) } in
+    let at_start : (w : ℕ) → w ≡ get_or spot.ws spot.at 0 → Begun spot w = λ w is. let a = c.args in
+    let held : Held spot = record { rule = omega (arith, length_words a.rule.now, c.well_formed); scratch = omega (arith, length_words a.scratch.now, c.well_formed) } in
     begun c.requires.under c.requires.room held is in
-    let at_get : Begun (spot) c.get-w.result =
-    at_start c.get-w.result c.get-w.ensures.is in
-    let at_left : (let l = c.flatten-left in Lefted (at_get) (words l.new.scratch) (words l.new.counters) l.result) =
+    let at_get : Begun spot c.get-w.result = at_start c.get-w.result c.get-w.ensures.is in
+    let at_left : (let l = c.flatten-left in Lefted at_get (words l.new.scratch) (words l.new.counters) l.result) =
     let l = c.flatten-left in
     record {
       eq = c.if-w-ne-EQUALITY.false;
@@ -176,10 +157,9 @@ put_three-end-requires c =
       counters = length_words_kept _ _ l.auto.counters;
       scratch = length_words_kept _ _ l.auto.scratch;
     } in
-    let scratch_kept : length c.flatten-right.new.scratch ≡ length c.args.scratch.now =
-    c.flatten-right.auto.scratch ∙ c.flatten-left.auto.scratch in
-    let at_right : (let r = c.flatten-right in Righted (at_left) (words r.new.scratch) (words r.new.counters) r.result) =
-    record { fine = c.if-left-ne0.false; walk = c.flatten-right.ensures; scratch = length_words_kept _ _ (scratch_kept) } in
+    let scratch_kept : length c.flatten-right.new.scratch ≡ length c.args.scratch.now = c.flatten-right.auto.scratch ∙ c.flatten-left.auto.scratch in
+    let at_right : (let r = c.flatten-right in Righted at_left (words r.new.scratch) (words r.new.counters) r.result) =
+    record { fine = c.if-left-ne0.false; walk = c.flatten-right.ensures; scratch = length_words_kept _ _ scratch_kept } in
     three_room at_right c.if-right-ne0.false
 
 pub shape_of-counters : goal.shape_of-counters
@@ -190,8 +170,7 @@ shape_of-counters c =
 
 pub shape_of-scratch : goal.shape_of-scratch
 shape_of-scratch c =
-    let scratch_kept : length c.flatten-right.new.scratch ≡ length c.args.scratch.now =
-    c.flatten-right.auto.scratch ∙ c.flatten-left.auto.scratch in
+    let scratch_kept : length c.flatten-right.new.scratch ≡ length c.args.scratch.now = c.flatten-right.auto.scratch ∙ c.flatten-left.auto.scratch in
     c.put_three-end.auto.buf ∙ scratch_kept
 
 pub returns : goal.returns
@@ -199,13 +178,11 @@ returns c =
     let spot : Spot =
     let a = c.args in
     record { ws = words a.rule.now; s = words a.scratch.now; cs = words a.counters.now; at = a.at; to = a.to; sp = a.sp; lg = a.log } in
-    let at_start : (w : ℕ) → w ≡ get_or (spot).ws (spot).at 0 → Begun (spot) w =
-    λ w is. let a = c.args in
-    let held : Held (spot) = record { rule = omega (arith, length_words a.rule.now, c.well_formed); scratch = omega (arith, length_words a.scratch.now, c.well_formed) } in
+    let at_start : (w : ℕ) → w ≡ get_or spot.ws spot.at 0 → Begun spot w = λ w is. let a = c.args in
+    let held : Held spot = record { rule = omega (arith, length_words a.rule.now, c.well_formed); scratch = omega (arith, length_words a.scratch.now, c.well_formed) } in
     begun c.requires.under c.requires.room held is in
-    let at_get : Begun (spot) c.get-w.result =
-    at_start c.get-w.result c.get-w.ensures.is in
-    let at_left : (let l = c.flatten-left in Lefted (at_get) (words l.new.scratch) (words l.new.counters) l.result) =
+    let at_get : Begun spot c.get-w.result = at_start c.get-w.result c.get-w.ensures.is in
+    let at_left : (let l = c.flatten-left in Lefted at_get (words l.new.scratch) (words l.new.counters) l.result) =
     let l = c.flatten-left in
     record {
       eq = c.if-w-ne-EQUALITY.false;
@@ -213,9 +190,8 @@ returns c =
       counters = length_words_kept _ _ l.auto.counters;
       scratch = length_words_kept _ _ l.auto.scratch;
     } in
-    let scratch_kept : length c.flatten-right.new.scratch ≡ length c.args.scratch.now =
-    c.flatten-right.auto.scratch ∙ c.flatten-left.auto.scratch in
-    let at_right : (let r = c.flatten-right in Righted (at_left) (words r.new.scratch) (words r.new.counters) r.result) =
-    record { fine = c.if-left-ne0.false; walk = c.flatten-right.ensures; scratch = length_words_kept _ _ (scratch_kept) } in
+    let scratch_kept : length c.flatten-right.new.scratch ≡ length c.args.scratch.now = c.flatten-right.auto.scratch ∙ c.flatten-left.auto.scratch in
+    let at_right : (let r = c.flatten-right in Righted at_left (words r.new.scratch) (words r.new.counters) r.result) =
+    record { fine = c.if-left-ne0.false; walk = c.flatten-right.ensures; scratch = length_words_kept _ _ scratch_kept } in
     let p = c.put_three-end in
     rw c.reached.ensures (equal_answer at_right _ _ c.if-right-ne0.false p.ensures.0 p.ensures.1)

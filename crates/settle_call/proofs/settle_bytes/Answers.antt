@@ -19,8 +19,7 @@ returns-then-not-all_whole c =
     let given : Given =
     let a = c.args in
     record { signature = a.signature.now; rule = a.rule.now; counters = []; output = a.output.now; scratch = a.scratch.now } in
-    let at_all : c.all_whole.result ≡ whole_words (settling (given)).lengths =
-    settle_tested (given) c.whole-rest.ensures c.all_whole.ensures in
+    let at_all : c.all_whole.result ≡ whole_words (settling given).lengths = settle_tested given c.whole-rest.ensures c.all_whole.ensures in
     record { gives = settle_gives given (slices_ragged (settling given) at_all c.if-not-all_whole.true c.refused.ensures); beyond = refl }
 
 pub returns-then-sign-ne0 : goal.returns-then-sign-ne0
@@ -28,14 +27,11 @@ returns-then-sign-ne0 c =
     let given : Given =
     let a = c.args in
     record { signature = a.signature.now; rule = a.rule.now; counters = []; output = a.output.now; scratch = a.scratch.now } in
-    let front_given : Given =
-    given in
-    let at_all : c.all_whole.result ≡ whole_words (settling (given)).lengths =
-    settle_tested (given) c.whole-rest.ensures c.all_whole.ensures in
-    let at_whole : Whole (settling (given)) =
-    settle_whole (given) (at_all) c.if-not-all_whole.false in
-    let at_tests : c.flat_front-sign.result ≡ sign_of (front (settling (front_given)).tests) =
-    settle_front (front_given) c.count.ensures c.flat_front-sign.ensures in
+    let front_given : Given = given in
+    let at_all : c.all_whole.result ≡ whole_words (settling given).lengths = settle_tested given c.whole-rest.ensures c.all_whole.ensures in
+    let at_whole : Whole (settling given) = settle_whole given at_all c.if-not-all_whole.false in
+    let at_tests : c.flat_front-sign.result ≡ sign_of (front (settling front_given).tests) =
+    settle_front front_given c.count.ensures c.flat_front-sign.ensures in
     record { gives = settle_gives front_given (front_refuses at_whole at_tests c.if-sign-ne0.true c.refused-then-sign-ne0.ensures); beyond = refl }
 
 pub overflow_mul-n : goal.overflow_mul-n
@@ -43,20 +39,15 @@ overflow_mul-n c =
     let given : Given =
     let a = c.args in
     record { signature = a.signature.now; rule = a.rule.now; counters = []; output = a.output.now; scratch = a.scratch.now } in
-    let front_given : Given =
-    given in
-    let else_given : Given =
-    front_given in
-    let at_all : c.all_whole.result ≡ whole_words (settling (given)).lengths =
-    settle_tested (given) c.whole-rest.ensures c.all_whole.ensures in
-    let at_whole : Whole (settling (given)) =
-    settle_whole (given) (at_all) c.if-not-all_whole.false in
-    let at_tests : c.flat_front-sign.result ≡ sign_of (front (settling (front_given)).tests) =
-    settle_front (front_given) c.count.ensures c.flat_front-sign.ensures in
-    let at_front : Ready (settling (else_given)) c.flat_front-sign.result =
-    ready (at_whole) (at_tests) c.if-sign-ne0.false in
+    let front_given : Given = given in
+    let else_given : Given = front_given in
+    let at_all : c.all_whole.result ≡ whole_words (settling given).lengths = settle_tested given c.whole-rest.ensures c.all_whole.ensures in
+    let at_whole : Whole (settling given) = settle_whole given at_all c.if-not-all_whole.false in
+    let at_tests : c.flat_front-sign.result ≡ sign_of (front (settling front_given).tests) =
+    settle_front front_given c.count.ensures c.flat_front-sign.ensures in
+    let at_front : Ready (settling else_given) c.flat_front-sign.result = ready at_whole at_tests c.if-sign-ne0.false in
     let at_lent : (let k = else_given in Lent (scratch_flat k.rule) k.scratch (64 * c.count-n.result)) =
-    settle_lent (else_given) (at_front) c.count-n.ensures in
+    settle_lent else_given at_front c.count-n.ensures in
     omega (arith, at_lent.fits)
 
 pub slice_bounds-settle_good-end : goal.slice_bounds-settle_good-end
@@ -64,20 +55,15 @@ slice_bounds-settle_good-end c =
     let given : Given =
     let a = c.args in
     record { signature = a.signature.now; rule = a.rule.now; counters = []; output = a.output.now; scratch = a.scratch.now } in
-    let front_given : Given =
-    given in
-    let else_given : Given =
-    front_given in
-    let at_all : c.all_whole.result ≡ whole_words (settling (given)).lengths =
-    settle_tested (given) c.whole-rest.ensures c.all_whole.ensures in
-    let at_whole : Whole (settling (given)) =
-    settle_whole (given) (at_all) c.if-not-all_whole.false in
-    let at_tests : c.flat_front-sign.result ≡ sign_of (front (settling (front_given)).tests) =
-    settle_front (front_given) c.count.ensures c.flat_front-sign.ensures in
-    let at_front : Ready (settling (else_given)) c.flat_front-sign.result =
-    ready (at_whole) (at_tests) c.if-sign-ne0.false in
+    let front_given : Given = given in
+    let else_given : Given = front_given in
+    let at_all : c.all_whole.result ≡ whole_words (settling given).lengths = settle_tested given c.whole-rest.ensures c.all_whole.ensures in
+    let at_whole : Whole (settling given) = settle_whole given at_all c.if-not-all_whole.false in
+    let at_tests : c.flat_front-sign.result ≡ sign_of (front (settling front_given).tests) =
+    settle_front front_given c.count.ensures c.flat_front-sign.ensures in
+    let at_front : Ready (settling else_given) c.flat_front-sign.result = ready at_whole at_tests c.if-sign-ne0.false in
     let at_lent : (let k = else_given in Lent (scratch_flat k.rule) k.scratch (64 * c.count-n.result)) =
-    settle_lent (else_given) (at_front) c.count-n.ensures in
+    settle_lent else_given at_front c.count-n.ensures in
     at_lent.inside
 
 pub slice_bounds-settle_good-end-2 : goal.slice_bounds-settle_good-end-2
@@ -85,20 +71,15 @@ slice_bounds-settle_good-end-2 c =
     let given : Given =
     let a = c.args in
     record { signature = a.signature.now; rule = a.rule.now; counters = []; output = a.output.now; scratch = a.scratch.now } in
-    let front_given : Given =
-    given in
-    let else_given : Given =
-    front_given in
-    let at_all : c.all_whole.result ≡ whole_words (settling (given)).lengths =
-    settle_tested (given) c.whole-rest.ensures c.all_whole.ensures in
-    let at_whole : Whole (settling (given)) =
-    settle_whole (given) (at_all) c.if-not-all_whole.false in
-    let at_tests : c.flat_front-sign.result ≡ sign_of (front (settling (front_given)).tests) =
-    settle_front (front_given) c.count.ensures c.flat_front-sign.ensures in
-    let at_front : Ready (settling (else_given)) c.flat_front-sign.result =
-    ready (at_whole) (at_tests) c.if-sign-ne0.false in
+    let front_given : Given = given in
+    let else_given : Given = front_given in
+    let at_all : c.all_whole.result ≡ whole_words (settling given).lengths = settle_tested given c.whole-rest.ensures c.all_whole.ensures in
+    let at_whole : Whole (settling given) = settle_whole given at_all c.if-not-all_whole.false in
+    let at_tests : c.flat_front-sign.result ≡ sign_of (front (settling front_given).tests) =
+    settle_front front_given c.count.ensures c.flat_front-sign.ensures in
+    let at_front : Ready (settling else_given) c.flat_front-sign.result = ready at_whole at_tests c.if-sign-ne0.false in
     let at_lent : (let k = else_given in Lent (scratch_flat k.rule) k.scratch (64 * c.count-n.result)) =
-    settle_lent (else_given) (at_front) c.count-n.ensures in
+    settle_lent else_given at_front c.count-n.ensures in
     sym (lent_size at_lent)
 
 pub settle_good-ended-requires : goal.settle_good-ended-requires
@@ -106,20 +87,15 @@ settle_good-ended-requires c =
     let given : Given =
     let a = c.args in
     record { signature = a.signature.now; rule = a.rule.now; counters = []; output = a.output.now; scratch = a.scratch.now } in
-    let front_given : Given =
-    given in
-    let else_given : Given =
-    front_given in
-    let at_all : c.all_whole.result ≡ whole_words (settling (given)).lengths =
-    settle_tested (given) c.whole-rest.ensures c.all_whole.ensures in
-    let at_whole : Whole (settling (given)) =
-    settle_whole (given) (at_all) c.if-not-all_whole.false in
-    let at_tests : c.flat_front-sign.result ≡ sign_of (front (settling (front_given)).tests) =
-    settle_front (front_given) c.count.ensures c.flat_front-sign.ensures in
-    let at_front : Ready (settling (else_given)) c.flat_front-sign.result =
-    ready (at_whole) (at_tests) c.if-sign-ne0.false in
+    let front_given : Given = given in
+    let else_given : Given = front_given in
+    let at_all : c.all_whole.result ≡ whole_words (settling given).lengths = settle_tested given c.whole-rest.ensures c.all_whole.ensures in
+    let at_whole : Whole (settling given) = settle_whole given at_all c.if-not-all_whole.false in
+    let at_tests : c.flat_front-sign.result ≡ sign_of (front (settling front_given).tests) =
+    settle_front front_given c.count.ensures c.flat_front-sign.ensures in
+    let at_front : Ready (settling else_given) c.flat_front-sign.result = ready at_whole at_tests c.if-sign-ne0.false in
     let at_lent : (let k = else_given in Lent (scratch_flat k.rule) k.scratch (64 * c.count-n.result)) =
-    settle_lent (else_given) (at_front) c.count-n.ensures in
+    settle_lent else_given at_front c.count-n.ensures in
     let h = settle_asks else_given at_front at_lent in
     record { some_flat = h.0; rule_in_bounds = h.1 }
 
@@ -128,26 +104,21 @@ returns-then-count-ended c =
     let given : Given =
     let a = c.args in
     record { signature = a.signature.now; rule = a.rule.now; counters = []; output = a.output.now; scratch = a.scratch.now } in
-    let front_given : Given =
-    given in
-    let else_given : Given =
-    front_given in
-    let at_all : c.all_whole.result ≡ whole_words (settling (given)).lengths =
-    settle_tested (given) c.whole-rest.ensures c.all_whole.ensures in
-    let at_whole : Whole (settling (given)) =
-    settle_whole (given) (at_all) c.if-not-all_whole.false in
-    let at_tests : c.flat_front-sign.result ≡ sign_of (front (settling (front_given)).tests) =
-    settle_front (front_given) c.count.ensures c.flat_front-sign.ensures in
-    let at_front : Ready (settling (else_given)) c.flat_front-sign.result =
-    ready (at_whole) (at_tests) c.if-sign-ne0.false in
-    let at_good : (let g = c.settle_good-ended in Done (at_front) g.result.needed g.result.replacements g.result.passes g.new.output) =
+    let front_given : Given = given in
+    let else_given : Given = front_given in
+    let at_all : c.all_whole.result ≡ whole_words (settling given).lengths = settle_tested given c.whole-rest.ensures c.all_whole.ensures in
+    let at_whole : Whole (settling given) = settle_whole given at_all c.if-not-all_whole.false in
+    let at_tests : c.flat_front-sign.result ≡ sign_of (front (settling front_given).tests) =
+    settle_front front_given c.count.ensures c.flat_front-sign.ensures in
+    let at_front : Ready (settling else_given) c.flat_front-sign.result = ready at_whole at_tests c.if-sign-ne0.false in
+    let at_good : (let g = c.settle_good-ended in Done at_front g.result.needed g.result.replacements g.result.passes g.new.output) =
     let g = c.settle_good-ended in
-    settle_done (else_given) (at_front) g.ensures g.auto.output (λ i. (c.slice_known-1.given i).fits)
+    settle_done else_given at_front g.ensures g.auto.output (λ i. (c.slice_known-1.given i).fits)
     (λ i. (c.slice_known-3-1.given i).fits) in
     let at_lent : (let k = else_given in Lent (scratch_flat k.rule) k.scratch (64 * c.count-n.result)) =
-    settle_lent (else_given) (at_front) c.count-n.ensures in
+    settle_lent else_given at_front c.count-n.ensures in
     let at_beyond : (let k = else_given in Beyond (scratch_flat k.rule) k.scratch (c.settle_good-ended.new.scratch ++ drop (64 * c.count-n.result) k.scratch)) =
-    let g = c.settle_good-ended in beyond_lent (at_lent) g.new.scratch g.auto.scratch in
+    let g = c.settle_good-ended in beyond_lent at_lent g.new.scratch g.auto.scratch in
     record { gives = settle_gives else_given (too_short at_good c.count-2.ensures c.if-count-ended.true c.refused-then-count-ended.ensures refl); beyond = at_beyond }
 
 pub returns : goal.returns
@@ -155,24 +126,19 @@ returns c =
     let given : Given =
     let a = c.args in
     record { signature = a.signature.now; rule = a.rule.now; counters = []; output = a.output.now; scratch = a.scratch.now } in
-    let front_given : Given =
-    given in
-    let else_given : Given =
-    front_given in
-    let at_all : c.all_whole.result ≡ whole_words (settling (given)).lengths =
-    settle_tested (given) c.whole-rest.ensures c.all_whole.ensures in
-    let at_whole : Whole (settling (given)) =
-    settle_whole (given) (at_all) c.if-not-all_whole.false in
-    let at_tests : c.flat_front-sign.result ≡ sign_of (front (settling (front_given)).tests) =
-    settle_front (front_given) c.count.ensures c.flat_front-sign.ensures in
-    let at_front : Ready (settling (else_given)) c.flat_front-sign.result =
-    ready (at_whole) (at_tests) c.if-sign-ne0.false in
-    let at_good : (let g = c.settle_good-ended in Done (at_front) g.result.needed g.result.replacements g.result.passes g.new.output) =
+    let front_given : Given = given in
+    let else_given : Given = front_given in
+    let at_all : c.all_whole.result ≡ whole_words (settling given).lengths = settle_tested given c.whole-rest.ensures c.all_whole.ensures in
+    let at_whole : Whole (settling given) = settle_whole given at_all c.if-not-all_whole.false in
+    let at_tests : c.flat_front-sign.result ≡ sign_of (front (settling front_given).tests) =
+    settle_front front_given c.count.ensures c.flat_front-sign.ensures in
+    let at_front : Ready (settling else_given) c.flat_front-sign.result = ready at_whole at_tests c.if-sign-ne0.false in
+    let at_good : (let g = c.settle_good-ended in Done at_front g.result.needed g.result.replacements g.result.passes g.new.output) =
     let g = c.settle_good-ended in
-    settle_done (else_given) (at_front) g.ensures g.auto.output (λ i. (c.slice_known-1.given i).fits)
+    settle_done else_given at_front g.ensures g.auto.output (λ i. (c.slice_known-1.given i).fits)
     (λ i. (c.slice_known-3-1.given i).fits) in
     let at_lent : (let k = else_given in Lent (scratch_flat k.rule) k.scratch (64 * c.count-n.result)) =
-    settle_lent (else_given) (at_front) c.count-n.ensures in
+    settle_lent else_given at_front c.count-n.ensures in
     let at_beyond : (let k = else_given in Beyond (scratch_flat k.rule) k.scratch (c.settle_good-ended.new.scratch ++ drop (64 * c.count-n.result) k.scratch)) =
-    let g = c.settle_good-ended in beyond_lent (at_lent) g.new.scratch g.auto.scratch in
+    let g = c.settle_good-ended in beyond_lent at_lent g.new.scratch g.auto.scratch in
     record { gives = settle_gives else_given (all_written at_good c.count-2.ensures c.if-count-ended.false refl); beyond = at_beyond }

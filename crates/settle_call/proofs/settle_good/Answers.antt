@@ -18,56 +18,45 @@ pub overflow_sub-n : goal.overflow_sub-n
 overflow_sub-n c =
     let at_get : (let a = c.args in Begun (words a.rule.now) a.sign (words a.scratch.now) c.get-counts.result) =
     begun c.requires.some_flat c.requires.rule_in_bounds c.get-counts.ensures in
-    let at_atoms : Found (at_get) c.atoms-read.result.at =
-    found (at_get) c.atoms-read.ensures in
+    let at_atoms : Found at_get c.atoms-read.result.at = found at_get c.atoms-read.ensures in
     at_atoms.from
 
 pub copy-requires : goal.copy-requires
 copy-requires c =
     let at_get : (let a = c.args in Begun (words a.rule.now) a.sign (words a.scratch.now) c.get-counts.result) =
     begun c.requires.some_flat c.requires.rule_in_bounds c.get-counts.ensures in
-    let at_atoms : Found (at_get) c.atoms-read.result.at =
-    found (at_get) c.atoms-read.ensures in
-    copy_asks (at_atoms)
+    let at_atoms : Found at_get c.atoms-read.result.at = found at_get c.atoms-read.ensures in
+    copy_asks at_atoms
 
 pub settle-body-requires : goal.settle-body-requires
 settle-body-requires c =
     let at_get : (let a = c.args in Begun (words a.rule.now) a.sign (words a.scratch.now) c.get-counts.result) =
     begun c.requires.some_flat c.requires.rule_in_bounds c.get-counts.ensures in
-    let at_atoms : Found (at_get) c.atoms-read.result.at =
-    found (at_get) c.atoms-read.ensures in
-    let at_copy : Copied (at_atoms) (words c.copy.new.out) =
-    copied (at_atoms) (length_words_kept _ _ c.copy.auto.out) c.copy.ensures in
+    let at_atoms : Found at_get c.atoms-read.result.at = found at_get c.atoms-read.ensures in
+    let at_copy : Copied at_atoms (words c.copy.new.out) = copied at_atoms (length_words_kept _ _ c.copy.auto.out) c.copy.ensures in
     record { good_sign = good_sign at_get.some; settle_asks = at_copy.asks }
 
 pub overflow_sub-count : goal.overflow_sub-count
 overflow_sub-count c =
     let at_get : (let a = c.args in Begun (words a.rule.now) a.sign (words a.scratch.now) c.get-counts.result) =
     begun c.requires.some_flat c.requires.rule_in_bounds c.get-counts.ensures in
-    let at_atoms : Found (at_get) c.atoms-read.result.at =
-    found (at_get) c.atoms-read.ensures in
+    let at_atoms : Found at_get c.atoms-read.result.at = found at_get c.atoms-read.ensures in
     omega (arith, at_atoms.inside, c.count.ensures)
 
 pub finish-needed-requires : goal.finish-needed-requires
 finish-needed-requires c =
     let at_get : (let a = c.args in Begun (words a.rule.now) a.sign (words a.scratch.now) c.get-counts.result) =
     begun c.requires.some_flat c.requires.rule_in_bounds c.get-counts.ensures in
-    let at_atoms : Found (at_get) c.atoms-read.result.at =
-    found (at_get) c.atoms-read.ensures in
-    let at_copy : Copied (at_atoms) (words c.copy.new.out) =
-    copied (at_atoms) (length_words_kept _ _ c.copy.auto.out) c.copy.ensures in
-    let at_settle : Done (at_copy) c.settle-body.result (words c.settle-body.new.s) =
-    is_done (at_copy) c.settle-body.ensures in
+    let at_atoms : Found at_get c.atoms-read.result.at = found at_get c.atoms-read.ensures in
+    let at_copy : Copied at_atoms (words c.copy.new.out) = copied at_atoms (length_words_kept _ _ c.copy.auto.out) c.copy.ensures in
+    let at_settle : Done at_copy c.settle-body.result (words c.settle-body.new.s) = is_done at_copy c.settle-body.ensures in
     stand at_settle c.count.ensures
 
 pub returns : goal.returns
 returns c =
     let at_get : (let a = c.args in Begun (words a.rule.now) a.sign (words a.scratch.now) c.get-counts.result) =
     begun c.requires.some_flat c.requires.rule_in_bounds c.get-counts.ensures in
-    let at_atoms : Found (at_get) c.atoms-read.result.at =
-    found (at_get) c.atoms-read.ensures in
-    let at_copy : Copied (at_atoms) (words c.copy.new.out) =
-    copied (at_atoms) (length_words_kept _ _ c.copy.auto.out) c.copy.ensures in
-    let at_settle : Done (at_copy) c.settle-body.result (words c.settle-body.new.s) =
-    is_done (at_copy) c.settle-body.ensures in
+    let at_atoms : Found at_get c.atoms-read.result.at = found at_get c.atoms-read.ensures in
+    let at_copy : Copied at_atoms (words c.copy.new.out) = copied at_atoms (length_words_kept _ _ c.copy.auto.out) c.copy.ensures in
+    let at_settle : Done at_copy c.settle-body.result (words c.settle-body.new.s) = is_done at_copy c.settle-body.ensures in
     ended at_settle c.count.ensures c.finish-needed.ensures

@@ -94,15 +94,15 @@ merge_pass-t-requires c =
     let at_else : (let a = c.args in Begun (words a.s.now) a.at a.n) =
     begun c.requires.settle_asks c.if-n-eq0.false (omega (arith, length_words c.args.s.now, c.well_formed)) in
     let at_loop : (let a = c.args in Settling (sig a.q) (words a.s.now) (words c.loop-q.s) a.at a.n c.loop-q.c c.loop-q.passes) =
-    c.loop-q.invariant.1 _ (settling_start (at_else) c.canonicalize-c.ensures) in
-    merge_asks (at_loop)
+    c.loop-q.invariant.1 _ (settling_start at_else c.canonicalize-c.ensures) in
+    merge_asks at_loop
 
 pub overflow_add-passes : goal.overflow_add-passes
 overflow_add-passes c =
     let at_else : (let a = c.args in Begun (words a.s.now) a.at a.n) =
     begun c.requires.settle_asks c.if-n-eq0.false (omega (arith, length_words c.args.s.now, c.well_formed)) in
     let at_loop : (let a = c.args in Settling (sig a.q) (words a.s.now) (words c.loop-q.s) a.at a.n c.loop-q.c c.loop-q.passes) =
-    c.loop-q.invariant.1 _ (settling_start (at_else) c.canonicalize-c.ensures) in
+    c.loop-q.invariant.1 _ (settling_start at_else c.canonicalize-c.ensures) in
     omega (arith, few (at_loop), at_else.fits)
 
 pub overflow_sub-result : goal.overflow_sub-result
@@ -110,7 +110,7 @@ overflow_sub-result c =
     let at_else : (let a = c.args in Begun (words a.s.now) a.at a.n) =
     begun c.requires.settle_asks c.if-n-eq0.false (omega (arith, length_words c.args.s.now, c.well_formed)) in
     let at_loop : (let a = c.args in Settling (sig a.q) (words a.s.now) (words c.loop-q.s) a.at a.n c.loop-q.c c.loop-q.passes) =
-    c.loop-q.invariant.1 _ (settling_start (at_else) c.canonicalize-c.ensures) in
+    c.loop-q.invariant.1 _ (settling_start at_else c.canonicalize-c.ensures) in
     omega (arith, at_loop.count)
 
 pub returns-then-t-eq0 : goal.returns-then-t-eq0
@@ -118,7 +118,7 @@ returns-then-t-eq0 c =
     let at_else : (let a = c.args in Begun (words a.s.now) a.at a.n) =
     begun c.requires.settle_asks c.if-n-eq0.false (omega (arith, length_words c.args.s.now, c.well_formed)) in
     let at_loop : (let a = c.args in Settling (sig a.q) (words a.s.now) (words c.loop-q.s) a.at a.n c.loop-q.c c.loop-q.passes) =
-    c.loop-q.invariant.1 _ (settling_start (at_else) c.canonicalize-c.ensures) in
+    c.loop-q.invariant.1 _ (settling_start at_else c.canonicalize-c.ensures) in
     λ g ys b y. settled at_loop c.merge_pass-t.ensures g ys b.globals b.equals y c.if-t-eq0.true
 
 pub canonicalize_again-c-requires : goal.canonicalize_again-c-requires
@@ -126,7 +126,7 @@ canonicalize_again-c-requires c =
     let at_else : (let a = c.args in Begun (words a.s.now) a.at a.n) =
     begun c.requires.settle_asks c.if-n-eq0.false (omega (arith, length_words c.args.s.now, c.well_formed)) in
     let at_loop : (let a = c.args in Settling (sig a.q) (words a.s.now) (words c.loop-q.s) a.at a.n c.loop-q.c c.loop-q.passes) =
-    c.loop-q.invariant.1 _ (settling_start (at_else) c.canonicalize-c.ensures) in
+    c.loop-q.invariant.1 _ (settling_start at_else c.canonicalize-c.ensures) in
     record { good_sign = c.requires.good_sign; again_asks = next_asks at_loop c.merge_pass-t.ensures }
 
 pub loop-q-smaller : goal.loop-q-smaller
@@ -134,7 +134,7 @@ loop-q-smaller c =
     let at_else : (let a = c.args in Begun (words a.s.now) a.at a.n) =
     begun c.requires.settle_asks c.if-n-eq0.false (omega (arith, length_words c.args.s.now, c.well_formed)) in
     let at_loop : (let a = c.args in Settling (sig a.q) (words a.s.now) (words c.loop-q.s) a.at a.n c.loop-q.c c.loop-q.passes) =
-    c.loop-q.invariant.1 _ (settling_start (at_else) c.canonicalize-c.ensures) in
+    c.loop-q.invariant.1 _ (settling_start at_else c.canonicalize-c.ensures) in
     omega (arith, few at_loop)
 
 pub loop-q-preserved : goal.loop-q-preserved

@@ -10,8 +10,7 @@ use Rattle.words.proofs.good_atom_at.Goals as goal
 
 pub head_of-head-requires : goal.head_of-head-requires
 head_of-head-requires c =
-    let at_get : FirstWord c.get-w.result =
-    subst FirstWord (sym c.get-w.ensures.is) c.requires.first in
+    let at_get : FirstWord c.get-w.result = subst FirstWord (sym c.get-w.ensures.is) c.requires.first in
     at_get.high
 
 pub laid_out-requires : goal.laid_out-requires
@@ -19,7 +18,6 @@ laid_out-requires c = omega (arith, length_words c.args.s.now, c.well_formed)
 
 pub returns : goal.returns
 returns c =
-    let at_get : FirstWord c.get-w.result =
-    subst FirstWord (sym c.get-w.ensures.is) c.requires.first in
+    let at_get : FirstWord c.get-w.result = subst FirstWord (sym c.get-w.ensures.is) c.requires.first in
     subst (λ (w : ℕ). AtomSays c.laid_out.result w c.args.at) c.get-w.ensures.is
     (says_good at_get c.head_of-head.ensures c.laid_out.ensures)

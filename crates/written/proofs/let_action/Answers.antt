@@ -30,4 +30,4 @@ returns c =
     let at_name : (let a = c.args in There (words a.rule.now) (a.at + 1) (Name c.in-Name.field-0)) =
     there c.word_at-w.ensures c.in-Name.is (lit< tt) in
     let a = c.args in
-    c.outermost.ensures ∙ let_goes (with_heads a.heads) a.at (at_name)
+    c.outermost.ensures ∙ let_goes (with_heads a.heads) a.at at_name

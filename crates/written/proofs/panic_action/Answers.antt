@@ -28,4 +28,4 @@ pub returns : goal.returns
 returns c =
     let at_literal : (let a = c.args in There (words a.rule.now) (a.at + 1) (Literal c.in-Literal.field-0)) =
     there c.word_at-w.ensures c.in-Literal.is (lit< tt) in
-    let a = c.args in panic_goes (with_heads a.heads) a.at (at_literal)
+    let a = c.args in panic_goes (with_heads a.heads) a.at at_literal

@@ -15,27 +15,23 @@ returns-then-count-at c = let a = c.args in start_missing (with_heads a.heads) (
 
 pub returns-then-w-leaf_end : goal.returns-then-w-leaf_end
 returns-then-w-leaf_end c =
-    let at_get : Here (words c.args.rule.now) c.args.at c.get-w.result =
-    record { inside = omega arith; is = c.get-w.ensures.is } in
+    let at_get : Here (words c.args.rule.now) c.args.at c.get-w.result = record { inside = omega arith; is = c.get-w.ensures.is } in
     start_leaf c.args.heads at_get c.get-w.ensures.fits c.if-kind-lt3.true (omega (arith, c.leaf_end.ensures, c.if-w-leaf_end.true))
 
 pub returns-then-kind-lt3 : goal.returns-then-kind-lt3
 returns-then-kind-lt3 c =
-    let at_get : Here (words c.args.rule.now) c.args.at c.get-w.result =
-    record { inside = omega arith; is = c.get-w.ensures.is } in
+    let at_get : Here (words c.args.rule.now) c.args.at c.get-w.result = record { inside = omega arith; is = c.get-w.ensures.is } in
     start_no_leaf c.args.heads at_get c.get-w.ensures.fits c.if-kind-lt3.true (omega (arith, c.leaf_end.ensures, c.if-w-leaf_end.false))
 
 -- below the heads
 pub returns-then-kind-gt3 : goal.returns-then-kind-gt3
 returns-then-kind-gt3 c =
-    let at_get : Here (words c.args.rule.now) c.args.at c.get-w.result =
-    record { inside = omega arith; is = c.get-w.ensures.is } in
+    let at_get : Here (words c.args.rule.now) c.args.at c.get-w.result = record { inside = omega arith; is = c.get-w.ensures.is } in
     start_low c.args.heads at_get (kind_from 4 28 c.get-w.result refl c.get-w.ensures.fits c.if-kind-gt3.true)
 
 pub returns-then-w-heads : goal.returns-then-w-heads
 returns-then-w-heads c =
-    let at_get : Here (words c.args.rule.now) c.args.at c.get-w.result =
-    record { inside = omega arith; is = c.get-w.ensures.is } in
+    let at_get : Here (words c.args.rule.now) c.args.at c.get-w.result = record { inside = omega arith; is = c.get-w.ensures.is } in
     let head_range : (let w = c.get-w.result in (head_base ≤ w) × (w < literal_base)) =
     let g = c.get-w in
     (kind_below 4 28 g.result refl g.ensures.fits (omega (arith, c.if-kind-gt3.false)), kind_from 3 29 g.result refl g.ensures.fits c.if-kind-lt3.false) in
@@ -43,8 +39,7 @@ returns-then-w-heads c =
 
 pub returns-else-w-heads : goal.returns-else-w-heads
 returns-else-w-heads c =
-    let at_get : Here (words c.args.rule.now) c.args.at c.get-w.result =
-    record { inside = omega arith; is = c.get-w.ensures.is } in
+    let at_get : Here (words c.args.rule.now) c.args.at c.get-w.result = record { inside = omega arith; is = c.get-w.ensures.is } in
     let head_range : (let w = c.get-w.result in (head_base ≤ w) × (w < literal_base)) =
     let g = c.get-w in
     (kind_below 4 28 g.result refl g.ensures.fits (omega (arith, c.if-kind-gt3.false)), kind_from 3 29 g.result refl g.ensures.fits c.if-kind-lt3.false) in

@@ -15,56 +15,42 @@ pub returns-then-counters-sign : goal.returns-then-counters-sign
 returns-then-counters-sign c =
     let tests : Front Rule =
     let a = c.args in written (words a.signature.now) (words a.rule.now) a.counters a.scratch in
-    let at_signature : Reached (tests) c.read-sign.result (from_counters (tests)) =
-    good_signature (tests) c.read-sign.ensures c.if-sign-ne0.false in
+    let at_signature : Reached tests c.read-sign.result (from_counters tests) = good_signature tests c.read-sign.ensures c.if-sign-ne0.false in
     counters_short at_signature c.if-counters-sign.true c.turned_back.ensures
 
 pub returns-then-scratch-lt-SCRATCH_WORDS : goal.returns-then-scratch-lt-SCRATCH_WORDS
 returns-then-scratch-lt-SCRATCH_WORDS c =
     let tests : Front Rule =
     let a = c.args in written (words a.signature.now) (words a.rule.now) a.counters a.scratch in
-    let at_signature : Reached (tests) c.read-sign.result (from_counters (tests)) =
-    good_signature (tests) c.read-sign.ensures c.if-sign-ne0.false in
-    let at_counters : Reached (tests) c.read-sign.result (from_scratch (tests)) =
-    counters_there (at_signature) c.if-counters-sign.false in
+    let at_signature : Reached tests c.read-sign.result (from_counters tests) = good_signature tests c.read-sign.ensures c.if-sign-ne0.false in
+    let at_counters : Reached tests c.read-sign.result (from_scratch tests) = counters_there at_signature c.if-counters-sign.false in
     little_scratch at_counters c.if-scratch-lt-SCRATCH_WORDS.true c.turned_back-then-scratch-lt-SCRATCH_WORDS.ensures
 
 pub returns-then-not-length_fits : goal.returns-then-not-length_fits
 returns-then-not-length_fits c =
     let tests : Front Rule =
     let a = c.args in written (words a.signature.now) (words a.rule.now) a.counters a.scratch in
-    let at_signature : Reached (tests) c.read-sign.result (from_counters (tests)) =
-    good_signature (tests) c.read-sign.ensures c.if-sign-ne0.false in
-    let at_counters : Reached (tests) c.read-sign.result (from_scratch (tests)) =
-    counters_there (at_signature) c.if-counters-sign.false in
-    let at_scratch : Reached (tests) c.read-sign.result (from_length (tests)) =
-    enough_scratch (at_counters) c.if-scratch-lt-SCRATCH_WORDS.false in
+    let at_signature : Reached tests c.read-sign.result (from_counters tests) = good_signature tests c.read-sign.ensures c.if-sign-ne0.false in
+    let at_counters : Reached tests c.read-sign.result (from_scratch tests) = counters_there at_signature c.if-counters-sign.false in
+    let at_scratch : Reached tests c.read-sign.result (from_length tests) = enough_scratch at_counters c.if-scratch-lt-SCRATCH_WORDS.false in
     wrong_length at_scratch c.length_fits.ensures c.if-not-length_fits.true c.turned_back-then-not-length_fits.ensures
 
 pub returns-then-read-ne0 : goal.returns-then-read-ne0
 returns-then-read-ne0 c =
     let tests : Front Rule =
     let a = c.args in written (words a.signature.now) (words a.rule.now) a.counters a.scratch in
-    let at_signature : Reached (tests) c.read-sign.result (from_counters (tests)) =
-    good_signature (tests) c.read-sign.ensures c.if-sign-ne0.false in
-    let at_counters : Reached (tests) c.read-sign.result (from_scratch (tests)) =
-    counters_there (at_signature) c.if-counters-sign.false in
-    let at_scratch : Reached (tests) c.read-sign.result (from_length (tests)) =
-    enough_scratch (at_counters) c.if-scratch-lt-SCRATCH_WORDS.false in
-    let at_length : Reached (tests) c.read-sign.result (from_record (tests)) =
-    right_length (at_scratch) c.length_fits.ensures c.if-not-length_fits.false in
+    let at_signature : Reached tests c.read-sign.result (from_counters tests) = good_signature tests c.read-sign.ensures c.if-sign-ne0.false in
+    let at_counters : Reached tests c.read-sign.result (from_scratch tests) = counters_there at_signature c.if-counters-sign.false in
+    let at_scratch : Reached tests c.read-sign.result (from_length tests) = enough_scratch at_counters c.if-scratch-lt-SCRATCH_WORDS.false in
+    let at_length : Reached tests c.read-sign.result (from_record tests) = right_length at_scratch c.length_fits.ensures c.if-not-length_fits.false in
     bad_record at_length c.written-read.ensures c.if-read-ne0.true c.turned_back-then-read-ne0.ensures
 
 pub returns : goal.returns
 returns c =
     let tests : Front Rule =
     let a = c.args in written (words a.signature.now) (words a.rule.now) a.counters a.scratch in
-    let at_signature : Reached (tests) c.read-sign.result (from_counters (tests)) =
-    good_signature (tests) c.read-sign.ensures c.if-sign-ne0.false in
-    let at_counters : Reached (tests) c.read-sign.result (from_scratch (tests)) =
-    counters_there (at_signature) c.if-counters-sign.false in
-    let at_scratch : Reached (tests) c.read-sign.result (from_length (tests)) =
-    enough_scratch (at_counters) c.if-scratch-lt-SCRATCH_WORDS.false in
-    let at_length : Reached (tests) c.read-sign.result (from_record (tests)) =
-    right_length (at_scratch) c.length_fits.ensures c.if-not-length_fits.false in
+    let at_signature : Reached tests c.read-sign.result (from_counters tests) = good_signature tests c.read-sign.ensures c.if-sign-ne0.false in
+    let at_counters : Reached tests c.read-sign.result (from_scratch tests) = counters_there at_signature c.if-counters-sign.false in
+    let at_scratch : Reached tests c.read-sign.result (from_length tests) = enough_scratch at_counters c.if-scratch-lt-SCRATCH_WORDS.false in
+    let at_length : Reached tests c.read-sign.result (from_record tests) = right_length at_scratch c.length_fits.ensures c.if-not-length_fits.false in
     good_record at_length c.written-read.ensures c.if-read-ne0.false

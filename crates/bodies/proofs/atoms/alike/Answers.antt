@@ -16,27 +16,22 @@ returns-then-get c =
 
 pub overflow_sub-first : goal.overflow_sub-first
 overflow_sub-first c =
-    let at_first : (let a = c.args in Read (words a.s.now) a.p c.good_atom_at-first.result) =
-    read c.requires.tab_at c.good_atom_at-first.ensures in
+    let at_first : (let a = c.args in Read (words a.s.now) a.p c.good_atom_at-first.result) = read c.requires.tab_at c.good_atom_at-first.ensures in
     omega (arith, at_first)
 
 pub same_terms-requires : goal.same_terms-requires
 same_terms-requires c =
-    let at_first : (let a = c.args in Read (words a.s.now) a.p c.good_atom_at-first.result) =
-    read c.requires.tab_at c.good_atom_at-first.ensures in
-    let at_later : (let a = c.args in Read (words a.s.now) a.q c.good_atom_at-later.result) =
-    read c.requires.tab_at_2 c.good_atom_at-later.ensures in
+    let at_first : (let a = c.args in Read (words a.s.now) a.p c.good_atom_at-first.result) = read c.requires.tab_at c.good_atom_at-first.ensures in
+    let at_later : (let a = c.args in Read (words a.s.now) a.q c.good_atom_at-later.result) = read c.requires.tab_at_2 c.good_atom_at-later.ensures in
     let at_one_word : (let a = c.args in let l = words a.s.now in get_or l a.p 0 ≡ get_or l a.q 0) =
     sym c.get.ensures.is ∙ c.if-get.false ∙ c.get-2.ensures.is in
     (omega (arith, at_first), omega (arith, at_first, at_later, at_one_word))
 
 pub returns : goal.returns
 returns c =
-    let at_first : (let a = c.args in Read (words a.s.now) a.p c.good_atom_at-first.result) =
-    read c.requires.tab_at c.good_atom_at-first.ensures in
-    let at_later : (let a = c.args in Read (words a.s.now) a.q c.good_atom_at-later.result) =
-    read c.requires.tab_at_2 c.good_atom_at-later.ensures in
+    let at_first : (let a = c.args in Read (words a.s.now) a.p c.good_atom_at-first.result) = read c.requires.tab_at c.good_atom_at-first.ensures in
+    let at_later : (let a = c.args in Read (words a.s.now) a.q c.good_atom_at-later.result) = read c.requires.tab_at_2 c.good_atom_at-later.ensures in
     let at_one_word : (let a = c.args in let l = words a.s.now in get_or l a.p 0 ≡ get_or l a.q 0) =
     sym c.get.ensures.is ∙ c.if-get.false ∙ c.get-2.ensures.is in
     let k = c.requires in
-    c.same_terms.ensures ∙ heads_same k.tab_at k.tab_at_2 at_first at_later (at_one_word)
+    c.same_terms.ensures ∙ heads_same k.tab_at k.tab_at_2 at_first at_later at_one_word

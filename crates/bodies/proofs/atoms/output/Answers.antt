@@ -7,12 +7,10 @@ use Rattle.bodies.proofs.atoms.output.Goals as goal
 
 pub get-requires : goal.get-requires
 get-requires c =
-    let at_atom : (let a = c.args in Read (words a.s.now) a.p c.good_atom_at-atom.result) =
-    read c.requires c.good_atom_at-atom.ensures in
+    let at_atom : (let a = c.args in Read (words a.s.now) a.p c.good_atom_at-atom.result) = read c.requires c.good_atom_at-atom.ensures in
     omega (arith, at_atom)
 
 pub returns : goal.returns
 returns c =
-    let at_atom : (let a = c.args in Read (words a.s.now) a.p c.good_atom_at-atom.result) =
-    read c.requires c.good_atom_at-atom.ensures in
-    c.get.ensures.is ∙ out_at (at_atom)
+    let at_atom : (let a = c.args in Read (words a.s.now) a.p c.good_atom_at-atom.result) = read c.requires c.good_atom_at-atom.ensures in
+    c.get.ensures.is ∙ out_at at_atom

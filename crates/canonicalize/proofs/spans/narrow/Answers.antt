@@ -30,7 +30,7 @@ widen-requires c =
     let at_filled : (let a = c.args in Narrowing (words a.s.now) (words c.fill-2.new.s) a.at a.n a.table a.at) =
     narrow_start c.requires (c.args.at + c.args.n) c.fill.ensures c.fill-2.ensures in
     let at_loop : (let a = c.args in Narrowing (words a.s.now) (words c.loop-p.s) a.at a.n a.table c.loop-p.p) =
-    c.loop-p.invariant.1 _ c.requires (at_filled) in
+    c.loop-p.invariant.1 _ c.requires at_filled in
     widen_asks c.requires at_loop c.loop-p-test.true
 
 pub loop-p-preserved : goal.loop-p-preserved
@@ -43,5 +43,5 @@ returns c =
     let at_filled : (let a = c.args in Narrowing (words a.s.now) (words c.fill-2.new.s) a.at a.n a.table a.at) =
     narrow_start c.requires (c.args.at + c.args.n) c.fill.ensures c.fill-2.ensures in
     let at_loop : (let a = c.args in Narrowing (words a.s.now) (words c.loop-p.s) a.at a.n a.table c.loop-p.p) =
-    c.loop-p.invariant.1 _ c.requires (at_filled) in
+    c.loop-p.invariant.1 _ c.requires at_filled in
     narrow_end c.requires at_loop c.loop-p-test.false

@@ -35,8 +35,7 @@ replace_between-requires c =
     let x = c.bucket.ensures in
     let y = c.bucket-2.ensures in
     record { old = x.0; new = y.0; old_inside = x.1; new_inside = y.1; room = c.requires.room; fits = omega (arith, length_words c.args.s.now, c.well_formed) } in
-    let at_span : Seen (at_buckets) c.get-low.result c.get-high.result =
-    seen (at_buckets) c.get-low.ensures.is c.get-high.ensures.is in
+    let at_span : Seen at_buckets c.get-low.result c.get-high.result = seen at_buckets c.get-low.ensures.is c.get-high.ensures.is in
     at_span.inside
 
 pub get-first-requires : goal.get-first-requires
@@ -45,10 +44,8 @@ get-first-requires c =
     let x = c.bucket.ensures in
     let y = c.bucket-2.ensures in
     record { old = x.0; new = y.0; old_inside = x.1; new_inside = y.1; room = c.requires.room; fits = omega (arith, length_words c.args.s.now, c.well_formed) } in
-    let at_span : Seen (at_buckets) c.get-low.result c.get-high.result =
-    seen (at_buckets) c.get-low.ensures.is c.get-high.ensures.is in
-    let at_between : Passed (at_span) (words c.replace_between.new.s) =
-    passed (at_span) c.greatest.ensures c.replace_between.ensures in
+    let at_span : Seen at_buckets c.get-low.result c.get-high.result = seen at_buckets c.get-low.ensures.is c.get-high.ensures.is in
+    let at_between : Passed at_span (words c.replace_between.new.s) = passed at_span c.greatest.ensures c.replace_between.ensures in
     omega (arith, at_between)
 
 pub overflow_add-to-2 : goal.overflow_add-to-2
@@ -57,10 +54,8 @@ overflow_add-to-2 c =
     let x = c.bucket.ensures in
     let y = c.bucket-2.ensures in
     record { old = x.0; new = y.0; old_inside = x.1; new_inside = y.1; room = c.requires.room; fits = omega (arith, length_words c.args.s.now, c.well_formed) } in
-    let at_span : Seen (at_buckets) c.get-low.result c.get-high.result =
-    seen (at_buckets) c.get-low.ensures.is c.get-high.ensures.is in
-    let at_between : Passed (at_span) (words c.replace_between.new.s) =
-    passed (at_span) c.greatest.ensures c.replace_between.ensures in
+    let at_span : Seen at_buckets c.get-low.result c.get-high.result = seen at_buckets c.get-low.ensures.is c.get-high.ensures.is in
+    let at_between : Passed at_span (words c.replace_between.new.s) = passed at_span c.greatest.ensures c.replace_between.ensures in
     omega (arith, at_between)
 
 pub get-end-requires : goal.get-end-requires
@@ -69,10 +64,8 @@ get-end-requires c =
     let x = c.bucket.ensures in
     let y = c.bucket-2.ensures in
     record { old = x.0; new = y.0; old_inside = x.1; new_inside = y.1; room = c.requires.room; fits = omega (arith, length_words c.args.s.now, c.well_formed) } in
-    let at_span : Seen (at_buckets) c.get-low.result c.get-high.result =
-    seen (at_buckets) c.get-low.ensures.is c.get-high.ensures.is in
-    let at_between : Passed (at_span) (words c.replace_between.new.s) =
-    passed (at_span) c.greatest.ensures c.replace_between.ensures in
+    let at_span : Seen at_buckets c.get-low.result c.get-high.result = seen at_buckets c.get-low.ensures.is c.get-high.ensures.is in
+    let at_between : Passed at_span (words c.replace_between.new.s) = passed at_span c.greatest.ensures c.replace_between.ensures in
     omega (arith, at_between)
 
 pub put-requires : goal.put-requires
@@ -81,10 +74,8 @@ put-requires c =
     let x = c.bucket.ensures in
     let y = c.bucket-2.ensures in
     record { old = x.0; new = y.0; old_inside = x.1; new_inside = y.1; room = c.requires.room; fits = omega (arith, length_words c.args.s.now, c.well_formed) } in
-    let at_span : Seen (at_buckets) c.get-low.result c.get-high.result =
-    seen (at_buckets) c.get-low.ensures.is c.get-high.ensures.is in
-    let at_between : Passed (at_span) (words c.replace_between.new.s) =
-    passed (at_span) c.greatest.ensures c.replace_between.ensures in
+    let at_span : Seen at_buckets c.get-low.result c.get-high.result = seen at_buckets c.get-low.ensures.is c.get-high.ensures.is in
+    let at_between : Passed at_span (words c.replace_between.new.s) = passed at_span c.greatest.ensures c.replace_between.ensures in
     omega (arith, at_between)
 
 pub overflow_add-to-3 : goal.overflow_add-to-3
@@ -93,10 +84,8 @@ overflow_add-to-3 c =
     let x = c.bucket.ensures in
     let y = c.bucket-2.ensures in
     record { old = x.0; new = y.0; old_inside = x.1; new_inside = y.1; room = c.requires.room; fits = omega (arith, length_words c.args.s.now, c.well_formed) } in
-    let at_span : Seen (at_buckets) c.get-low.result c.get-high.result =
-    seen (at_buckets) c.get-low.ensures.is c.get-high.ensures.is in
-    let at_between : Passed (at_span) (words c.replace_between.new.s) =
-    passed (at_span) c.greatest.ensures c.replace_between.ensures in
+    let at_span : Seen at_buckets c.get-low.result c.get-high.result = seen at_buckets c.get-low.ensures.is c.get-high.ensures.is in
+    let at_between : Passed at_span (words c.replace_between.new.s) = passed at_span c.greatest.ensures c.replace_between.ensures in
     omega (arith, at_between)
 
 pub put-requires-2 : goal.put-requires-2
@@ -105,10 +94,8 @@ put-requires-2 c =
     let x = c.bucket.ensures in
     let y = c.bucket-2.ensures in
     record { old = x.0; new = y.0; old_inside = x.1; new_inside = y.1; room = c.requires.room; fits = omega (arith, length_words c.args.s.now, c.well_formed) } in
-    let at_span : Seen (at_buckets) c.get-low.result c.get-high.result =
-    seen (at_buckets) c.get-low.ensures.is c.get-high.ensures.is in
-    let at_between : Passed (at_span) (words c.replace_between.new.s) =
-    passed (at_span) c.greatest.ensures c.replace_between.ensures in
+    let at_span : Seen at_buckets c.get-low.result c.get-high.result = seen at_buckets c.get-low.ensures.is c.get-high.ensures.is in
+    let at_between : Passed at_span (words c.replace_between.new.s) = passed at_span c.greatest.ensures c.replace_between.ensures in
     omega (arith, at_between, length_words_kept c.put.new.s c.replace_between.new.s c.put.auto.s)
 
 pub returns : goal.returns
@@ -117,9 +104,7 @@ returns c =
     let x = c.bucket.ensures in
     let y = c.bucket-2.ensures in
     record { old = x.0; new = y.0; old_inside = x.1; new_inside = y.1; room = c.requires.room; fits = omega (arith, length_words c.args.s.now, c.well_formed) } in
-    let at_span : Seen (at_buckets) c.get-low.result c.get-high.result =
-    seen (at_buckets) c.get-low.ensures.is c.get-high.ensures.is in
-    let at_between : Passed (at_span) (words c.replace_between.new.s) =
-    passed (at_span) c.greatest.ensures c.replace_between.ensures in
+    let at_span : Seen at_buckets c.get-low.result c.get-high.result = seen at_buckets c.get-low.ensures.is c.get-high.ensures.is in
+    let at_between : Passed at_span (words c.replace_between.new.s) = passed at_span c.greatest.ensures c.replace_between.ensures in
     replaced at_between c.get-first.ensures.is c.get-end.ensures.is
     c.least_word.ensures c.greatest_word.ensures c.put.ensures c.put-2.ensures

@@ -14,13 +14,11 @@ head_word-h-requires c = c.requires.0
 
 pub get-requires : goal.get-requires
 get-requires c =
-    let head_is : c.head_word-h.result.head ≡ head_of c.args.w =
-    head_says c.head_word-h.ensures in
+    let head_is : c.head_word-h.result.head ≡ head_of c.args.w = head_says c.head_word-h.ensures in
     omega (arith, c.requires.1, head_is)
 
 pub returns : goal.returns
 returns c =
-    let head_is : c.head_word-h.result.head ≡ head_of c.args.w =
-    head_says c.head_word-h.ensures in
+    let head_is : c.head_word-h.result.head ≡ head_of c.args.w = head_says c.head_word-h.ensures in
     let gs = words c.args.signature.now in
     ap (λ (w : ℕ). eqb w (signature_base + 1)) (c.get.ensures.is ∙ ap (λ (i : ℕ). get_or gs (4 + i) 0) head_is)

@@ -16,7 +16,7 @@ lower_change-requires c =
     let site : Site =
     let a = c.args in
     site_of (words a.rule.now) (words a.scratch.now) (words a.counters.now) a.at a.to a.sp a.log a.scope in
-    let at_mode : Moded (words c.args.signature.now) (site) c.as_set-mode.result =
+    let at_mode : Moded (words c.args.signature.now) site c.as_set-mode.result =
     let p = c.requires in record { known = p.under; room = p.room.0; scope_room = p.room.1; is = c.as_set-mode.ensures } in
     let g = at_mode in
     record { under = left_asks g c.if-mode-eq1.true; room = (g.room, g.scope_room, omega arith) }
@@ -26,7 +26,7 @@ returns-then-mode-eq1 c =
     let site : Site =
     let a = c.args in
     site_of (words a.rule.now) (words a.scratch.now) (words a.counters.now) a.at a.to a.sp a.log a.scope in
-    let at_mode : Moded (words c.args.signature.now) (site) c.as_set-mode.result =
+    let at_mode : Moded (words c.args.signature.now) site c.as_set-mode.result =
     let p = c.requires in record { known = p.under; room = p.room.0; scope_room = p.room.1; is = c.as_set-mode.ensures } in
     left_done at_mode c.if-mode-eq1.true c.lower_change.ensures
 
@@ -37,7 +37,7 @@ set_name-requires c =
     let site : Site =
     let a = c.args in
     site_of (words a.rule.now) (words a.scratch.now) (words a.counters.now) a.at a.to a.sp a.log a.scope in
-    let at_mode : Moded (words c.args.signature.now) (site) c.as_set-mode.result =
+    let at_mode : Moded (words c.args.signature.now) site c.as_set-mode.result =
     let p = c.requires in record { known = p.under; room = p.room.0; scope_room = p.room.1; is = c.as_set-mode.ensures } in
     let g = at_mode in
     record { under = right_asks g c.if-mode-eq2.true; room = (g.room, g.scope_room) }
@@ -47,7 +47,7 @@ returns-then-mode-eq2 c =
     let site : Site =
     let a = c.args in
     site_of (words a.rule.now) (words a.scratch.now) (words a.counters.now) a.at a.to a.sp a.log a.scope in
-    let at_mode : Moded (words c.args.signature.now) (site) c.as_set-mode.result =
+    let at_mode : Moded (words c.args.signature.now) site c.as_set-mode.result =
     let p = c.requires in record { known = p.under; room = p.room.0; scope_room = p.room.1; is = c.as_set-mode.ensures } in
     right_done at_mode c.if-mode-eq2.true c.set_name.ensures
 
@@ -58,7 +58,7 @@ unite-requires c =
     let site : Site =
     let a = c.args in
     site_of (words a.rule.now) (words a.scratch.now) (words a.counters.now) a.at a.to a.sp a.log a.scope in
-    let at_mode : Moded (words c.args.signature.now) (site) c.as_set-mode.result =
+    let at_mode : Moded (words c.args.signature.now) site c.as_set-mode.result =
     let p = c.requires in record { known = p.under; room = p.room.0; scope_room = p.room.1; is = c.as_set-mode.ensures } in
     let g = at_mode in
     record { under = stays_asks g; room = (g.room, g.scope_room) }
@@ -68,6 +68,6 @@ returns c =
     let site : Site =
     let a = c.args in
     site_of (words a.rule.now) (words a.scratch.now) (words a.counters.now) a.at a.to a.sp a.log a.scope in
-    let at_mode : Moded (words c.args.signature.now) (site) c.as_set-mode.result =
+    let at_mode : Moded (words c.args.signature.now) site c.as_set-mode.result =
     let p = c.requires in record { known = p.under; room = p.room.0; scope_room = p.room.1; is = c.as_set-mode.ensures } in
     stays_done at_mode c.if-mode-eq1.false c.if-mode-eq2.false c.unite.ensures

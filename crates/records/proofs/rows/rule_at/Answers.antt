@@ -19,12 +19,9 @@ use Rattle.records.proofs.rows.rule_at.Goals as goal
 
 pub returns-in_default : goal.returns-in_default
 returns-in_default c =
-    let ws : List ℕ =
-    words c.args.rule.now in
-    let reads : (i : Item) → Reader (Of i) =
-    λ i. read_item i (with_heads c.args.heads) (ws) in
-    let goes_on : (p : ℕ) → Went (ws) p 1 ((reads) c.args.body p) =
-    went c.args.body (with_heads c.args.heads) (ws) in
+    let ws : List ℕ = words c.args.rule.now in
+    let reads : (i : Item) → Reader (Of i) = λ i. read_item i (with_heads c.args.heads) ws in
+    let goes_on : (p : ℕ) → Went ws p 1 (reads c.args.body p) = went c.args.body (with_heads c.args.heads) ws in
     header_other ws pair (reads c.args.body) (reads c.args.head) goes_on (not_kind c.word_at-w.ensures 5 tt (opened c.in_default.in_default-own.keys2))
 
 pub overflow_add-at : goal.overflow_add-at
@@ -35,24 +32,18 @@ overflow_add-at c =
 
 pub returns-then-read-ne0 : goal.returns-then-read-ne0
 returns-then-read-ne0 c =
-    let ws : List ℕ =
-    words c.args.rule.now in
-    let reads : (i : Item) → Reader (Of i) =
-    λ i. read_item i (with_heads c.args.heads) (ws) in
-    let goes_on : (p : ℕ) → Went (ws) p 1 ((reads) c.args.body p) =
-    went c.args.body (with_heads c.args.heads) (ws) in
+    let ws : List ℕ = words c.args.rule.now in
+    let reads : (i : Item) → Reader (Of i) = λ i. read_item i (with_heads c.args.heads) ws in
+    let goes_on : (p : ℕ) → Went ws p 1 (reads c.args.body p) = went c.args.body (with_heads c.args.heads) ws in
     let at_word : (let a = c.args in There (words a.rule.now) a.at (Header c.in-Header.some c.in-Header.more)) =
     there c.word_at-w.ensures c.in-Header.is (lit< tt) in
     first_stops ws pair (reads c.args.body) (reads c.args.head) goes_on at_word c.row-read.ensures c.if-read-ne0.true
 
 pub returns : goal.returns
 returns c =
-    let ws : List ℕ =
-    words c.args.rule.now in
-    let reads : (i : Item) → Reader (Of i) =
-    λ i. read_item i (with_heads c.args.heads) (ws) in
-    let goes_on : (p : ℕ) → Went (ws) p 1 ((reads) c.args.body p) =
-    went c.args.body (with_heads c.args.heads) (ws) in
+    let ws : List ℕ = words c.args.rule.now in
+    let reads : (i : Item) → Reader (Of i) = λ i. read_item i (with_heads c.args.heads) ws in
+    let goes_on : (p : ℕ) → Went ws p 1 (reads c.args.body p) = went c.args.body (with_heads c.args.heads) ws in
     let at_word : (let a = c.args in There (words a.rule.now) a.at (Header c.in-Header.some c.in-Header.more)) =
     there c.word_at-w.ensures c.in-Header.is (lit< tt) in
     then_second ws pair (reads c.args.body) (reads c.args.head) goes_on at_word c.row-read.ensures c.if-read-ne0.false c.row.ensures

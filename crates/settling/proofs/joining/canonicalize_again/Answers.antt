@@ -39,8 +39,7 @@ pub carry-requires-2 : goal.carry-requires-2
 carry-requires-2 c =
     let at_joined : (let a = c.args in AllJoined (sig a.q) (words a.s.now) (words c.join_all-t.new.s) a.at a.e a.area c.join_all-t.result) =
     all_joined c.requires.again_asks (omega (arith, length_words c.args.s.now, c.well_formed)) c.join_all-t.ensures in
-    let carry_long : length (words c.carry.new.buf) ≡ length (words c.join_all-t.new.s) =
-    length_words_kept _ _ c.carry.auto.buf in
+    let carry_long : length (words c.carry.new.buf) ≡ length (words c.join_all-t.new.s) = length_words_kept _ _ c.carry.auto.buf in
     let a = at_joined in
     record { n_in_bounds = (omega (arith, a, carry_long), omega (arith, a, carry_long)); clear = beyond (omega (arith, a)) }
 

@@ -19,9 +19,8 @@ use Rattle.settling.proofs.joining.join_one.Goals.{then-asked-left, else-asked-l
 
 pub resolve_terms-words-requires : goal.resolve_terms-words-requires
 resolve_terms-words-requires c =
-    let l : List ℕ =
-    words c.args.s.now in
-    let at_get : (let a = c.args in OneRead (sig a.q) (l) a.left c.get-right.result a.p a.n a.area) =
+    let l : List ℕ = words c.args.s.now in
+    let at_get : (let a = c.args in OneRead (sig a.q) l a.left c.get-right.result a.p a.n a.area) =
     record { asks = c.requires.join_one_asks; is = c.get-right.ensures.is } in
     let at_then : (let a = c.args in join_ask (sig a.q) a.left c.get-right.result ≡ none) =
     let r = c.replacement_of-asked in
@@ -30,9 +29,8 @@ resolve_terms-words-requires c =
 
 pub returns-then-not-asked : goal.returns-then-not-asked
 returns-then-not-asked c =
-    let l : List ℕ =
-    words c.args.s.now in
-    let at_get : (let a = c.args in OneRead (sig a.q) (l) a.left c.get-right.result a.p a.n a.area) =
+    let l : List ℕ = words c.args.s.now in
+    let at_get : (let a = c.args in OneRead (sig a.q) l a.left c.get-right.result a.p a.n a.area) =
     record { asks = c.requires.join_one_asks; is = c.get-right.ensures.is } in
     let at_then : (let a = c.args in join_ask (sig a.q) a.left c.get-right.result ≡ none) =
     let r = c.replacement_of-asked in
@@ -41,41 +39,35 @@ returns-then-not-asked c =
 
 pub replace-requires : goal.replace-requires
 replace-requires c =
-    let l : List ℕ =
-    words c.args.s.now in
-    let at_get : (let a = c.args in OneRead (sig a.q) (l) a.left c.get-right.result a.p a.n a.area) =
+    let l : List ℕ = words c.args.s.now in
+    let at_get : (let a = c.args in OneRead (sig a.q) l a.left c.get-right.result a.p a.n a.area) =
     record { asks = c.requires.join_one_asks; is = c.get-right.ensures.is } in
-    let met_long : length (words c.replace_met.new.s) ≡ length (l) =
-    length_words_kept _ _ c.replace_met.auto.s in
+    let met_long : length (words c.replace_met.new.s) ≡ length l = length_words_kept _ _ c.replace_met.auto.s in
     omega (arith, at_get.asks, met_long)
 
 pub put_three-requires : goal.put_three-requires
 put_three-requires c =
-    let l : List ℕ =
-    words c.args.s.now in
-    let at_get : (let a = c.args in OneRead (sig a.q) (l) a.left c.get-right.result a.p a.n a.area) =
+    let l : List ℕ = words c.args.s.now in
+    let at_get : (let a = c.args in OneRead (sig a.q) l a.left c.get-right.result a.p a.n a.area) =
     record { asks = c.requires.join_one_asks; is = c.get-right.ensures.is } in
-    let replace_long : length (words c.replace.new.buf) ≡ length (l) =
-    length_words_kept _ _ (c.replace.auto.buf ∙ c.replace_met.auto.s) in
+    let replace_long : length (words c.replace.new.buf) ≡ length l = length_words_kept _ _ (c.replace.auto.buf ∙ c.replace_met.auto.s) in
     omega (arith, at_get.asks, replace_long)
 
 pub overflow_sub-result : goal.overflow_sub-result
 overflow_sub-result c =
-    let l : List ℕ =
-    words c.args.s.now in
-    let at_get : (let a = c.args in OneRead (sig a.q) (l) a.left c.get-right.result a.p a.n a.area) =
+    let l : List ℕ = words c.args.s.now in
+    let at_get : (let a = c.args in OneRead (sig a.q) l a.left c.get-right.result a.p a.n a.area) =
     record { asks = c.requires.join_one_asks; is = c.get-right.ensures.is } in
     omega (arith, at_get.asks)
 
 pub returns : goal.returns
 returns c =
-    let l : List ℕ =
-    words c.args.s.now in
-    let at_get : (let a = c.args in OneRead (sig a.q) (l) a.left c.get-right.result a.p a.n a.area) =
+    let l : List ℕ = words c.args.s.now in
+    let at_get : (let a = c.args in OneRead (sig a.q) l a.left c.get-right.result a.p a.n a.area) =
     record { asks = c.requires.join_one_asks; is = c.get-right.ensures.is } in
     let replacement : Replacement =
     let t = c.replacement_of-asked.result in record { old = t.old; new = t.new } in
-    let at_else : (let a = c.args in join_ask (sig a.q) a.left c.get-right.result ≡ some (replacement)) =
+    let at_else : (let a = c.args in join_ask (sig a.q) a.left c.get-right.result ≡ some replacement) =
     let r = c.replacement_of-asked in
     is_join_ask _ _ _ ∙ asked_some _ r.result r.ensures (not-false _ c.if-not-asked.false) in
     let new_left : c.if-asked-left.now ≡ replace_term replacement c.args.left =
