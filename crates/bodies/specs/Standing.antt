@@ -49,7 +49,7 @@ pub record TabsAt (ts : List Tab) (l : List ℕ) (p n : ℕ) : Type 0 where
 
 -- the words that an atom at p has
 unfoldable pub size_at : List ℕ → ℕ → ℕ
-size_at l p = atom_size (get_or l p 0 % limit16)
+size_at l p = get_or l p 0 % limit16 + 1
 
 -- the left and the right term of an equality at p
 abbrev pub left_at : List ℕ → ℕ → ℕ
@@ -60,11 +60,11 @@ right_at l p = get_or l (right_from p) 0
 
 -- the atom of a head that is read at p
 unfoldable pub tab_at : List ℕ → ℕ → Tab
-tab_at l p = tab_from (get_or l p 0) (drop (terms_from p) l)
+tab_at l p = tab_from (get_or l p 0) (drop (p + 1) l)
 
 -- there is one
 pub record TabAt (l : List ℕ) (p : ℕ) : Type 0 where
   pub low : head_base ≤ get_or l p 0
   pub high : get_or l p 0 < literal_base
   pub some : 1 ≤ get_or l p 0 % limit16
-  pub within : p + get_or l p 0 % limit16 + lead_size ≤ length l
+  pub within : p + get_or l p 0 % limit16 + 1 ≤ length l

@@ -35,18 +35,18 @@ ask_for true s a b = replacement_of (same_term a b) (is_var s a) (is_var s b) a 
 ask_for false s a b = none
 
 unfoldable pub ask_at : Sig → List ℕ → ℕ → Option Replacement
-ask_at s l p = ask_for (eqb (get_or l p 0) equality_word) s (left_at l p) (right_at l p)
+ask_at s l p = ask_for (eqb (get_or l p 0) equality_word) s (get_or l (p + 1) 0) (get_or l (p + 2) 0)
 
 -- where the bindings begin after it
 abbrev pub place_after : Option Replacement → ℕ → ℕ
 place_after none d = d
-place_after (some r) d = d - binding_size
+place_after (some r) d = d - 3
 
 -- a replacement is made in the n words at `at`, and its binding stands before those at d. The table of spans at `table` changed as well, since
 -- now the new term may stand where the old one did
 pub record Swept (r : Replacement) (l m : List ℕ) (at n d table buckets : ℕ) : Type 0 where
   pub spans : List ℕ
-  pub words : m ≡ splice (splice (splice l at (map (replace_term r) (part l at n))) table spans) (d - binding_size) (binding_words (r ∷ []))
+  pub words : m ≡ splice (splice (splice l at (map (replace_term r) (part l at n))) table spans) (d - 3) (binding_words (r ∷ []))
   pub size : length spans ≡ 2 * buckets
   pub spanned : Spanned m at n table buckets
 
@@ -57,9 +57,9 @@ Stepped (some r) l m at n d table buckets = Swept r l m at n d table buckets
 
 pub record StepAsks (l : List ℕ) (at n p d table buckets : ℕ) : Type 0 where
   pub begins : BeginsGood l p
-  pub whole : get_or l p 0 ≡ equality_word → p + equality_size ≤ length l
+  pub whole : get_or l p 0 ≡ equality_word → p + 3 ≤ length l
   pub spanned : Spanned l at n table buckets
-  pub room : table + 2 * buckets + binding_size ≤ d
+  pub room : table + 2 * buckets + 3 ≤ d
   pub top : d ≤ length l
 
 -- ---- all of them
@@ -67,14 +67,14 @@ pub record StepAsks (l : List ℕ) (at n p d table buckets : ℕ) : Type 0 where
 pub record ReplaceAsks (l : List ℕ) (at n d table buckets : ℕ) : Type 0 where
   pub atoms : AtomsAt (atoms_in l at n) l at n
   pub spanned : Spanned l at n table buckets
-  pub room : table + 2 * buckets + binding_size * length (atoms_in l at n) + binding_size ≤ d
+  pub room : table + 2 * buckets + 3 * length (atoms_in l at n) + 3 ≤ d
   pub top : d ≤ length l
 
 -- the atoms with all replacements made stand where they were, the bindings from r to d, and but for the table nothing else changed
 pub record Replaced (s : Sig) (l m : List ℕ) (at n d table buckets r : ℕ) : Type 0 where
   pub atoms : AtomsAt (replace_all s (atoms_in l at n) []).atoms m at n
   pub binds : At (binding_words (replace_all s (atoms_in l at n) []).repls) m r
-  pub count : r + binding_size * length (replace_all s (atoms_in l at n) []).repls ≡ d
+  pub count : r + 3 * length (replace_all s (atoms_in l at n) []).repls ≡ d
   pub only : Only l m at d
   pub between : (ws : List ℕ) (q : ℕ) → At ws l q → table + 2 * buckets ≤ q → q + length ws ≤ r → At ws m q
   pub spanned : Spanned m at n table buckets
@@ -87,11 +87,11 @@ resolve_terms false s a b = head_word s.value_eq 3 ∷ a ∷ b ∷ unit ∷ []
 
 -- the words that the equality at p becomes
 unfoldable pub resolve_at : Sig → List ℕ → ℕ → List ℕ
-resolve_at s l p = resolve_terms (same_term (left_at l p) (right_at l p)) s (left_at l p) (right_at l p)
+resolve_at s l p = resolve_terms (same_term (get_or l (p + 1) 0) (get_or l (p + 2) 0)) s (get_or l (p + 1) 0) (get_or l (p + 2) 0)
 
 pub record ResolveOneAsks (s : Sig) (l : List ℕ) (p to : ℕ) : Type 0 where
   pub equality : get_or l p 0 ≡ equality_word
-  pub whole : p + equality_size ≤ length l
+  pub whole : p + 3 ≤ length l
   pub room : to + length (resolve_at s l p) ≤ length l
 
 -- the atoms in front of the first equality, which stay as they are
@@ -122,7 +122,7 @@ pub record FrontAsks (l : List ℕ) (at e k to d table buckets : ℕ) : Type 0 w
   pub others : AtomsAt (atoms_in l (at + e) k) l (at + e) k
   pub spanned : Spanned l at (e + k) table buckets
   pub clear : table + 2 * buckets ≤ to
-  pub room : to + weight (atoms_in l at e ++ atoms_in l (at + e) k) + binding_size * length (atoms_in l at e ++ atoms_in l (at + e) k) + binding_size ≤ d
+  pub room : to + weight (atoms_in l at e ++ atoms_in l (at + e) k) + 3 * length (atoms_in l at e ++ atoms_in l (at + e) k) + 3 ≤ d
   pub top : d ≤ length l
 
 -- the equalities in front of the atoms in n words at `at` have r words, and behind them no further one follows
@@ -137,15 +137,15 @@ pub record Leads (l : List ℕ) (at n r : ℕ) : Type 0 where
 -- one of them, at p with n words from it to the end: it is resolved, or its replacement is made behind it
 abbrev pub FrontStep : Option Replacement → Sig → List ℕ → List ℕ → (p n to d table buckets : ℕ) → Canonical → Type 0
 FrontStep none s l m p n to d table buckets r = (r.words ≡ length (resolve_at s l p)) × (r.binds ≡ d) × (m ≡ splice l to (resolve_at s l p))
-FrontStep (some q) s l m p n to d table buckets r = (r.words ≡ 0) × (r.binds ≡ d - binding_size) × Swept q l m (p + equality_size) (n - equality_size) d table buckets
+FrontStep (some q) s l m p n to d table buckets r = (r.words ≡ 0) × (r.binds ≡ d - 3) × Swept q l m (p + 3) (n - 3) d table buckets
 
 pub record FrontOneAsks (s : Sig) (l : List ℕ) (p n to d table buckets : ℕ) : Type 0 where
   pub equality : get_or l p 0 ≡ equality_word
-  pub whole : equality_size ≤ n
-  pub spanned : Spanned l (p + equality_size) (n - equality_size) table buckets
+  pub whole : 3 ≤ n
+  pub spanned : Spanned l (p + 3) (n - 3) table buckets
   pub clear : table + 2 * buckets ≤ to
   pub room : to + length (resolve_at s l p) ≤ length l
-  pub binds : table + 2 * buckets + binding_size ≤ d
+  pub binds : table + 2 * buckets + 3 ≤ d
   pub top : d ≤ length l
 
 pub record FrontOne (s : Sig) (l m : List ℕ) (p n to d table buckets : ℕ) (r : Canonical) : Type 0 where
@@ -160,8 +160,8 @@ pub record Fronted (s : Sig) (xs ys : List Atom) (l m : List ℕ) (at e k to d t
   pub others : AtomsAt rest m (at + e) k
   pub spanned : Spanned m (at + e) k table buckets
   pub binds : At (binding_words rs) m r.binds
-  pub count : r.binds + binding_size * length rs ≡ d
-  pub room : to + r.words + weight rest + binding_size * length rest + binding_size ≤ r.binds
+  pub count : r.binds + 3 * length rs ≡ d
+  pub room : to + r.words + weight rest + 3 * length rest + 3 ≤ r.binds
   pub all_tabs : (canonicalize s (xs ++ ys) []).tabs ≡ written ++ (canonicalize s rest []).tabs
   pub all_repls : (canonicalize s (xs ++ ys) []).repls ≡ (canonicalize s rest []).repls ++ rs
   pub only : Only l m at d
@@ -173,12 +173,12 @@ pub record CanonicalizeAsks (l : List ℕ) (at n to d : ℕ) : Type 0 where
   pub some : 1 ≤ n
   pub small : at + n < 0x1_0000_0000
   pub clear : at + 3 * n ≤ to
-  pub room : to + weight (atoms_in l at n) + binding_size * length (atoms_in l at n) + binding_size ≤ d
+  pub room : to + weight (atoms_in l at n) + 3 * length (atoms_in l at n) + 3 ≤ d
   pub top : d ≤ length l
 
 -- the atoms that are left stand at `to`, the bindings before d, and nothing changed but from `at` to d
 pub record CanonicalAt (s : Sig) (xs : List Atom) (l m : List ℕ) (at to d : ℕ) (r : Canonical) : Type 0 where
   pub tabs : TabsAt (canonicalize s xs []).tabs m to r.words
   pub binds : At (binding_words (canonicalize s xs []).repls) m r.binds
-  pub count : r.binds + binding_size * length (canonicalize s xs []).repls ≡ d
+  pub count : r.binds + 3 * length (canonicalize s xs []).repls ≡ d
   pub only : Only l m at d

@@ -30,9 +30,6 @@ struct Table {
     count: usize,
 }
 
-// How many words a binding takes where it is kept.
-pub const BINDING: usize = 3;
-
 // Whether an equality asks for a replacement, and of which term by which.
 #[derive(Clone, Copy)]
 pub struct Asked {
@@ -102,8 +99,8 @@ fn replace_step(s: &mut [u8], at: usize, n: usize, p: usize, d: usize, t: Table,
         return d;
     }
     spans::replace(s, at, n, asked.old, asked.new, t.at, t.count);
-    octets::rows::put_three(s, d - BINDING, LET, asked.old, asked.new);
-    d - BINDING
+    octets::rows::put_three(s, d - 3, LET, asked.old, asked.new);
+    d - 3
 }
 
 // Makes all replacements that the atoms in the n words at `at` ask for. The bindings go before d, the last one first. Returns where they

@@ -14,13 +14,13 @@ bound_size = 3
 -- three runs lie inside what they are copied from, and have room with a header in the output
 pub record Fits (body : Settled) (from rest output scratch source : ℕ) : Type 0 where
   pub atoms : body.at + body.words ≤ scratch
-  pub binds : body.binds + bound_size * body.replacements ≤ scratch
+  pub binds : body.binds + 3 * body.replacements ≤ scratch
   pub actions : from + rest ≤ source
-  pub room : 1 + body.words + bound_size * body.replacements + rest ≤ output
+  pub room : 1 + body.words + 3 * body.replacements + rest ≤ output
 
 abbrev pub emitted : ℕ → List ℕ → Settled → List ℕ → ℕ → ℕ → List ℕ
 emitted header scratch body source from rest =
-    ((header ∷ part scratch body.at body.words) ++ part scratch body.binds (bound_size * body.replacements)) ++ part source from rest
+    ((header ∷ part scratch body.at body.words) ++ part scratch body.binds (3 * body.replacements)) ++ part source from rest
 
 -- a settled body b and a head: where their words stand, and how many there are of each
 pub record Parts (b : rules.Settled) (xs : List CoreAction) (scratch : List ℕ) (body : Settled) (many : ℕ) (source : List ℕ) (from size : ℕ) : Type 0 where

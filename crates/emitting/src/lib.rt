@@ -13,9 +13,6 @@ ghost use Rattle.emitting.specs.Emit.{Fits, emitted, Parts, Stand};
 use settling::Settled;
 use words::{HEADER_BASE, LIMIT_12};
 
-// How many words a binding has in the output.
-const BOUND: usize = 3;
-
 // Copies the three runs behind the header.
 fn emit(
     output: &mut [u8],
@@ -33,7 +30,7 @@ fn emit(
     let at = body.at;
     let atoms = body.words;
     let binds = body.binds;
-    let bound = BOUND * body.replacements;
+    let bound = 3 * body.replacements;
     octets::put(output, 0, header);
     octets::regions::copy(output, 1, scratch, at, atoms);
     octets::regions::copy(output, 1 + atoms, scratch, binds, bound);
@@ -56,7 +53,7 @@ pub fn finish(
         → Parts b head (words scratch.now) body actions (words source.now) from rest
         → WroteIfRoom (encode b.tabs (bindings b.repls ++ head)) result output.old output.new }
 {
-    let needed = 1 + body.words + BOUND * body.replacements + rest;
+    let needed = 1 + body.words + 3 * body.replacements + rest;
     if octets::count(output) < needed {
         return needed;
     }

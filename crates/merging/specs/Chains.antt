@@ -43,7 +43,7 @@ bucket_at count l p = bucket_of count (key_of (part l p (size_at l p - 1)))
 
 pub record LinkOneAsks (l : List ℕ) (from i links table count : ℕ) : Type 0 where
   pub begins : BeginsGood l (from + i)
-  pub output : atom_size 1 ≤ size_at l (from + i)
+  pub output : 2 ≤ size_at l (from + i)
   pub whole : from + i + size_at l (from + i) ≤ length l
   pub some : 0 < count
   pub few : count < 0x1_0000_0000

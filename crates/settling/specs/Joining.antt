@@ -27,7 +27,7 @@ pub record JoinOneAsks (s : Sig) (l : List ℕ) (left p n : ℕ) (area : Area) :
   pub here : p + 1 + n ≤ area.to
   pub room : area.to + length (join_words (join_ask s left (get_or l p 0)) s left (get_or l p 0)) ≤ area.body
   pub clear : area.to ≤ area.body
-  pub binds : area.body + area.k + binding_size ≤ area.d
+  pub binds : area.body + area.k + 3 ≤ area.d
   pub top : area.d ≤ length l
 
 -- the words after it
@@ -36,7 +36,7 @@ join_after none s l left right p n area = splice l area.to (resolve_terms (same_
 join_after (some r) s l left right p n area =
     let groups = splice l (p + 1) (map (replace_term r) (part l (p + 1) n)) in
     let atoms = splice groups area.body (map (replace_term r) (part l area.body area.k)) in
-    splice atoms (area.d - binding_size) (binding_words (r ∷ []))
+    splice atoms (area.d - 3) (binding_words (r ∷ []))
 
 abbrev pub left_after : Option Replacement → ℕ → ℕ
 left_after none left = left
@@ -59,7 +59,7 @@ pub record JoinGroupAsks (l : List ℕ) (left p m n : ℕ) (area : Area) : Type 
   pub inside : m ≤ n
   pub here : p + n ≤ area.to
   pub room_to : area.to + 4 * m ≤ area.body
-  pub room : area.body + area.k + binding_size * m + binding_size ≤ area.d
+  pub room : area.body + area.k + 3 * m + 3 ≤ area.d
   pub top : area.d ≤ length l
 
 -- every replacement of a list made in words, in atoms: the last one stands first
@@ -89,7 +89,7 @@ pub record JoinedGroup (s : Sig) (l m : List ℕ) (left p count n : ℕ) (area :
   pub behind : At (replaced_words rs (part l (p + count) (n - count))) m (p + count)
   pub atoms : At (replaced_words rs (part l area.body area.k)) m area.body
   pub binds : At (binding_words rs) m r.binds
-  pub places : r.binds + binding_size * length rs ≡ area.d
+  pub places : r.binds + 3 * length rs ≡ area.d
   pub few : 4 * length rs + r.words ≤ 4 * count
   pub between : (ws : List ℕ) (q : ℕ) → At ws l q → p + n ≤ q → q + length ws ≤ area.to → At ws m q
   pub only : Only l m p area.d
@@ -104,7 +104,7 @@ pub record AgainAsks (l : List ℕ) (at e : ℕ) (area : Area) : Type 0 where
   pub kepts : TabsAt (tabs_in l area.body area.k) l area.body area.k
   pub clear : at + e ≤ area.to
   pub room_to : area.to + 4 * length (all_eqns groups) + area.k ≤ area.body
-  pub room : area.body + area.k + (4 + binding_size) * length (all_eqns groups) + binding_size ≤ area.d
+  pub room : area.body + area.k + 7 * length (all_eqns groups) + 3 ≤ area.d
   pub top : area.d ≤ length l
 
 -- what the groups became stands at `to`, and the atoms with all replacements made at `body`
@@ -115,7 +115,7 @@ pub record JoinedOf (s : Sig) (gs : List Group) (l m : List ℕ) (at : ℕ) (are
   pub tabs : TabsAt written m area.to r.words
   pub atoms : TabsAt ts m area.body area.k
   pub binds : At (binding_words rs) m r.binds
-  pub places : r.binds + binding_size * length rs ≡ area.d
+  pub places : r.binds + 3 * length rs ≡ area.d
   pub few : 4 * length rs + r.words ≤ 4 * length (all_eqns gs)
   pub only : Only l m at area.d
   pub all_tabs : (canonicalize s (all_eqns gs ++ map tab (tabs_in l area.body area.k)) []).tabs ≡ written ++ ts

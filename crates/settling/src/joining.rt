@@ -11,7 +11,7 @@ ghost use Rattle.merging.specs.RemoveDupVars.{Group, all_eqns, GroupsAt};
 ghost use Rattle.settling.specs.Joining.{JoinOneAsks, JoinedOne, JoinGroupAsks, JoinedGroup, JoinedAll, AgainAsks};
 
 use bodies::terms::Sign;
-use canonicalize::{BINDING, Canonical, replacement_of, resolve_terms};
+use canonicalize::{Canonical, replacement_of, resolve_terms};
 use words::LET;
 
 // Where joining works, apart from the groups: the k words of atoms stand at `body`, what becomes of equalities is written at `to`, and a replacement is
@@ -61,12 +61,12 @@ fn join_one(s: &mut [u8], left: u32, p: usize, n: usize, area: Area, q: Sign) ->
     }
     replace_met(s, p + 1, n, asked.old, asked.new);
     octets::regions::replace(s, area.body, area.k, asked.old, asked.new);
-    octets::rows::put_three(s, area.d - BINDING, LET, asked.old, asked.new);
+    octets::rows::put_three(s, area.d - 3, LET, asked.old, asked.new);
     let now = if asked.old == left { asked.new } else { left };
     Joined {
         left: now,
         words: 0,
-        binds: area.d - BINDING,
+        binds: area.d - 3,
     }
 }
 

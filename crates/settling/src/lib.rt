@@ -6,7 +6,7 @@
 //     at + 2n        2n + 1 words  the links of a pass; later what becomes of its equalities
 //     at + 4n + 1    2n words      the atoms of the next pass: here the settled atoms stand at the end
 //     at + 6n + 1    2n + 1 words  the buckets of a pass, one more than the atoms have words
-//     at + 8n + 3                  the end of the bindings, BINDING words each, which are written downward
+//     at + 8n + 3                  the end of the bindings, three words each, which are written downward
 //
 // That this suffices is a law of the definitions: settling never makes a body and its replacements heavier.
 #![tactic(auto)]
@@ -22,10 +22,9 @@ ghost use Rattle.settling.specs.Settle.{SettleAsks, SettledAt, settled_none};
 pub mod joining;
 
 use bodies::terms::Sign;
-use canonicalize::BINDING;
 use joining::Area;
 
-// A settled body: where its atoms stand, in how many words, and how many they are; where its bindings stand, BINDING words each, and how
+// A settled body: where its atoms stand, in how many words, and how many they are; where its bindings stand, three words each, and how
 // many they are, one for each replacement; and the passes.
 #[derive(Clone, Copy)]
 pub struct Settled {
@@ -76,7 +75,7 @@ pub fn settle(s: &mut [u8], at: usize, n: usize, q: Sign) -> Settled
                 words: t.kept,
                 atoms: t.atoms,
                 binds: c.binds,
-                replacements: (end - c.binds) / BINDING,
+                replacements: (end - c.binds) / 3,
                 passes,
             };
         }

@@ -72,15 +72,15 @@ equality_size = atom_size 2
 
 -- an atom of a head with so many terms, whose first word stands at `at`: the terms follow, and behind them the next atom may begin
 abbrev pub laid_out : HeadOrEq → (count at : ℕ) → Atom
-laid_out h n at = record { head = h; count = n; terms = terms_from at; next = terms_from at + n }
+laid_out h n at = record { head = h; count = n; terms = at + 1; next = at + 1 + n }
 
 -- the atom that begins at `at` with w: its terms stand behind w, the output last
 pub record AtomSays (r : Atom) (w at : ℕ) : Type 0 where
   pub kind_is : head_kind r.head ≡ cond (leb head_base w) 3 4
   pub number_is : head_number r.head ≡ cond (leb head_base w) (head_of w) 0
   pub count_is : r.count ≡ count_in w
-  pub terms_at : r.terms ≡ terms_from at
-  pub next_at : r.next ≡ terms_from at + r.count
+  pub terms_at : r.terms ≡ at + 1
+  pub next_at : r.next ≡ at + 1 + r.count
 
 -- a word of kind 3 or 4 stands at an index
 pub record BeginsAtom (ws : List ℕ) (at : ℕ) : Type 0 where

@@ -5,7 +5,7 @@ ghost use Rattle.std.specs.Prelude.{◌≡◌, ◌+◌, ◌^◌, ◌≤◌, ◌<
 ghost use Rattle.octets.specs.Words.{words};
 ghost use Rattle.rules.specs.Words.{limit12, equality_base, head_base, literal_base};
 ghost use Rattle.words.specs.Word.{numbers, numbers_of, WordSays, head_word_of};
-ghost use Rattle.words.specs.Atom.{TermSays, HeadSays, equality_size, laid_out, AtomSays, BeginsAtom, BeginsGood};
+ghost use Rattle.words.specs.Atom.{TermSays, HeadSays, laid_out, AtomSays, BeginsAtom, BeginsGood};
 
 // Heads, names, facts, atoms and actions are numbered below LIMIT_12, counts and literals below LIMIT_16.
 pub const LIMIT_12: u32 = 4096;
@@ -229,9 +229,6 @@ pub struct Atom {
     pub next: usize,
 }
 
-// How many words of an atom stand before its terms.
-const LEAD: usize = 1;
-
 // An atom of a head with so many terms, whose first word stands at `at`. This is the one place that knows how an atom is laid out; rows of `octets` write it.
 fn laid_out(head: HeadOrEq, count: u32, at: usize) -> Atom
     requires { at < 2 ^ 62 }
@@ -240,8 +237,8 @@ fn laid_out(head: HeadOrEq, count: u32, at: usize) -> Atom
     Atom {
         head,
         count,
-        terms: at + LEAD,
-        next: at + LEAD + count as usize,
+        terms: at + 1,
+        next: at + 1 + count as usize,
     }
 }
 
@@ -295,7 +292,7 @@ pub fn good_atom_at(s: &[u8], at: usize) -> Atom
 // The place behind an equality of two terms that begins at `at`. It is known without a look at the words, so that a walk over equalities does not wait for them.
 pub fn past_equality(at: usize) -> usize
     requires { at < 2 ^ 62 }
-    ensures { result ≡ at + equality_size }
+    ensures { result ≡ at + 3 }
 {
     let atom = laid_out(HeadOrEq::Eq, 2, at);
     atom.next
