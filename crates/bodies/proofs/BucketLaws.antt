@@ -107,7 +107,6 @@ bucket_in_lem count w h = omega (arith, mul-lt-mul_of_pos_right (mix_word w 0) h
 -- equal terms are mixed into a key alike. A term is mixed in by its word, so here alone equal terms have to be equal words, which the laws of equal
 -- terms don't say
 mix_same : (k a b : ℕ) → same_term a b ≡ true → mix k a ≡ mix k b
-unfolding same_term
 mix_same k a b e = ap (mix k) (eqb-true a b e)
 
 mix_terms : (k : ℕ) (xs ys : List ℕ) → same_terms xs ys ≡ true → mix_all k xs ≡ mix_all k ys

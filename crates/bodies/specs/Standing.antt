@@ -6,7 +6,7 @@ use Rattle.rules.specs.Words.{limit16, head_base, literal_base}
 use Rattle.rules.specs.Flat.{Tab, Atom, eqn, tab, tab_words, atom_words, words_of}
 use Rattle.meaning.specs.Meaning.{All}
 use Rattle.meaning.specs.ReadBack.{EncodableTab, Encodable, tab_from, atoms_of, tabs_of}
-use Rattle.words.specs.Atom.{atom_size, lead_size, right_from, terms_from}
+use Rattle.words.specs.Atom.{right_from, terms_from}
 
 -- a body stands in the n words at p of l
 pub record BodyAt (xs : List Atom) (l : List ℕ) (p n : ℕ) : Type 0 where

@@ -9,8 +9,8 @@ use Rattle.rules.specs.Words.{equality_word, head_word, unit}
 use Rattle.meaning.proofs.MergePass.{IsEqn}
 use Rattle.meaning.specs.Meaning.{All}
 use Rattle.meaning.specs.Weight.{weight}
-use Rattle.words.specs.Atom.{BeginsGood, equality_size}
-use Rattle.bodies.specs.Standing.{AtomsAt, TabsAt, atoms_in, left_at, right_at}
+use Rattle.words.specs.Atom.{BeginsGood}
+use Rattle.bodies.specs.Standing.{AtomsAt, TabsAt, atoms_in}
 use Rattle.canonicalize.specs.declared.Asked.{Asked}
 use Rattle.canonicalize.specs.declared.Canonical.{Canonical}
 use Rattle.canonicalize.specs.Spans.{Spanned}

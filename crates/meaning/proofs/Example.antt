@@ -9,7 +9,7 @@ use lib.Dec.{eqb}
 use borrow.Author.Tests.{eq-eqb, eqb-true}
 use Rattle.rules.specs.Words.{unit, scratch_words}
 use Rattle.rules.specs.Refusals.{ok}
-use Rattle.rules.specs.Signature.{Sig, same_term, read_signature}
+use Rattle.rules.specs.Signature.{Sig, read_signature}
 use Rattle.rules.specs.Written.{leaf, call, end, ◌then◌, equal, set', Rule, read_written}
 use Rattle.rules.specs.Trials.{flag_on}
 use Rattle.rules.specs.Calls.{Result, lower_words}
@@ -66,7 +66,6 @@ result =
     }
 
 accepted : lower_words flag_on p1 zeros 17 scratch_words ≡ ok result
-unfolding same_term
 accepted = refl
 
 -- every written variable has the value 7

@@ -17,11 +17,9 @@ use Rattle.meaning.proofs.Lists.{and_left, and_right}
 -- ---- the laws: these see what the test computes to, and nothing below them does so
 
 pub same_refl : (a : ℕ) → same_term a a ≡ true
-unfolding same_term
 same_refl a = eq-eqb a a refl
 
 pub same_sym : (a b : ℕ) → same_term a b ≡ same_term b a
-unfolding same_term
 same_sym a b = go (eqb a b) refl
   where
     go : (c : Bool) → eqb a b ≡ c → c ≡ eqb b a
@@ -29,17 +27,14 @@ same_sym a b = go (eqb a b) refl
     go false e = sym (ne_eqb b a (λ q. eqb-false a b e (sym q)))
 
 pub same_trans : (a b c : ℕ) → same_term a b ≡ true → same_term b c ≡ true → same_term a c ≡ true
-unfolding same_term
 same_trans a b c e f = eq-eqb a c (eqb-true a b e ∙ eqb-true b c f)
 
 -- on a variable it is equality of words
 pub same_var : (s : Sig) (a b : ℕ) → is_var s a ≡ true → same_term a b ≡ eqb a b
-unfolding same_term
 same_var s a b v = refl
 
 -- equal terms have one value
 pub same_value : {D : Type 0} (s : Sig) (W : World D) (σ : ℕ → D) (a b : ℕ) → same_term a b ≡ true → val s W σ a ≡ val s W σ b
-unfolding same_term
 same_value s W σ a b e = ap (val s W σ) (eqb-true a b e)
 
 -- ---- what follows for two terms

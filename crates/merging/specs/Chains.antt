@@ -3,7 +3,7 @@ use Rattle.std.specs.Prelude.{◌≡◌, Bool, true, false, cond, List, [], ◌�
 use Rattle.octets.specs.Regions.{Only, part}
 use Rattle.rules.specs.Flat.{Tab, tab_words}
 use Rattle.rules.specs.RemoveDupVars.{seen}
-use Rattle.words.specs.Atom.{BeginsGood, atom_size}
+use Rattle.words.specs.Atom.{BeginsGood}
 use Rattle.bodies.specs.Buckets.{key_of, bucket_of, bucket_in}
 use Rattle.bodies.specs.Standing.{size_at, tabs_in, TabsAt}
 

@@ -32,9 +32,8 @@ is_name w = leb name_base w
 abbrev pub is_var : Sig → ℕ → Bool
 is_var s w = is_fresh w || leb (name_base + s.globals) w
 
--- two terms are equal: the one test of it. Two literals are equal when their numbers are. It is shut, so that proofs use its laws, which stand in
--- crates/meaning, SameTerms
-unfoldable pub same_term : ℕ → ℕ → Bool
+-- two terms are equal: the one test of it. Two literals are equal when their numbers are
+abbrev pub same_term : ℕ → ℕ → Bool
 same_term a b = eqb a b
 
 abbrev pub same_terms : List ℕ → List ℕ → Bool

@@ -4,7 +4,6 @@ use Rattle.std.specs.Prelude.{ℕ, zero, suc, ◌+◌, ◌-◌, ◌*◌, ◌≡�
 use Rattle.octets.specs.Words.{words, bytes_of}
 use Rattle.rules.specs.Words.{scratch_words}
 use Rattle.rules.specs.Refusals.{ok, refuse}
-use Rattle.rules.specs.Signature.{same_term}
 use Rattle.rules.specs.Flat.{words_of}
 use Rattle.rules.specs.Calls.{Outcome, lower}
 use Rattle.rules.specs.Program.{word_line, printed, program}
@@ -212,7 +211,7 @@ wanted t (turned_back n p) =
     }
 
 pub all_trials : map given trials ≡ map (λ t. wanted t t.expected) trials
-unfolding lower words bytes_of same_term
+unfolding lower words bytes_of
 all_trials = refl
 
 -- ---- the program, for the trials whose counters are at zero and whose output is not short
@@ -230,7 +229,7 @@ for_program [] = []
 for_program (t ∷ ts) = cond (same_counts t.counters && leb 17 t.room) (t ∷ for_program ts) (for_program ts)
 
 pub all_printed : map (λ t. program (words_of word_line (t.signature ++ t.rule))) (for_program trials) ≡ map (λ t. prints t.expected) (for_program trials)
-unfolding program same_term
+unfolding program
 all_printed = refl
 
 -- letter by letter: `ok 1 0 1` and the line `04000000` for P2, `refused 7 3` for P8

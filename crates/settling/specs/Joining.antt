@@ -8,7 +8,7 @@ use Rattle.rules.specs.Signature.{Sig, is_var, same_term}
 use Rattle.meaning.specs.Meaning.{All}
 use Rattle.bodies.specs.Standing.{TabsAt, tabs_in}
 use Rattle.canonicalize.specs.declared.Canonical.{Canonical}
-use Rattle.canonicalize.specs.Canonicalize.{binding_size, binding_words, place_after, resolve_terms}
+use Rattle.canonicalize.specs.Canonicalize.{binding_words, place_after, resolve_terms}
 use Rattle.merging.specs.RemoveDupVars.{Group, GroupsAt, all_eqns}
 use Rattle.settling.specs.declared.joining.Area.{Area}
 use Rattle.settling.specs.declared.joining.Joined.{Joined}

@@ -1,8 +1,6 @@
 -- The test of the code is that of the definitions: of the functions of the code, this one alone sees what that computes to. Assumes nothing.
 use borrow.Author.Rules.{rules}
-use Rattle.rules.specs.Signature.{same_term}
 use Rattle.bodies.proofs.terms.same_term.Goals as goal
 
 pub returns : goal.returns
-unfolding same_term
 returns c = search rules
