@@ -1,0 +1,2 @@
+-- What the contracts of the programs' input cite.
+pub mod Counts
