@@ -3,8 +3,10 @@
 //
 // A line is a letter for the reader, then the record's words, a space before each. A signature that reads well sets H for the rules
 // behind it. Empty lines and those that begin with `#` are copied, so that what is printed can be read beside what was read.
+#![tactic(auto)]
+
 ghost use Rattle.std.specs.Prelude.{◌≡◌, ◌+◌, ◌<◌, ◌≤◌, length};
-ghost use Rattle.io.specs.Counts.{IsPrefixLen};
+ghost use Rattle.streams.specs.Counts.{IsPrefixLen};
 ghost use Rattle.octets.specs.Words.{words};
 ghost use Rattle.rules.specs.Signature.{read_signature};
 ghost use Rattle.signature.specs.Signature.{sign_of};
@@ -12,10 +14,8 @@ ghost use Rattle.written.specs.Written.{whole_of};
 ghost use Rattle.reads.specs.Answers.{written_alone, flat_alone, signature_answer, whole_rule, answer_of};
 
 use lines::reading::Line;
+use std::io::Stdout;
 use written::Ending;
-
-// Where `io` prints.
-const STANDARD_OUTPUT: i32 = 1;
 
 // The bytes of a word in a line: a space and eight digits.
 const SPACED: usize = 9;
@@ -158,46 +158,46 @@ fn read_record(letter: u8, bytes: &[u8], heads: u32) -> Answer
 // ---- printing
 
 // Prints a reader's letter and what it answers for a record of so many words.
-fn print_answer(letter: u8, answer: Answer, count: usize) {
+fn print_answer(out: &mut Stdout, letter: u8, answer: Answer, count: usize) {
     let text = [letter];
-    io::write_all(STANDARD_OUTPUT, &text);
+    streams::write_all(out, &text);
     if answer.refused == 0 {
-        io::write_all(STANDARD_OUTPUT, b" ok ");
-        io::print_decimal(STANDARD_OUTPUT, count as u64);
+        streams::write_all(out, b" ok ");
+        streams::print_decimal(out, count as u64);
     } else {
-        io::write_all(STANDARD_OUTPUT, b" refused ");
-        io::print_decimal(STANDARD_OUTPUT, answer.refused as u64);
-        io::write_all(STANDARD_OUTPUT, b" ");
-        io::print_decimal(STANDARD_OUTPUT, answer.place as u64);
+        streams::write_all(out, b" refused ");
+        streams::print_decimal(out, answer.refused as u64);
+        streams::write_all(out, b" ");
+        streams::print_decimal(out, answer.place as u64);
     }
-    io::write_all(STANDARD_OUTPUT, b"\n");
+    streams::write_all(out, b"\n");
 }
 
 // Reads a line's record and prints the answer. Returns H for the lines that follow.
-fn print_record(line: &[u8], heads: u32) -> u32
+fn print_record(out: &mut Stdout, line: &[u8], heads: u32) -> u32
     requires { 0 < length line.now }
 {
     let letter = line[0];
-    let mut room = io::large_buffer();
+    let mut room = streams::large_buffer();
     let words = read_words(line, &mut room);
     if !words.good || !is_reader(letter) {
-        io::write_all(STANDARD_OUTPUT, b"malformed\n");
+        streams::write_all(out, b"malformed\n");
         return heads;
     }
     let end = words.end;
     let answer = read_record(letter, &room[..end], heads);
-    print_answer(letter, answer, end / 4);
+    print_answer(out, letter, answer, end / 4);
     answer.heads
 }
 
 // Prints what a line comes to. Returns H for the lines that follow.
-fn print_line(line: &[u8], heads: u32) -> u32 {
+fn print_line(out: &mut Stdout, line: &[u8], heads: u32) -> u32 {
     if line.len() == 0 || line[0] == b'#' {
-        io::write_all(STANDARD_OUTPUT, line);
-        io::write_all(STANDARD_OUTPUT, b"\n");
+        streams::write_all(out, line);
+        streams::write_all(out, b"\n");
         return heads;
     }
-    print_record(line, heads)
+    print_record(out, line, heads)
 }
 
 // ---- lines
@@ -218,12 +218,12 @@ fn line_end(text: &[u8], at: usize) -> usize
 }
 
 // Prints what each line comes to. There are no heads before the first signature.
-fn print_lines(text: &[u8]) {
+fn print_lines(out: &mut Stdout, text: &[u8]) {
     let mut at = 0;
     let mut heads: u32 = 0;
     while at < text.len() {
         let end = line_end(text, at);
-        heads = print_line(&text[at..end], heads);
+        heads = print_line(out, &text[at..end], heads);
         if end == text.len() {
             return;
         }
@@ -232,12 +232,13 @@ fn print_lines(text: &[u8]) {
 }
 
 // Input that fills the buffer may go on behind it, so it is not taken for the whole.
-fn main() {
-    let mut input = io::large_buffer();
-    let n = io::read_full(0, &mut input);
+fn main(rt: HostRuntime) {
+    let mut out = rt.stdout();
+    let mut input = streams::large_buffer();
+    let n = streams::read_full(&mut rt.stdin(), &mut input);
     if n == 65536 {
-        io::write_all(STANDARD_OUTPUT, b"too long\n");
+        streams::write_all(&mut out, b"too long\n");
         return;
     }
-    print_lines(&input[..n]);
+    print_lines(&mut out, &input[..n]);
 }
