@@ -4,8 +4,10 @@
 // What `main` adds is not in a contract, since those of reading and writing speak of counts alone: it reads until its room is full or the input ends, lends the
 // room for the work, and writes the bytes that it is told of. Where a read fails it prints nothing, since the lines before it may be another rule than the
 // one that was meant, and says so on standard error; so it does where a write fails.
+#![tactic(auto)]
+
 ghost use Rattle.std.specs.Prelude.{◌≡◌, ◌*◌, ◌≤◌, length};
-ghost use Rattle.io.specs.Counts.{IsPrefixLen};
+ghost use Rattle.streams.specs.Counts.{IsPrefixLen};
 ghost use Rattle.octets.specs.Words.{words};
 ghost use Rattle.octets.specs.Regions.{part};
 ghost use Rattle.rules.specs.Words.{max_lines, scratch_words};
@@ -17,14 +19,7 @@ ghost use Rattle.lower.specs.Room.{text_bytes, Zeros};
 
 use answers::Answer;
 use octets::order::least;
-
-// Where a program is handed its input, and where it prints.
-const STANDARD_INPUT: i32 = 0;
-
-const STANDARD_OUTPUT: i32 = 1;
-
-// Where it says what failed.
-const STANDARD_ERROR: i32 = 2;
+use std::io::{Read, Stdin};
 
 // ---- room for the work
 
@@ -118,21 +113,27 @@ struct Got {
     count: usize,
 }
 
-// Reads until the room is full, the input ends or a read fails. Those last two are told apart, which the library's reader does not do.
-fn read_input(input: &mut [u8]) -> Got
+// Reads until the room is full, the input ends or a read fails. Those last two are told apart, which `streams::read_full` does not do.
+fn read_input(from: &mut Stdin, input: &mut [u8]) -> Got
     ensures { IsPrefixLen result.count input.new }
 {
     let mut done = 0;
     while done < input.len() {
-        let got = libc::read(STANDARD_INPUT, &mut input[done..]);
-        let more = io::count(got, &input[done..]);
-        if more == 0 {
-            return Got {
-                failed: got < 0,
-                count: done,
-            };
+        match from.read(&mut input[done..]) {
+            Ok(0) => {
+                return Got {
+                    failed: false,
+                    count: done,
+                };
+            }
+            Ok(more) => done += more,
+            Err(_) => {
+                return Got {
+                    failed: true,
+                    count: done,
+                };
+            }
         }
-        done += more;
     }
     Got {
         failed: false,
@@ -140,16 +141,19 @@ fn read_input(input: &mut [u8]) -> Got
     }
 }
 
-fn main() {
+fn main(rt: HostRuntime) {
     let mut input = input_room();
     let mut text = text_room();
     let mut given = line_words();
     let mut counters = line_words();
-    let mut output = io::large_buffer();
-    let mut scratch = io::large_buffer();
-    let got = read_input(&mut input);
+    let mut output = streams::large_buffer();
+    let mut scratch = streams::large_buffer();
+    let got = read_input(&mut rt.stdin(), &mut input);
     if got.failed {
-        io::write_all(STANDARD_ERROR, b"lower: a read of standard input failed\n");
+        streams::write_all(
+            &mut rt.stderr(),
+            b"lower: a read of standard input failed\n",
+        );
         return;
     }
     let n = got.count;
@@ -161,9 +165,9 @@ fn main() {
         &mut output,
         &mut scratch,
     );
-    if !io::write_all(STANDARD_OUTPUT, &text[..end]) {
-        io::write_all(
-            STANDARD_ERROR,
+    if !streams::write_all(&mut rt.stdout(), &text[..end]) {
+        streams::write_all(
+            &mut rt.stderr(),
             b"lower: a write to standard output failed\n",
         );
     }
