@@ -3,27 +3,33 @@ ghost use Rattle.std.specs.Prelude.{◌≤◌, ◌≡◌, length};
 ghost use Rattle.replay.specs.Differences.{alike as Differences·alike, differ as Differences·differ, answers_differ, calls_differ};
 
 use answers::Answer;
+use std::io::Stdout;
 
-// Where `io` prints.
-pub const STANDARD_OUTPUT: i32 = 1;
+// A case by its number, and where its differences are printed.
+#[derive(Clone, Copy)]
+pub struct Case {
+    pub number: u64,
+    pub out: Stdout,
+}
 
 // Prints a number behind what it is.
-pub fn say(what: &[u8], n: u64) {
-    io::write_all(STANDARD_OUTPUT, what);
-    io::print_decimal(STANDARD_OUTPUT, n);
+pub fn say(mut out: Stdout, what: &[u8], n: u64) {
+    streams::write_all(&mut out, what);
+    streams::print_decimal(&mut out, n);
 }
 
 // Two numbers.
-fn differ(case: u64, what: &[u8], found: u64, expected: u64) -> u64
+fn differ(case: Case, what: &[u8], found: u64, expected: u64) -> u64
     ensures { (result ≡ Differences·differ found expected) × (result ≤ 1) }
 {
     if found == expected {
         return 0;
     }
-    say(b"case ", case);
-    say(what, found);
-    say(b", expected ", expected);
-    io::write_all(STANDARD_OUTPUT, b"\n");
+    let mut out = case.out;
+    say(out, b"case ", case.number);
+    say(out, what, found);
+    say(out, b", expected ", expected);
+    streams::write_all(&mut out, b"\n");
     1
 }
 
@@ -43,7 +49,7 @@ fn alike(found: &[u8], expected: &[u8]) -> usize
 }
 
 // Number, place and the three counts.
-fn answers(case: u64, found: Answer, expected: Answer) -> u64
+fn answers(case: Case, found: Answer, expected: Answer) -> u64
     ensures { (result ≡ answers_differ found expected) × (result ≤ 5) }
 {
     let number = differ(case, b": number ", found.number, expected.number);
@@ -61,7 +67,7 @@ fn answers(case: u64, found: Answer, expected: Answer) -> u64
 
 // All that a call leaves. All of the output that was lent is looked at: past the words written it must be as it was before the call.
 pub fn compare(
-    case: u64,
+    case: Case,
     found: Answer,
     expected: Answer,
     output: &[u8],

@@ -3,17 +3,17 @@
 //
 // There are two lists. In the first the answers are the Rust's, and nothing may differ. In the second each answer was made wrong in one thing, so that it
 // shows that this program sees it: every case must differ. A line is printed for each difference, and one for each list.
+#![tactic(auto)]
+
 pub mod cases;
 pub mod differences;
 
 ghost use Rattle.std.specs.Prelude.{◌+◌, ◌<◌, ◌≤◌, length, ◌≡◌};
-ghost use Rattle.io.specs.Counts.{IsPrefixLen};
+ghost use Rattle.streams.specs.Counts.{IsPrefixLen};
 
 use answers::Answer;
-use differences::STANDARD_OUTPUT;
-
-// Where `io` reads.
-const STANDARD_INPUT: i32 = 0;
+use differences::Case;
+use std::io::{Stdin, Stdout};
 
 // The bytes of the text in front of the lists.
 const TEXT: usize = 2048;
@@ -38,41 +38,41 @@ const ENDED: u64 = 8;
 // ---- reading the list
 
 // The words in front of a case's parts.
-fn read_front() -> [u8; 48] {
+fn read_front(list: &mut Stdin) -> [u8; 48] {
     let mut front = [0u8; 48];
-    io::read_full(STANDARD_INPUT, &mut front);
+    streams::read_full(list, &mut front);
     front
 }
 
 // So many bytes, padded to whole words, to the front of a slice. Answers how many they are without the padding.
-fn read_padded(part: &mut [u8], bytes: usize) -> usize
+fn read_padded(list: &mut Stdin, part: &mut [u8], bytes: usize) -> usize
     requires { bytes + 3 ≤ length part.old }
     ensures { IsPrefixLen result part.new }
 {
     let end = (bytes + 3) / 4 * 4;
-    io::read_full(STANDARD_INPUT, &mut part[..end]);
+    streams::read_full(list, &mut part[..end]);
     bytes
 }
 
 // A part of a case: the word at an index of its front says how many bytes it has.
-fn read_part(part: &mut [u8], front: &[u8; 48], at: usize) -> usize
+fn read_part(list: &mut Stdin, part: &mut [u8], front: &[u8; 48], at: usize) -> usize
     requires { (65536 ≤ length part.old) × (at < 12) }
     ensures { IsPrefixLen result part.new }
 {
-    read_padded(part, cases::lent(front, at, PART))
+    read_padded(list, part, cases::lent(front, at, PART))
 }
 
 // The words that the output begins with.
-fn read_written(part: &mut [u8], front: &[u8; 48])
+fn read_written(list: &mut Stdin, part: &mut [u8], front: &[u8; 48])
     requires { 65536 ≤ length part.old }
 {
-    read_padded(part, 4 * cases::lent(front, 9, PART_WORDS));
+    read_padded(list, part, 4 * cases::lent(front, 9, PART_WORDS));
 }
 
 // How many cases follow.
-fn read_count() -> usize {
+fn read_count(list: &mut Stdin) -> usize {
     let mut count = [0u8; 4];
-    io::read_full(STANDARD_INPUT, &mut count);
+    streams::read_full(list, &mut count);
     cases::number(&count, 0)
 }
 
@@ -104,16 +104,27 @@ fn call_named(
 }
 
 // Reads what a case expects, and answers how many things differ from it. The output is expected to be filled as it was, but for the words read.
-fn compare_case(case: usize, front: &[u8; 48], found: Answer, output: &[u8], counters: &[u8]) -> u64
+fn compare_case(
+    list: &mut Stdin,
+    out: Stdout,
+    case: usize,
+    front: &[u8; 48],
+    found: Answer,
+    output: &[u8],
+    counters: &[u8],
+) -> u64
     requires { (length output.now ≤ 66048) × (length counters.now ≤ 65536) }
 {
     let mut wanted = filled((case % 256) as u8);
-    let mut after = io::large_buffer();
-    read_written(&mut wanted, front);
-    read_part(&mut after, front, 4);
+    let mut after = streams::large_buffer();
+    read_written(list, &mut wanted, front);
+    read_part(list, &mut after, front, 4);
     let expected = cases::expected(front);
     differences::compare(
-        case as u64,
+        Case {
+            number: case as u64,
+            out,
+        },
         found,
         expected,
         output,
@@ -126,6 +137,8 @@ fn compare_case(case: usize, front: &[u8; 48], found: Answer, output: &[u8], cou
 // Runs a case on what is read of it. Output and scratch are filled with a byte that goes with the case, so that in time they hold every byte, and words of
 // every kind. The two bytes differ, so that scratch which is copied to the output is seen.
 fn run_case(
+    list: &mut Stdin,
+    out: Stdout,
     case: usize,
     front: &[u8; 48],
     signature: &[u8],
@@ -147,22 +160,24 @@ fn run_case(
         &mut output[..room],
         &mut scratch[..space],
     );
-    compare_case(case, front, found, &output[..room], counters)
+    compare_case(list, out, case, front, found, &output[..room], counters)
 }
 
 // Reads what a case lends, and runs it.
-fn replay_case(case: usize) -> u64 {
-    let front = read_front();
+fn replay_case(list: &mut Stdin, out: Stdout, case: usize) -> u64 {
+    let front = read_front(list);
     if cases::number(&front, 1) == NO_CALL {
         return ENDED;
     }
-    let mut signature = io::large_buffer();
-    let mut rule = io::large_buffer();
-    let mut counters = io::large_buffer();
-    let s = read_part(&mut signature, &front, 2);
-    let r = read_part(&mut rule, &front, 3);
-    let c = read_part(&mut counters, &front, 4);
+    let mut signature = streams::large_buffer();
+    let mut rule = streams::large_buffer();
+    let mut counters = streams::large_buffer();
+    let s = read_part(list, &mut signature, &front, 2);
+    let r = read_part(list, &mut rule, &front, 3);
+    let c = read_part(list, &mut counters, &front, 4);
     run_case(
+        list,
+        out,
         case,
         &front,
         &signature[..s],
@@ -174,12 +189,12 @@ fn replay_case(case: usize) -> u64 {
 // ---- the lists
 
 // Runs the cases of a list, and prints how many differ. Where the input ends before the list does, fewer cases are counted than it has.
-fn replay_list(what: &[u8]) {
-    let cases = read_count();
+fn replay_list(list: &mut Stdin, mut out: Stdout, what: &[u8]) {
+    let cases = read_count(list);
     let mut case = 0;
     let mut differ: u64 = 0;
     while case < cases {
-        let differences = replay_case(case + 1);
+        let differences = replay_case(list, out, case + 1);
         if differences == ENDED {
             break;
         }
@@ -188,15 +203,25 @@ fn replay_list(what: &[u8]) {
             differ += 1;
         }
     }
-    differences::say(what, case as u64);
-    differences::say(b" cases, ", differ);
-    io::write_all(STANDARD_OUTPUT, b" differ\n");
+    differences::say(out, what, case as u64);
+    differences::say(out, b" cases, ", differ);
+    streams::write_all(&mut out, b" differ\n");
 }
 
 // The text in front of the lists is for people.
-fn main() {
-    let mut text = io::buffer();
-    read_padded(&mut text, TEXT);
-    replay_list(b"the Rust's answers, of which none may differ: ");
-    replay_list(b"answers made wrong, of which all must differ: ");
+fn main(rt: HostRuntime) {
+    let mut list = rt.stdin();
+    let out = rt.stdout();
+    let mut text = [0u8; 4096];
+    read_padded(&mut list, &mut text, TEXT);
+    replay_list(
+        &mut list,
+        out,
+        b"the Rust's answers, of which none may differ: ",
+    );
+    replay_list(
+        &mut list,
+        out,
+        b"answers made wrong, of which all must differ: ",
+    );
 }
