@@ -102,13 +102,14 @@ pub record Cut (k : Given) : Type 0 where
   pub bytes : 4 * k.count ≤ length k.given
   pub counted : 4 * k.signature ≤ length k.counters
 
-pub cut_there : (k : Given) → (k.count ≤ max_lines) × (k.count ≤ length (words k.given))
-    → k.signature ≡ signature_length (part (words k.given) 0 k.count) → k.cut ≡ min k.signature k.count → Zeros (4 * max_lines) k.counters
-    → (length k.output ≡ 4 * scratch_words) × (length k.scratch ≡ 4 * scratch_words) → Cut k
-cut_there k counts is here zeros rooms =
+pub cut_there : {given counters output scratch : List ℕ} {count signature cut : ℕ} → (count ≤ max_lines) × (count ≤ length (words given))
+    → signature ≡ signature_length (part (words given) 0 count) → cut ≡ min signature count → Zeros (4 * max_lines) counters
+    → (length output ≡ 4 * scratch_words) × (length scratch ≡ 4 * scratch_words)
+    → Cut (record { given = given; count = count; signature = signature; cut = cut; counters = counters; output = output; scratch = scratch })
+cut_there {given} {count = count} {signature} counts is here zeros rooms =
     let all = counts.1 in
-    let size = length_part (words k.given) 0 k.count (omega arith) in
-    let most : k.signature ≤ max_lines = omega (arith, counts.0, length_most (part (words k.given) 0 k.count) (omega (arith, counts.0))) in
+    let size = length_part (words given) 0 count (omega arith) in
+    let most : signature ≤ max_lines = omega (arith, counts.0, length_most (part (words given) 0 count) (omega (arith, counts.0))) in
     record {
       all = all;
       is = is;
@@ -118,7 +119,7 @@ cut_there k counts is here zeros rooms =
       work = rooms.1;
       most = most;
       inside = omega arith;
-      bytes = omega (arith, length_words k.given);
+      bytes = omega (arith, length_words given);
       counted = omega (arith, zeros.size);
     }
 

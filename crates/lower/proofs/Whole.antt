@@ -5,7 +5,7 @@ use mathlib.Core.List.{List}
 use Prim.Native.Nat.{ℕ, ◌≤◌}
 use native.Mathlib.Omega.{arith}
 use lib.ListN.{length, take, length-take}
-use Rattle.io.specs.Counts.{IsPrefixLen}
+use Rattle.streams.specs.Counts.{IsPrefixLen}
 use Rattle.octets.specs.Regions.{part}
 use Rattle.octets.proofs.Splice.{take_splice_all}
 use Rattle.rules.specs.Refusals.{Res, ok, refuse, ◌>>=◌}
