@@ -47,3 +47,71 @@ pub fn write_all<W: Write>(to: &mut W, bytes: &[u8]) -> bool {
 pub fn print_decimal<W: Write>(to: &mut W, n: u64) -> bool {
     write!(to, "{n}").is_ok()
 }
+
+#[cfg(test)]
+mod tests {
+    use super::*;
+    use std::io::{Error, ErrorKind, Result};
+
+    // Gives a byte for each call while it has some, and fails from then on.
+    #[derive(Drop)]
+    struct Failing {
+        left: usize,
+    }
+
+    impl Read for Failing {
+        fn read(&mut self, buf: &mut [u8]) -> Result<usize> {
+            if self.left == 0 || buf.len() == 0 {
+                return Err(Error::from(ErrorKind::Other));
+            }
+            self.left -= 1;
+            buf[0] = 7;
+            Ok(1)
+        }
+    }
+
+    // Takes a byte for each call while it has room, and fails from then on.
+    impl Write for Failing {
+        fn write(&mut self, bytes: &[u8]) -> Result<usize> {
+            if self.left == 0 || bytes.len() == 0 {
+                return Err(Error::from(ErrorKind::Other));
+            }
+            self.left -= 1;
+            Ok(1)
+        }
+
+        fn flush(&mut self) -> Result<()> {
+            Ok(())
+        }
+    }
+
+    #[test]
+    fn reads_until_full_or_failed(rt: HostRuntime) {
+        let mut buf = [0u8; 4];
+        assert_eq!(rt; read_full(&mut Failing { left: 9 }, &mut buf), 4);
+        assert_eq!(rt; buf[3], 7);
+        let mut buf = [0u8; 4];
+        assert_eq!(rt; read_full(&mut Failing { left: 3 }, &mut buf), 3);
+        assert_eq!(rt; buf[2], 7);
+        assert_eq!(rt; buf[3], 0);
+    }
+
+    #[test]
+    fn reads_until_the_end(rt: HostRuntime) {
+        let mut input: &[u8] = b"abcde";
+        let mut buf = [0u8; 4];
+        assert_eq!(rt; read_full(&mut input, &mut buf), 4);
+        assert_eq!(rt; buf[3], b'd');
+        assert_eq!(rt; read_full(&mut input, &mut buf), 1);
+        assert_eq!(rt; buf[0], b'e');
+        assert_eq!(rt; read_full(&mut input, &mut buf), 0);
+    }
+
+    #[test]
+    fn tells_whether_all_is_written(rt: HostRuntime) {
+        assert!(rt; write_all(&mut Failing { left: 3 }, b"abc"));
+        assert!(rt; !write_all(&mut Failing { left: 2 }, b"abc"));
+        assert!(rt; print_decimal(&mut Failing { left: 3 }, 307));
+        assert!(rt; !print_decimal(&mut Failing { left: 2 }, 307));
+    }
+}
