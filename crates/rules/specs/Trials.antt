@@ -1,12 +1,12 @@
--- 01, "Trial rules": P1 to P13 as theorems of the definitions, one list with one proof for the call on bytes, and one for the program.
+-- 01, "Trial rules": P1 to P13, one list, with what the call on bytes and the program are given of it and must answer.
+-- That they answer it is proved in proofs/Trials.antt.
 -- Assumes nothing.
-use Rattle.std.specs.Prelude.{ℕ, zero, suc, ◌+◌, ◌-◌, ◌*◌, ◌≡◌, refl, Bool, true, ◌&&◌, cond, List, [], ◌∷◌, ◌++◌, map, length, replicate, leb, eqb}
-use Rattle.octets.specs.Words.{words, bytes_of}
+use Rattle.std.specs.Prelude.{ℕ, zero, suc, ◌+◌, ◌-◌, ◌*◌, Bool, true, ◌&&◌, cond, List, [], ◌∷◌, ◌++◌, length, replicate, leb, eqb}
+use Rattle.octets.specs.Words.{bytes_of}
 use Rattle.rules.specs.Words.{scratch_words}
 use Rattle.rules.specs.Refusals.{ok, refuse}
-use Rattle.rules.specs.Flat.{words_of}
 use Rattle.rules.specs.Calls.{Outcome, lower}
-use Rattle.rules.specs.Program.{word_line, printed, program}
+use Rattle.rules.specs.Program.{printed}
 
 -- H 4, G 1, value-eq 0; head 0 is primitive, 2 a constructor, 1 and 3 are functions
 abbrev pub signature_of : ℕ → List ℕ
@@ -37,7 +37,7 @@ abbrev nested : ℕ → List ℕ
 nested zero = []
 nested (suc n) = 0x1001_0002 ∷ (0x8001_0000 + suc n) ∷ (0x8001_0000 + n) ∷ nested n
 
-abbrev zeros : List ℕ
+abbrev pub zeros : List ℕ
 zeros = 0 ∷ 0 ∷ 0 ∷ 0 ∷ []
 
 abbrev pub trials : List Trial
@@ -210,10 +210,6 @@ wanted t (turned_back n p) =
       counters = bytes_of t.counters;
     }
 
-pub all_trials : map given trials ≡ map (λ t. wanted t t.expected) trials
-unfolding lower words bytes_of
-all_trials = refl
-
 -- ---- the program, for the trials whose counters are at zero and whose output is not short
 
 abbrev pub prints : Expected → List ℕ
@@ -227,15 +223,3 @@ same_counts (c ∷ cs) = eqb c 0 && same_counts cs
 abbrev pub for_program : List Trial → List Trial
 for_program [] = []
 for_program (t ∷ ts) = cond (same_counts t.counters && leb 17 t.room) (t ∷ for_program ts) (for_program ts)
-
-pub all_printed : map (λ t. program (words_of word_line (t.signature ++ t.rule))) (for_program trials) ≡ map (λ t. prints t.expected) (for_program trials)
-unfolding program
-all_printed = refl
-
--- letter by letter: `ok 1 0 1` and the line `04000000` for P2, `refused 7 3` for P8
-pub p2_text : prints (took (0x0400_0000 ∷ []) 0 1 zeros)
-    ≡ 111 ∷ 107 ∷ 32 ∷ 49 ∷ 32 ∷ 48 ∷ 32 ∷ 49 ∷ 10 ∷ 48 ∷ 52 ∷ 48 ∷ 48 ∷ 48 ∷ 48 ∷ 48 ∷ 48 ∷ 10 ∷ []
-p2_text = refl
-
-pub p8_text : prints (turned_back 7 3) ≡ 114 ∷ 101 ∷ 102 ∷ 117 ∷ 115 ∷ 101 ∷ 100 ∷ 32 ∷ 55 ∷ 32 ∷ 51 ∷ 10 ∷ []
-p8_text = refl
