@@ -7,7 +7,7 @@ use std::{env, fs};
 
 /// Names the folder that holds the archive; a relative path is read from this crate's folder.
 const ARCHIVE_VARIABLE: &str = "TULGARENT_ARCHIVE";
-/// Where `rt staticlib` puts it.
+/// Where `tools/build.sh` puts it.
 const DEFAULT_FOLDER: &str = "../target/staticlib";
 const ARCHIVE: &str = "libtulgarent.a";
 
@@ -47,7 +47,7 @@ fn archive_folder() -> PathBuf {
 
 fn how_to_make(archive: &Path, error: &str) -> String {
     format!(
-        "{} can't be read: {error}\nmake it with `rt staticlib tulgarent` at the repository's root,\n\
+        "{} can't be read: {error}\nmake it with `tools/build.sh archive` at the repository's root,\n\
          or let {ARCHIVE_VARIABLE} name the folder that holds {ARCHIVE}",
         archive.display()
     )

@@ -1,7 +1,7 @@
 /*
  * The lowering of policy rules: the three functions of libtulgarent.a.
  *
- *     rt staticlib tulgarent        at the repository's root makes target/staticlib/libtulgarent.a
+ *     tools/build.sh archive        at the repository's root makes target/staticlib/libtulgarent.a
  *
  * A record is a list of 32-bit words, four bytes a word, lowest byte first. How many zero bits a word begins with is its
  * kind; the letters h, c, n, a and b are hexadecimal digits:

@@ -1,7 +1,7 @@
 #!/usr/bin/env python3
 """Runs the examples of docs/FORMAT.md through the program lower, so that the page can't drift from what it explains.
 
-    tools/format_examples.py       exits with 1 where an example is wrong, and says where; `rt check lower` makes the program
+    tools/format_examples.py       exits with 1 where an example is wrong, and says where; `tools/build.sh` makes the program
 
 Two kinds of line are examples. A listed word has its index, the word and how it is shown: the two must be the same word, and the lists are
 the signature, our rule and what it lowers to. A row of a table that begins with a rule has what comes of it, lowered words or a refusal.
@@ -52,7 +52,7 @@ def lowered(signature, rule):
 
 def main():
     if not LOWER.exists():
-        print("target/bin/lower is not there: `rt check lower` makes it")
+        print("target/bin/lower is not there: `tools/build.sh` makes it")
         return 1
     lists, rows, wrong = [], [], []
     for number, line in enumerate(PAGE.read_text(encoding="utf-8").splitlines(), 1):

@@ -3,9 +3,9 @@
 
     tools/read_only_data.py       exits with 1 where one of them has grown; the programs and the archive must be built
 
-The line reader works without a table, so the program that holds nothing else has no read-only data (02, Req 03). Its code is weighed too, since the compiler
-may set up a small table by instructions: that is read-only memory as well, under another name. docs/notes/req-03.md lists what the program lower and the
-archive have, and what it is for. Whoever raises a number here adds to that list what came in.
+The line reader works without a table, so the program that holds nothing else has no read-only data but the library's own and that of its start (02, Req 03).
+Its code is weighed too, since the compiler may set up a small table by instructions: that is read-only memory as well, under another name.
+docs/notes/req-03.md lists what the programs and the archive have, and what it is for. Whoever raises a number here adds to that list what came in.
 """
 import pathlib
 import re
@@ -20,10 +20,10 @@ CODE = ("code", r"\.text")
 
 # No image has more bytes than these.
 MOST = [
-    ("target/bin/line_reader", DATA, 0),
-    ("target/bin/line_reader", CODE, 1347),
-    ("target/bin/lower", DATA, 348),
-    ("target/staticlib/libtulgarent.a", DATA, 236),
+    ("target/bin/line_reader", DATA, 624),
+    ("target/bin/line_reader", CODE, 1724),
+    ("target/bin/lower", DATA, 968),
+    ("target/staticlib/libtulgarent.a", DATA, 172),
 ]
 
 
@@ -37,7 +37,7 @@ def weight(image, names):
 def main():
     missing = sorted({image for image, _, _ in MOST if not (ROOT / image).exists()})
     if missing:
-        print(f"not built: {', '.join(missing)}; `rt check` and `rt staticlib tulgarent` make them")
+        print(f"not built: {', '.join(missing)}; `tools/build.sh` makes them")
         return 1
     grown = []
     for image, (what, names), most in MOST:

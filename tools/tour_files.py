@@ -5,7 +5,7 @@ A section's heading says what folders it is about: `## crates/words: ..`, `## cr
 cell of a row lists files: paths from that folder or, where there are several, from the folder that they stand in. A name without a folder stands beside the
 one before it, and `.antt` may be left out.
 
-Left out are a function's own proof (proofs/FUNCTION/Proof.antt), wrong programs (must-fail/), lists of modules (Lib.antt, mod.rs), and what is found in
+Left out are a function's own proof (Invariants.antt and Answers.antt in proofs/FUNCTION), wrong programs (must-fail/), lists of modules (Lib.antt, mod.rs), and what is found in
 many folders under one name: README.md, LICENSE, NOTICE, and what cargo and git want.
 """
 import pathlib
@@ -15,9 +15,9 @@ import sys
 ROOT = pathlib.Path(__file__).resolve().parent.parent
 FOLDERS = ["crates", "bindings", "include", "compare", "fuzz", "bench", "oracle", "docs", "tools", ".ci"]
 # What is made there, and is no part of the product.
-MADE = re.compile(r"(^|/)(target|__pycache__)/|^fuzz/(build|corpus|found)/")
+MADE = re.compile(r"^(?!crates/)(.*/)?target/|(^|/)__pycache__/|^crates/[^/]*/out/|^fuzz/(build|corpus|found)/")
 LEFT_OUT = re.compile(
-    r"/must-fail/|/(Proof\.antt|Lib\.antt|mod\.rs|README\.md|LICENSE|NOTICE|Cargo\.(toml|lock)|rustfmt\.toml|\.gitignore)$"
+    r"/must-fail/|/(Invariants\.antt|Answers\.antt|Lib\.antt|mod\.rs|README\.md|LICENSE|NOTICE|Cargo\.(toml|lock)|rustfmt\.toml|\.gitignore)$"
 )
 CELL = re.compile(r"^\| (.*?) \|", re.M)
 HEADER = "File"

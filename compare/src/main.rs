@@ -138,7 +138,7 @@ fn compare_program(file: &str, seed: u64) -> ExitCode {
             ExitCode::FAILURE
         }
         Err(program::Stop::Failed(error)) => {
-            eprintln!("{file} can't be run: {error}; `rt check lower` makes target/bin/lower");
+            eprintln!("{file} can't be run: {error}; `tools/build.sh` makes target/bin/lower");
             ExitCode::from(2)
         }
     }
