@@ -1,7 +1,7 @@
 -- Set, delete and subsume: the expressions are lowered onto the stack, and what lies there is what the end of an action with a head asks; a refusal of
 -- either step is the action's own. Assumes nothing.
 use Prim.Native.Nat.{ℕ, ◌+◌, ◌^◌, ◌≤◌, ◌<◌}
-use mathlib.Core.Path.{◌≡◌, refl, ap, ◌∙◌}
+use mathlib.Core.Path.{◌≡◌, refl, ap}
 use mathlib.Core.List.{List}
 use native.Mathlib.Omega.{arith}
 use lib.ListN.{length}
@@ -13,7 +13,7 @@ use Rattle.head_exprs.proofs.Sites.{site_of, Known, RoomAt, ScopeRoomAt, begun_a
 use Rattle.actions.specs.Acts.{ChangeAt}
 use Rattle.actions.proofs.Does.{second}
 use Rattle.actions.proofs.Acting.{starts}
-use Rattle.actions.proofs.Changes.{exprs_ask, argued, is_fine, fits_as, change_at, Changing, change_refused, change_ends}
+use Rattle.actions.proofs.Changes.{argued, is_fine, fits_as, change_at, Changing, change_refused, change_ends}
 use Rattle.actions.proofs.lower_change.Goals as goal
 
 -- what is known at the start, the kind 3 word read as w
@@ -29,33 +29,10 @@ overflow_add-at c =
     let at_start = let a = c.args in changing a.code a.rule.now a.scratch.now a.counters.now c.requires.under c.requires.room (omega arith) (omega arith) refl in
     omega (arith, at_start.begun)
 
-pub get-w-requires : goal.get-w-requires
-get-w-requires c =
-    let at_start = let a = c.args in changing a.code a.rule.now a.scratch.now a.counters.now c.requires.under c.requires.room (omega arith) (omega arith) refl in
-    omega (arith, at_start.begun)
-
-pub head_word-requires : goal.head_word-requires
-head_word-requires c =
-    let at_get = let a = c.args in changing a.code a.rule.now a.scratch.now a.counters.now c.requires.under c.requires.room (omega arith) (omega arith) c.get-w.ensures.is in
-    at_get.begun.tree.it.high
-
-pub overflow_add-n : goal.overflow_add-n
-overflow_add-n c =
-    let at_get = let a = c.args in changing a.code a.rule.now a.scratch.now a.counters.now c.requires.under c.requires.room (omega arith) (omega arith) c.get-w.ensures.is in
-    let counted = ap (λ (i : ℕ). i + c.args.more) (count_says c.head_word.ensures) in
-    omega (arith, at_get.few, counted)
-
 pub overflow_add-at-2 : goal.overflow_add-at-2
 overflow_add-at-2 c =
     let at_get = let a = c.args in changing a.code a.rule.now a.scratch.now a.counters.now c.requires.under c.requires.room (omega arith) (omega arith) c.get-w.ensures.is in
     omega (arith, at_get.begun)
-
-pub lower_arguments-args-requires : goal.lower_arguments-args-requires
-lower_arguments-args-requires c =
-    let counted = ap (λ (i : ℕ). i + c.args.more) (count_says c.head_word.ensures) in
-    let at_get = let a = c.args in changing a.code a.rule.now a.scratch.now a.counters.now c.requires.under c.requires.room (omega arith) (omega arith) c.get-w.ensures.is in
-    let h = exprs_ask counted at_get.begun in
-    record { under = h.0; room = h.1 }
 
 pub returns-then-args-ne0 : goal.returns-then-args-ne0
 returns-then-args-ne0 c =
@@ -79,14 +56,6 @@ put_change-requires c =
     let at_args = let a = c.lower_arguments-args in argued counted at_get.begun (length_words_kept _ _ a.auto.scratch) (length_words_kept _ _ a.auto.counters) a.ensures in
     let at_else = is_fine at_args (omega arith) c.if-args-ne0.false in
     fits_as counted at_else.fits
-
-pub shape_of-counters : goal.shape_of-counters
-shape_of-counters c =
-    c.put_change.auto.counters ∙ c.lower_arguments-args.auto.counters
-
-pub shape_of-scratch : goal.shape_of-scratch
-shape_of-scratch c =
-    c.put_change.auto.scratch ∙ c.lower_arguments-args.auto.scratch
 
 pub returns : goal.returns
 returns c =

@@ -1,7 +1,7 @@
 -- A let: a name that is bound already is refused, and so is what its expression is refused for; else the action's words are the name and the term, and
 -- the name, put behind those let so far, is one name more of the scope. Assumes nothing.
 use Prim.Native.Nat.{ℕ, ◌+◌, ◌^◌, ◌<◌}
-use mathlib.Core.Path.{◌≡◌, refl, ◌∙◌}
+use mathlib.Core.Path.{◌≡◌, refl}
 use mathlib.Core.List.{List}
 use native.Mathlib.Omega.{arith}
 use lib.ListN.{length}
@@ -12,7 +12,7 @@ use Rattle.head_exprs.proofs.Scopes.{taken_as}
 use Rattle.head_exprs.proofs.Sites.{site_of, Known, RoomAt, ScopeRoomAt}
 use Rattle.actions.proofs.Does.{second}
 use Rattle.actions.proofs.Acting.{starts, low_at}
-use Rattle.actions.proofs.Lets.{LetThere, Letting, name_asks, expr_asks, let_twice, is_free, let_refused, let_fine, let_done}
+use Rattle.actions.proofs.Lets.{LetThere, Letting, let_twice, is_free, let_refused, let_fine, let_done}
 use Rattle.actions.proofs.lower_let.Goals as goal
 
 -- what is known at the start, the name read as v
@@ -28,16 +28,6 @@ overflow_add-at c =
     let at_start = let a = c.args in letting a.rule.now a.scratch.now a.counters.now c.requires.under c.requires.room (omega arith) (omega arith) refl in
     omega (arith, at_start.begun)
 
-pub get-name-requires : goal.get-name-requires
-get-name-requires c =
-    let at_start = let a = c.args in letting a.rule.now a.scratch.now a.counters.now c.requires.under c.requires.room (omega arith) (omega arith) refl in
-    omega (arith, at_start.begun)
-
-pub taken-requires : goal.taken-requires
-taken-requires c =
-    let at_get = let a = c.args in letting a.rule.now a.scratch.now a.counters.now c.requires.under c.requires.room (omega arith) (omega arith) c.get-name.ensures.is in
-    name_asks at_get
-
 pub returns-then-taken : goal.returns-then-taken
 returns-then-taken c =
     let at_get = let a = c.args in letting a.rule.now a.scratch.now a.counters.now c.requires.under c.requires.room (omega arith) (omega arith) c.get-name.ensures.is in
@@ -47,12 +37,6 @@ pub overflow_add-next : goal.overflow_add-next
 overflow_add-next c =
     let at_get = let a = c.args in letting a.rule.now a.scratch.now a.counters.now c.requires.under c.requires.room (omega arith) (omega arith) c.get-name.ensures.is in
     omega (arith, at_get.begun)
-
-pub lower-e-requires : goal.lower-e-requires
-lower-e-requires c =
-    let at_get = let a = c.args in letting a.rule.now a.scratch.now a.counters.now c.requires.under c.requires.room (omega arith) (omega arith) c.get-name.ensures.is in
-    let h = expr_asks at_get in
-    record { under = h.0; room = h.1 }
 
 pub returns-then-e-ne0 : goal.returns-then-e-ne0
 returns-then-e-ne0 c =
@@ -85,21 +69,6 @@ overflow_sub-e c =
     let at_lower = let e = c.lower-e in low_at at_get.begun e.ensures (length_words_kept _ _ e.auto.scratch) (length_words_kept _ _ e.auto.counters) in
     let at_else = let_fine at_free at_lower c.if-e-ne0.false in
     at_else.logged
-
-pub overflow_add-e : goal.overflow_add-e
-overflow_add-e c =
-    let at_get = let a = c.args in letting a.rule.now a.scratch.now a.counters.now c.requires.under c.requires.room (omega arith) (omega arith) c.get-name.ensures.is in
-    let at_free = is_free at_get (taken_as c.get-name.result c.taken.ensures) c.if-taken.false in
-    let at_lower = let e = c.lower-e in low_at at_get.begun e.ensures (length_words_kept _ _ e.auto.scratch) (length_words_kept _ _ e.auto.counters) in
-    let at_else = let_fine at_free at_lower c.if-e-ne0.false in
-    omega (arith, at_else)
-
-pub shape_of-counters : goal.shape_of-counters
-shape_of-counters c = c.lower-e.auto.counters
-
-pub shape_of-scratch : goal.shape_of-scratch
-shape_of-scratch c =
-    c.put.auto.s ∙ c.put_three-end.auto.buf ∙ c.lower-e.auto.scratch
 
 pub returns : goal.returns
 returns c =

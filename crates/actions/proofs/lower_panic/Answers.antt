@@ -24,14 +24,6 @@ overflow_add-at c =
     let at_start = let a = c.args in panics a.rule.now a.scratch.now a.counters.now c.requires.at_in_bounds c.requires.room (omega arith) refl in
     omega (arith, at_start)
 
-pub get-l-requires : goal.get-l-requires
-get-l-requires c = c.requires.at_in_bounds
-
-pub put_two-end-requires : goal.put_two-end-requires
-put_two-end-requires c =
-    let at_get = let a = c.args in panics a.rule.now a.scratch.now a.counters.now c.requires.at_in_bounds c.requires.room (omega arith) c.get-l.ensures.is in
-    omega (arith, at_get)
-
 pub overflow_add-at-2 : goal.overflow_add-at-2
 overflow_add-at-2 c =
     let at_get = let a = c.args in panics a.rule.now a.scratch.now a.counters.now c.requires.at_in_bounds c.requires.room (omega arith) c.get-l.ensures.is in

@@ -16,7 +16,7 @@ use Rattle.actions.specs.Acts.{NameCallAt}
 use Rattle.actions.proofs.Acting.{starts}
 use Rattle.actions.proofs.Does.{second}
 use Rattle.actions.proofs.Acting.{starts}
-use Rattle.actions.proofs.Changes.{exprs_ask, argued, is_fine, fits_as}
+use Rattle.actions.proofs.Changes.{argued, is_fine, fits_as}
 use Rattle.actions.proofs.NameSets.{third, name_call_at, Naming, args_refused, name_asks, name_refused, end_asks, set_ends}
 use Rattle.actions.proofs.set_name.Goals as goal
 
@@ -37,37 +37,15 @@ overflow_add-at c =
     let at_start = let a = c.args in naming a.rule.now a.scratch.now a.counters.now c.requires.under c.requires.room (omega arith) (omega arith) refl refl in
     omega (arith, at_start.begun)
 
-pub get-name-requires : goal.get-name-requires
-get-name-requires c =
-    let at_start = let a = c.args in naming a.rule.now a.scratch.now a.counters.now c.requires.under c.requires.room (omega arith) (omega arith) refl refl in
-    omega (arith, at_start.begun)
-
 pub overflow_add-at-2 : goal.overflow_add-at-2
 overflow_add-at-2 c =
     let at_start = let a = c.args in naming a.rule.now a.scratch.now a.counters.now c.requires.under c.requires.room (omega arith) (omega arith) refl refl in
     omega (arith, at_start.begun)
 
-pub get-w-requires : goal.get-w-requires
-get-w-requires c =
-    let at_start = let a = c.args in naming a.rule.now a.scratch.now a.counters.now c.requires.under c.requires.room (omega arith) (omega arith) refl refl in
-    omega (arith, at_start.begun)
-
-pub head_word-n-requires : goal.head_word-n-requires
-head_word-n-requires c =
-    let at_get = let a = c.args in naming a.rule.now a.scratch.now a.counters.now c.requires.under c.requires.room (omega arith) (omega arith) c.get-name.ensures.is c.get-w.ensures.is in
-    at_get.begun.tree.it.high
-
 pub overflow_add-at-3 : goal.overflow_add-at-3
 overflow_add-at-3 c =
     let at_get = let a = c.args in naming a.rule.now a.scratch.now a.counters.now c.requires.under c.requires.room (omega arith) (omega arith) c.get-name.ensures.is c.get-w.ensures.is in
     omega (arith, at_get.begun)
-
-pub lower_all-args-requires : goal.lower_all-args-requires
-lower_all-args-requires c =
-    let counted = count_says c.head_word-n.ensures in
-    let at_get = let a = c.args in naming a.rule.now a.scratch.now a.counters.now c.requires.under c.requires.room (omega arith) (omega arith) c.get-name.ensures.is c.get-w.ensures.is in
-    let h = exprs_ask counted at_get.begun in
-    record { under = h.0; room = h.1 }
 
 pub returns-then-args-ne0 : goal.returns-then-args-ne0
 returns-then-args-ne0 c =
@@ -108,14 +86,6 @@ overflow_add-at-then-may_read c =
     let at_else = is_fine at_args (omega arith) c.if-args-ne0.false in
     omega (arith, at_else)
 
-pub overflow_add-n : goal.overflow_add-n
-overflow_add-n c =
-    let counted = count_says c.head_word-n.ensures in
-    let at_get = let a = c.args in naming a.rule.now a.scratch.now a.counters.now c.requires.under c.requires.room (omega arith) (omega arith) c.get-name.ensures.is c.get-w.ensures.is in
-    let at_args = let a = c.lower_all-args in argued counted at_get.begun (length_words_kept _ _ a.auto.scratch) (length_words_kept _ _ a.auto.counters) a.ensures in
-    let at_else = is_fine at_args (omega arith) c.if-args-ne0.false in
-    omega (arith, at_else, counted)
-
 pub put_change-requires : goal.put_change-requires
 put_change-requires c =
     let counted = count_says c.head_word-n.ensures in
@@ -127,13 +97,6 @@ put_change-requires c =
     let at_put : length (words c.put.new.s) ≡ length (words c.lower_all-args.new.scratch) = length_words_kept _ _ c.put.auto.s in
     fits_as (ap (λ (i : ℕ). i + 1) counted)
     (end_asks at_get at_args at_else (reads_as c.get-name.result c.may_read.ensures) c.if-may_read.true pushed at_put)
-
-pub shape_of-counters-then-may_read : goal.shape_of-counters-then-may_read
-shape_of-counters-then-may_read c = c.put_change.auto.counters ∙ c.lower_all-args.auto.counters
-
-pub shape_of-scratch-then-may_read : goal.shape_of-scratch-then-may_read
-shape_of-scratch-then-may_read c =
-    c.put_change.auto.scratch ∙ c.put.auto.s ∙ c.lower_all-args.auto.scratch
 
 pub returns-then-may_read : goal.returns-then-may_read
 returns-then-may_read c =

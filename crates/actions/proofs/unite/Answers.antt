@@ -1,22 +1,15 @@
 -- A union that stays one: both sides are lowered, the right one from where the walk of the left one stands, and the action's words are the two terms;
 -- the first side that is refused refuses the union. Assumes nothing.
-use mathlib.Core.Path.{◌∙◌}
 use native.Mathlib.Omega.{arith}
 use Rattle.octets.proofs.Words.{length_words_kept}
 use Rattle.actions.proofs.Acting.{starts, low_at}
-use Rattle.actions.proofs.Pairs.{left_asks, left_refused, left_done, right_asks, right_low, right_refused, both_fine, union_done}
+use Rattle.actions.proofs.Pairs.{left_refused, left_done, right_asks, right_low, right_refused, both_fine, union_done}
 use Rattle.actions.proofs.unite.Goals as goal
 
 pub overflow_add-next : goal.overflow_add-next
 overflow_add-next c =
     let at_start = let a = c.args in starts a.rule.now a.scratch.now a.counters.now c.requires.under c.requires.room.0 c.requires.room.1 (omega arith) (omega arith) in
     omega (arith, at_start)
-
-pub lower-left-requires : goal.lower-left-requires
-lower-left-requires c =
-    let at_start = let a = c.args in starts a.rule.now a.scratch.now a.counters.now c.requires.under c.requires.room.0 c.requires.room.1 (omega arith) (omega arith) in
-    let h = left_asks at_start in
-    record { under = h.0; room = h.1 }
 
 pub returns-then-left-ne0 : goal.returns-then-left-ne0
 returns-then-left-ne0 c =
@@ -31,14 +24,6 @@ lower-right-requires c =
     let at_else1 = left_done at_start at_left c.if-left-ne0.false in
     let h = right_asks at_else1 in
     record { under = h.0; room = h.1 }
-
-pub shape_of-counters-then-right-ne0 : goal.shape_of-counters-then-right-ne0
-shape_of-counters-then-right-ne0 c =
-    c.lower-right.auto.counters ∙ c.lower-left.auto.counters
-
-pub shape_of-scratch-then-right-ne0 : goal.shape_of-scratch-then-right-ne0
-shape_of-scratch-then-right-ne0 c =
-    c.lower-right.auto.scratch ∙ c.lower-left.auto.scratch
 
 pub returns-then-right-ne0 : goal.returns-then-right-ne0
 returns-then-right-ne0 c =
@@ -65,23 +50,6 @@ overflow_sub-right c =
     let at_right = let r = c.lower-right in right_low at_else1 r.ensures (length_words_kept _ _ r.auto.scratch) (length_words_kept _ _ r.auto.counters) in
     let at_else2 = both_fine at_else1 at_right c.if-right-ne0.false in
     at_else2.logged
-
-pub overflow_add-right : goal.overflow_add-right
-overflow_add-right c =
-    let at_start = let a = c.args in starts a.rule.now a.scratch.now a.counters.now c.requires.under c.requires.room.0 c.requires.room.1 (omega arith) (omega arith) in
-    let at_left = let l = c.lower-left in low_at at_start l.ensures (length_words_kept _ _ l.auto.scratch) (length_words_kept _ _ l.auto.counters) in
-    let at_else1 = left_done at_start at_left c.if-left-ne0.false in
-    let at_right = let r = c.lower-right in right_low at_else1 r.ensures (length_words_kept _ _ r.auto.scratch) (length_words_kept _ _ r.auto.counters) in
-    let at_else2 = both_fine at_else1 at_right c.if-right-ne0.false in
-    omega (arith, at_else2)
-
-pub shape_of-counters : goal.shape_of-counters
-shape_of-counters c =
-    c.lower-right.auto.counters ∙ c.lower-left.auto.counters
-
-pub shape_of-scratch : goal.shape_of-scratch
-shape_of-scratch c =
-    c.put_three-end.auto.buf ∙ c.lower-right.auto.scratch ∙ c.lower-left.auto.scratch
 
 pub returns : goal.returns
 returns c =
