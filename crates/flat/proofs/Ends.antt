@@ -12,7 +12,8 @@ use Rattle.rules.specs.Words.{Code, a_let, a_set, a_delete, a_subsume, a_union, 
 use Rattle.rules.specs.Refusals.{Res, ok, refuse, ◌>>=◌}
 use Rattle.rules.specs.Signature.{Sig, heads}
 use Rattle.rules.specs.Written.{Read, Reader, read_word, read_row}
-use Rattle.rules.specs.Flat.{AtomShape, is_pair, is_odd, is_table, is_empty, is_none, is_target, is_term, atom_shape, read_term, read_atom_shape, read_atom, read_terms, read_core_code, read_core_action}
+use Rattle.rules.specs.Flat.{AtomShape, is_pair, is_odd, is_table, is_empty, is_none, is_target, is_term, atom_shape}
+use Rattle.rules.specs.Flat.{read_term, read_atom_shape, read_atom, read_terms, read_core_code, read_core_action}
 use Rattle.written.proofs.Walking.{Went, went_then, went_made, went_from, went_word, behind, went_row, Several, row}
 use Rattle.written.proofs.Expected.{went_coded}
 
