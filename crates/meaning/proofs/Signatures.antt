@@ -8,7 +8,8 @@ use mathlib.Core.Option.{Option, none, some}
 use lib.ListN.{length}
 use Rattle.rules.specs.Signature.{Sig, is_var, same_term}
 use Rattle.rules.specs.Flat.{Tab, Atom, eqn, tab}
-use Rattle.rules.specs.Canonicalize.{Replacement, replace_atom, replacement_of, or_else, first_replacement, Body, replace_step, replace_up_to, replace_all, resolve_eq, resolve, Canonical, canonicalize}
+use Rattle.rules.specs.Canonicalize.{Replacement, replace_atom, replacement_of, or_else, first_replacement, Body}
+use Rattle.rules.specs.Canonicalize.{replace_step, replace_up_to, replace_all, resolve_eq, resolve, Canonical, canonicalize}
 use Rattle.rules.specs.RemoveDupVars.{keep, merged, after_pass, remove_dup_vars, settle}
 use Rattle.meaning.specs.Signatures.{sig_of}
 
