@@ -13,7 +13,6 @@ use Rattle.head_exprs.proofs.Scopes.{reads_as}
 use Rattle.head_exprs.specs.declared.scope.Scope.{Scope}
 use Rattle.head_exprs.proofs.Sites.{site_of, Known, RoomAt, ScopeRoomAt, begun_as}
 use Rattle.actions.specs.Acts.{NameCallAt}
-use Rattle.actions.proofs.Acting.{starts}
 use Rattle.actions.proofs.Does.{second}
 use Rattle.actions.proofs.Acting.{starts}
 use Rattle.actions.proofs.Changes.{argued, is_fine, fits_as}
