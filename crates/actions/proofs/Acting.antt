@@ -4,7 +4,9 @@ use mathlib.Core.List.{List, [], ◌∷◌, ◌++◌}
 use Prim.Native.Nat.{ℕ, ◌+◌, ◌-◌, ◌*◌, ◌^◌, ◌≤◌, ◌<◌}
 use native.Mathlib.Omega.{arith}
 use lib.ListN.{length}
+use Rattle.octets.specs.Words.{words}
 use Rattle.octets.specs.Regions.{splice}
+use Rattle.octets.proofs.Words.{length_words}
 use Rattle.rules.specs.Words.{max_depth, action_word}
 use Rattle.rules.specs.Refusals.{Res, ok, refuse, ◌>>=◌}
 use Rattle.rules.specs.Signature.{Sig}
@@ -18,11 +20,20 @@ use Rattle.head_exprs.specs.Scopes.{Scoped, ScopeRoom, grown}
 use Rattle.head_exprs.specs.Lowered.{lowered}
 use Rattle.head_exprs.specs.declared.scope.Scope.{Scope}
 use Rattle.head_exprs.proofs.Scopes.{scoped_kept}
-use Rattle.head_exprs.proofs.Sites.{Site, RoomAt, ScopeRoomAt, Every, WalkedAt, Begun}
+use Rattle.head_exprs.proofs.Sites.{Site, site_of, Known, begun, RoomAt, ScopeRoomAt, Every, WalkedAt, Begun}
 use Rattle.actions.specs.Acts.{done_piece, acted_at, refused_action, Gave, Quiet, Acts}
 use Rattle.actions.specs.declared.Acted.{Acted}
 use Rattle.actions.proofs.Pieces.{silent, done_expression, SameBound, same_expression}
 use Rattle.actions.proofs.Does.{Does, second}
+
+-- ---- where an action stands
+
+-- what is known at its start, where X stands there: what its contract requires, and that the slices fit
+pub starts : (rule scratch counters : List ℕ) {at to sp lg : ℕ} {scope : Scope} {X : Sig → Type 0}
+    → (let k = site_of (words rule) (words scratch) (words counters) at to sp lg scope in
+    Known k X → RoomAt k at → ScopeRoomAt k at → length rule < 2 ^ 64 → length scratch < 2 ^ 64 → Begun k X)
+starts rule scratch counters under room scope_room rule_fits scratch_fits =
+    begun under room scope_room (omega (arith, length_words rule)) (omega (arith, length_words scratch))
 
 -- ---- from a walk to what an action leaves
 
@@ -59,6 +70,12 @@ pub record LowAt (k : Site) (p : ℕ) (s1 cs1 : List ℕ) (e : Walk) : Type 0 wh
       (λ sig x bound. WalkedAt k 1 (InAnswer k.lg e) (lowered sig bound x.value k.cs) x.size p s1 cs1 e)
   pub size : length s1 ≡ length k.s
   pub counters : length cs1 ≡ length k.cs
+
+-- so says the contract of that walk
+pub low_at : {k : Site} {X : Sig → Type 0} {p : ℕ} {s1 cs1 : List ℕ} {e : Walk} → Begun k X
+    → Every k (λ sig. ExprAt sig k.ws max_depth p) (λ sig x bound. WalkedAt k 1 (InAnswer k.lg e) (lowered sig bound x.value k.cs) x.size p s1 cs1 e)
+    → length s1 ≡ length k.s → length cs1 ≡ length k.cs → LowAt k p s1 cs1 e
+low_at g walk size counters = record { walk = walk; size = size; counters = counters }
 
 -- the walk e of what stands behind the action word is fine, and leaves s1: what writing three words behind it asks
 pub record Fine (k : Site) (s1 : List ℕ) (e : Walk) : Type 0 where

@@ -87,6 +87,9 @@ pub record LeftDone (k : Site) (s1 cs1 : List ℕ) (l : Walk) : Type 0 where
   pub low : LowAt k (k.at + 1) s1 cs1 l
   pub fine : l.refused ≡ 0
 
+pub left_done : {k : Site} {s1 cs1 : List ℕ} {l : Walk} → Begun k (Pair k) → LowAt k (k.at + 1) s1 cs1 l → l.refused ≡ 0 → LeftDone k s1 cs1 l
+left_done g low fine = record { begun = g; low = low; fine = fine }
+
 -- the site of the right side
 abbrev pub behind : Site → (s1 cs1 : List ℕ) → Walk → Site
 behind k s1 cs1 l = site_of k.ws s1 cs1 l.next l.to k.sp l.log k.scope
@@ -124,6 +127,13 @@ module _ {k : Site} {s1 cs1 : List ℕ} {l : Walk} (d : LeftDone k s1 cs1 l) whe
       )
 
   -- ---- the right side is lowered: r, with s2 and cs2 left behind
+
+  -- so says the contract of that walk
+  pub right_low : {s2 cs2 : List ℕ} {r : Walk}
+      → (let b = behind k s1 cs1 l in
+      Every b (λ sig. ExprAt sig b.ws max_depth b.at) (λ sig x bound. WalkedAt b 1 (InAnswer b.lg r) (lowered sig bound x.value b.cs) x.size b.at s2 cs2 r)
+      → length s2 ≡ length b.s → length cs2 ≡ length b.cs → LowAt b b.at s2 cs2 r)
+  right_low walk size counters = record { walk = walk; size = size; counters = counters }
 
   module _ {s2 cs2 : List ℕ} {r : Walk} (low : LowAt (behind k s1 cs1 l) l.next s2 cs2 r) where
     record Sides (p : Piece) : Type 0 where

@@ -140,6 +140,11 @@ pub record Ready {gs ws cs s : List ℕ} {n w : ℕ} {k : Begun gs ws cs s n w} 
   pub fine : b.refused ≡ 0
   pub globals : g ≡ get_or gs 1 0 - signature_base
 
+-- the word of the globals is read as v
+pub ready : {gs ws cs s : List ℕ} {n w v : ℕ} {k : Begun gs ws cs s n w} {s1 cs1 : List ℕ} {b : Walk} (f : Flattened k s1 cs1 b) → b.refused ≡ 0
+    → v ≡ get_or gs 1 0 → Ready f (v - signature_base)
+ready f fine is = record { fine = fine; globals = ap (λ (u : ℕ). u - signature_base) is }
+
 module _ {gs ws cs s : List ℕ} {n w : ℕ} {k : Begun gs ws cs s n w} {s1 cs1 : List ℕ} {b : Walk} {f : Flattened k s1 cs1 b} {g : ℕ} (y : Ready f g) where
   abbrev scope : Scope
   scope = first_scope g b.to (28 * n)

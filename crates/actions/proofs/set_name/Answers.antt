@@ -1,336 +1,108 @@
 -- A union of a name and a call that becomes a set: the name is one more term behind those of the call's arguments, so that the end of the action is that
 -- of any other with a head; it is refused where an argument, the name or the count is. Assumes nothing.
-use Prim.Native.Nat.{ℕ, ◌+◌, ◌-◌}
+use Prim.Native.Nat.{ℕ, ◌+◌, ◌^◌, ◌<◌}
 use mathlib.Core.Path.{◌≡◌, refl, ap, ◌∙◌}
+use mathlib.Core.List.{List}
 use native.Mathlib.Omega.{arith}
-use lib.ListN.{length, get_or, set}
+use lib.ListN.{length, set}
 use Rattle.octets.specs.Words.{words}
-use Rattle.octets.proofs.Words.{length_words, length_words_kept}
-use Rattle.rules.specs.Words.{max_depth, count_of}
+use Rattle.octets.proofs.Words.{length_words_kept}
+use Rattle.rules.specs.Words.{count_of}
 use Rattle.walks.proofs.Words.{count_says}
 use Rattle.head_exprs.proofs.Scopes.{reads_as}
-use Rattle.head_exprs.proofs.Sites.{Site, site_of, begun, begun_as}
+use Rattle.head_exprs.specs.declared.scope.Scope.{Scope}
+use Rattle.head_exprs.proofs.Sites.{site_of, Known, RoomAt, ScopeRoomAt, begun_as}
 use Rattle.actions.specs.Acts.{NameCallAt}
-use Rattle.actions.proofs.Changes.{exprs_ask, Argued, argued, Fine, is_fine, fits_as}
-use Rattle.actions.proofs.NameSets.{name_call_at, Naming, args_refused, name_asks, name_refused, end_asks, set_ends}
+use Rattle.actions.proofs.Does.{second}
+use Rattle.actions.proofs.Acting.{starts}
+use Rattle.actions.proofs.Changes.{argued, is_fine, fits_as}
+use Rattle.actions.proofs.NameSets.{third, name_call_at, Naming, args_refused, name_asks, name_refused, end_asks, set_ends}
 use Rattle.actions.proofs.set_name.Goals as goal
+
+-- what is known at the start, the name read as v and the call's kind 3 word as w
+naming : (rule scratch counters : List ℕ) {at to sp lg v w : ℕ} {scope : Scope}
+    → (let k = site_of (words rule) (words scratch) (words counters) at to sp lg scope in
+    Known k (λ sig. NameCallAt sig k.ws k.at) → RoomAt k at × ScopeRoomAt k at → length rule < 2 ^ 64 → length scratch < 2 ^ 64
+    → v ≡ second k → w ≡ third k → Naming k v w)
+naming rule scratch counters under room rule_fits scratch_fits isv isw =
+    record {
+      begun = begun_as (starts rule scratch counters under room.0 room.1 rule_fits scratch_fits) (λ sig x. (name_call_at isv isw sig x).call);
+      isv = isv;
+      isw = isw;
+    }
 
 pub overflow_add-at : goal.overflow_add-at
 overflow_add-at c =
-    let site : Site =
-    let a = c.args in site_of (words a.rule.now) (words a.scratch.now) (words a.counters.now) a.at a.to a.sp a.log a.scope in
-    let at_start : (v w : ℕ) → v ≡ get_or (words c.args.rule.now) (c.args.at + 1) 0 → w ≡ get_or (words c.args.rule.now) (c.args.at + 2) 0 → Naming site v w =
-    λ v w isv isw. let k = site in
-    record {
-      begun =
-          begun_as
-          (begun {X = λ sig. NameCallAt sig k.ws k.at} c.requires.under c.requires.room.0 c.requires.room.1
-          (omega (arith, length_words c.args.rule.now, c.well_formed)) (omega (arith, length_words c.args.scratch.now, c.well_formed)))
-          (λ sig x. (name_call_at isv isw sig x).call);
-      isv = isv;
-      isw = isw;
-    } in
-    omega (arith, (at_start _ _ refl refl).begun)
-
-pub get-name-requires : goal.get-name-requires
-get-name-requires c =
-    let site : Site =
-    let a = c.args in site_of (words a.rule.now) (words a.scratch.now) (words a.counters.now) a.at a.to a.sp a.log a.scope in
-    let at_start : (v w : ℕ) → v ≡ get_or (words c.args.rule.now) (c.args.at + 1) 0 → w ≡ get_or (words c.args.rule.now) (c.args.at + 2) 0 → Naming site v w =
-    λ v w isv isw. let k = site in
-    record {
-      begun =
-          begun_as
-          (begun {X = λ sig. NameCallAt sig k.ws k.at} c.requires.under c.requires.room.0 c.requires.room.1
-          (omega (arith, length_words c.args.rule.now, c.well_formed)) (omega (arith, length_words c.args.scratch.now, c.well_formed)))
-          (λ sig x. (name_call_at isv isw sig x).call);
-      isv = isv;
-      isw = isw;
-    } in
-    omega (arith, (at_start _ _ refl refl).begun)
+    let at_start = let a = c.args in naming a.rule.now a.scratch.now a.counters.now c.requires.under c.requires.room (omega arith) (omega arith) refl refl in
+    omega (arith, at_start.begun)
 
 pub overflow_add-at-2 : goal.overflow_add-at-2
 overflow_add-at-2 c =
-    let site : Site =
-    let a = c.args in site_of (words a.rule.now) (words a.scratch.now) (words a.counters.now) a.at a.to a.sp a.log a.scope in
-    let at_start : (v w : ℕ) → v ≡ get_or (words c.args.rule.now) (c.args.at + 1) 0 → w ≡ get_or (words c.args.rule.now) (c.args.at + 2) 0 → Naming site v w =
-    λ v w isv isw. let k = site in
-    record {
-      begun =
-          begun_as
-          (begun {X = λ sig. NameCallAt sig k.ws k.at} c.requires.under c.requires.room.0 c.requires.room.1
-          (omega (arith, length_words c.args.rule.now, c.well_formed)) (omega (arith, length_words c.args.scratch.now, c.well_formed)))
-          (λ sig x. (name_call_at isv isw sig x).call);
-      isv = isv;
-      isw = isw;
-    } in
-    omega (arith, (at_start _ _ refl refl).begun)
-
-pub get-w-requires : goal.get-w-requires
-get-w-requires c =
-    let site : Site =
-    let a = c.args in site_of (words a.rule.now) (words a.scratch.now) (words a.counters.now) a.at a.to a.sp a.log a.scope in
-    let at_start : (v w : ℕ) → v ≡ get_or (words c.args.rule.now) (c.args.at + 1) 0 → w ≡ get_or (words c.args.rule.now) (c.args.at + 2) 0 → Naming site v w =
-    λ v w isv isw. let k = site in
-    record {
-      begun =
-          begun_as
-          (begun {X = λ sig. NameCallAt sig k.ws k.at} c.requires.under c.requires.room.0 c.requires.room.1
-          (omega (arith, length_words c.args.rule.now, c.well_formed)) (omega (arith, length_words c.args.scratch.now, c.well_formed)))
-          (λ sig x. (name_call_at isv isw sig x).call);
-      isv = isv;
-      isw = isw;
-    } in
-    omega (arith, (at_start _ _ refl refl).begun)
-
-pub head_word-n-requires : goal.head_word-n-requires
-head_word-n-requires c =
-    let site : Site =
-    let a = c.args in site_of (words a.rule.now) (words a.scratch.now) (words a.counters.now) a.at a.to a.sp a.log a.scope in
-    let at_start : (v w : ℕ) → v ≡ get_or (words c.args.rule.now) (c.args.at + 1) 0 → w ≡ get_or (words c.args.rule.now) (c.args.at + 2) 0 → Naming site v w =
-    λ v w isv isw. let k = site in
-    record {
-      begun =
-          begun_as
-          (begun {X = λ sig. NameCallAt sig k.ws k.at} c.requires.under c.requires.room.0 c.requires.room.1
-          (omega (arith, length_words c.args.rule.now, c.well_formed)) (omega (arith, length_words c.args.scratch.now, c.well_formed)))
-          (λ sig x. (name_call_at isv isw sig x).call);
-      isv = isv;
-      isw = isw;
-    } in
-    let at_get : Naming site c.get-name.result c.get-w.result = at_start _ _ c.get-name.ensures.is c.get-w.ensures.is in
-    at_get.begun.tree.it.high
+    let at_start = let a = c.args in naming a.rule.now a.scratch.now a.counters.now c.requires.under c.requires.room (omega arith) (omega arith) refl refl in
+    omega (arith, at_start.begun)
 
 pub overflow_add-at-3 : goal.overflow_add-at-3
 overflow_add-at-3 c =
-    let site : Site =
-    let a = c.args in site_of (words a.rule.now) (words a.scratch.now) (words a.counters.now) a.at a.to a.sp a.log a.scope in
-    let at_start : (v w : ℕ) → v ≡ get_or (words c.args.rule.now) (c.args.at + 1) 0 → w ≡ get_or (words c.args.rule.now) (c.args.at + 2) 0 → Naming site v w =
-    λ v w isv isw. let k = site in
-    record {
-      begun =
-          begun_as
-          (begun {X = λ sig. NameCallAt sig k.ws k.at} c.requires.under c.requires.room.0 c.requires.room.1
-          (omega (arith, length_words c.args.rule.now, c.well_formed)) (omega (arith, length_words c.args.scratch.now, c.well_formed)))
-          (λ sig x. (name_call_at isv isw sig x).call);
-      isv = isv;
-      isw = isw;
-    } in
-    let at_get : Naming site c.get-name.result c.get-w.result = at_start _ _ c.get-name.ensures.is c.get-w.ensures.is in
+    let at_get = let a = c.args in naming a.rule.now a.scratch.now a.counters.now c.requires.under c.requires.room (omega arith) (omega arith) c.get-name.ensures.is c.get-w.ensures.is in
     omega (arith, at_get.begun)
-
-pub lower_all-args-requires : goal.lower_all-args-requires
-lower_all-args-requires c =
-    let counted : c.head_word-n.result.count ≡ count_of c.get-w.result = count_says c.head_word-n.ensures in
-    let site : Site =
-    let a = c.args in site_of (words a.rule.now) (words a.scratch.now) (words a.counters.now) a.at a.to a.sp a.log a.scope in
-    let at_start : (v w : ℕ) → v ≡ get_or (words c.args.rule.now) (c.args.at + 1) 0 → w ≡ get_or (words c.args.rule.now) (c.args.at + 2) 0 → Naming site v w =
-    λ v w isv isw. let k = site in
-    record {
-      begun =
-          begun_as
-          (begun {X = λ sig. NameCallAt sig k.ws k.at} c.requires.under c.requires.room.0 c.requires.room.1
-          (omega (arith, length_words c.args.rule.now, c.well_formed)) (omega (arith, length_words c.args.scratch.now, c.well_formed)))
-          (λ sig x. (name_call_at isv isw sig x).call);
-      isv = isv;
-      isw = isw;
-    } in
-    let at_get : Naming site c.get-name.result c.get-w.result = at_start _ _ c.get-name.ensures.is c.get-w.ensures.is in
-    let h = exprs_ask counted at_get.begun in
-    record { under = h.0; room = h.1 }
 
 pub returns-then-args-ne0 : goal.returns-then-args-ne0
 returns-then-args-ne0 c =
-    let site : Site =
-    let a = c.args in site_of (words a.rule.now) (words a.scratch.now) (words a.counters.now) a.at a.to a.sp a.log a.scope in
-    let at_start : (v w : ℕ) → v ≡ get_or (words c.args.rule.now) (c.args.at + 1) 0 → w ≡ get_or (words c.args.rule.now) (c.args.at + 2) 0 → Naming site v w =
-    λ v w isv isw. let k = site in
-    record {
-      begun =
-          begun_as
-          (begun {X = λ sig. NameCallAt sig k.ws k.at} c.requires.under c.requires.room.0 c.requires.room.1
-          (omega (arith, length_words c.args.rule.now, c.well_formed)) (omega (arith, length_words c.args.scratch.now, c.well_formed)))
-          (λ sig x. (name_call_at isv isw sig x).call);
-      isv = isv;
-      isw = isw;
-    } in
-    let at_get : Naming site c.get-name.result c.get-w.result = at_start _ _ c.get-name.ensures.is c.get-w.ensures.is in
-    let counted : c.head_word-n.result.count ≡ count_of c.get-w.result = count_says c.head_word-n.ensures in
-    let at_args : (let a = c.lower_all-args in let w = c.get-w.result in Argued site 3 (max_depth - 1) (count_of w) w (words a.new.scratch) (words a.new.counters) a.result) =
-    let a = c.lower_all-args in
-    argued counted at_get.begun (length_words_kept _ _ a.auto.scratch) (length_words_kept _ _ a.auto.counters) a.ensures in
+    let at_get = let a = c.args in naming a.rule.now a.scratch.now a.counters.now c.requires.under c.requires.room (omega arith) (omega arith) c.get-name.ensures.is c.get-w.ensures.is in
+    let counted = count_says c.head_word-n.ensures in
+    let at_args = let a = c.lower_all-args in argued counted at_get.begun (length_words_kept _ _ a.auto.scratch) (length_words_kept _ _ a.auto.counters) a.ensures in
     rw c.refused_action.ensures (args_refused at_get at_args c.if-args-ne0.true)
 
 pub may_read-requires : goal.may_read-requires
 may_read-requires c =
-    let site : Site =
-    let a = c.args in site_of (words a.rule.now) (words a.scratch.now) (words a.counters.now) a.at a.to a.sp a.log a.scope in
-    let at_start : (v w : ℕ) → v ≡ get_or (words c.args.rule.now) (c.args.at + 1) 0 → w ≡ get_or (words c.args.rule.now) (c.args.at + 2) 0 → Naming site v w =
-    λ v w isv isw. let k = site in
-    record {
-      begun =
-          begun_as
-          (begun {X = λ sig. NameCallAt sig k.ws k.at} c.requires.under c.requires.room.0 c.requires.room.1
-          (omega (arith, length_words c.args.rule.now, c.well_formed)) (omega (arith, length_words c.args.scratch.now, c.well_formed)))
-          (λ sig x. (name_call_at isv isw sig x).call);
-      isv = isv;
-      isw = isw;
-    } in
-    let at_get : Naming site c.get-name.result c.get-w.result = at_start _ _ c.get-name.ensures.is c.get-w.ensures.is in
-    let counted : c.head_word-n.result.count ≡ count_of c.get-w.result = count_says c.head_word-n.ensures in
-    let at_args : (let a = c.lower_all-args in let w = c.get-w.result in Argued site 3 (max_depth - 1) (count_of w) w (words a.new.scratch) (words a.new.counters) a.result) =
-    let a = c.lower_all-args in
-    argued counted at_get.begun (length_words_kept _ _ a.auto.scratch) (length_words_kept _ _ a.auto.counters) a.ensures in
-    let at_else : Fine at_args = is_fine at_args (omega arith) c.if-args-ne0.false in
+    let at_get = let a = c.args in naming a.rule.now a.scratch.now a.counters.now c.requires.under c.requires.room (omega arith) (omega arith) c.get-name.ensures.is c.get-w.ensures.is in
+    let counted = count_says c.head_word-n.ensures in
+    let at_args = let a = c.lower_all-args in argued counted at_get.begun (length_words_kept _ _ a.auto.scratch) (length_words_kept _ _ a.auto.counters) a.ensures in
+    let at_else = is_fine at_args (omega arith) c.if-args-ne0.false in
     name_asks at_get at_args at_else
 
 pub overflow_add-sp : goal.overflow_add-sp
 overflow_add-sp c =
-    let site : Site =
-    let a = c.args in site_of (words a.rule.now) (words a.scratch.now) (words a.counters.now) a.at a.to a.sp a.log a.scope in
-    let counted : c.head_word-n.result.count ≡ count_of c.get-w.result = count_says c.head_word-n.ensures in
-    let at_start : (v w : ℕ) → v ≡ get_or (words c.args.rule.now) (c.args.at + 1) 0 → w ≡ get_or (words c.args.rule.now) (c.args.at + 2) 0 → Naming site v w =
-    λ v w isv isw. let k = site in
-    record {
-      begun =
-          begun_as
-          (begun {X = λ sig. NameCallAt sig k.ws k.at} c.requires.under c.requires.room.0 c.requires.room.1
-          (omega (arith, length_words c.args.rule.now, c.well_formed)) (omega (arith, length_words c.args.scratch.now, c.well_formed)))
-          (λ sig x. (name_call_at isv isw sig x).call);
-      isv = isv;
-      isw = isw;
-    } in
-    let at_get : Naming site c.get-name.result c.get-w.result = at_start _ _ c.get-name.ensures.is c.get-w.ensures.is in
-    let at_args : (let a = c.lower_all-args in let w = c.get-w.result in Argued site 3 (max_depth - 1) (count_of w) w (words a.new.scratch) (words a.new.counters) a.result) =
-    let a = c.lower_all-args in
-    argued counted at_get.begun (length_words_kept _ _ a.auto.scratch) (length_words_kept _ _ a.auto.counters) a.ensures in
-    let at_else : Fine at_args = is_fine at_args (omega arith) c.if-args-ne0.false in
+    let counted = count_says c.head_word-n.ensures in
+    let at_get = let a = c.args in naming a.rule.now a.scratch.now a.counters.now c.requires.under c.requires.room (omega arith) (omega arith) c.get-name.ensures.is c.get-w.ensures.is in
+    let at_args = let a = c.lower_all-args in argued counted at_get.begun (length_words_kept _ _ a.auto.scratch) (length_words_kept _ _ a.auto.counters) a.ensures in
+    let at_else = is_fine at_args (omega arith) c.if-args-ne0.false in
     omega (arith, at_else, counted)
 
 pub put-requires : goal.put-requires
 put-requires c =
-    let site : Site =
-    let a = c.args in site_of (words a.rule.now) (words a.scratch.now) (words a.counters.now) a.at a.to a.sp a.log a.scope in
-    let counted : c.head_word-n.result.count ≡ count_of c.get-w.result = count_says c.head_word-n.ensures in
-    let at_start : (v w : ℕ) → v ≡ get_or (words c.args.rule.now) (c.args.at + 1) 0 → w ≡ get_or (words c.args.rule.now) (c.args.at + 2) 0 → Naming site v w =
-    λ v w isv isw. let k = site in
-    record {
-      begun =
-          begun_as
-          (begun {X = λ sig. NameCallAt sig k.ws k.at} c.requires.under c.requires.room.0 c.requires.room.1
-          (omega (arith, length_words c.args.rule.now, c.well_formed)) (omega (arith, length_words c.args.scratch.now, c.well_formed)))
-          (λ sig x. (name_call_at isv isw sig x).call);
-      isv = isv;
-      isw = isw;
-    } in
-    let at_get : Naming site c.get-name.result c.get-w.result = at_start _ _ c.get-name.ensures.is c.get-w.ensures.is in
-    let at_args : (let a = c.lower_all-args in let w = c.get-w.result in Argued site 3 (max_depth - 1) (count_of w) w (words a.new.scratch) (words a.new.counters) a.result) =
-    let a = c.lower_all-args in
-    argued counted at_get.begun (length_words_kept _ _ a.auto.scratch) (length_words_kept _ _ a.auto.counters) a.ensures in
-    let at_else : Fine at_args = is_fine at_args (omega arith) c.if-args-ne0.false in
+    let counted = count_says c.head_word-n.ensures in
+    let at_get = let a = c.args in naming a.rule.now a.scratch.now a.counters.now c.requires.under c.requires.room (omega arith) (omega arith) c.get-name.ensures.is c.get-w.ensures.is in
+    let at_args = let a = c.lower_all-args in argued counted at_get.begun (length_words_kept _ _ a.auto.scratch) (length_words_kept _ _ a.auto.counters) a.ensures in
+    let at_else = is_fine at_args (omega arith) c.if-args-ne0.false in
     omega (arith, at_else, counted)
 
 pub overflow_add-at-then-may_read : goal.overflow_add-at-then-may_read
 overflow_add-at-then-may_read c =
-    let site : Site =
-    let a = c.args in site_of (words a.rule.now) (words a.scratch.now) (words a.counters.now) a.at a.to a.sp a.log a.scope in
-    let counted : c.head_word-n.result.count ≡ count_of c.get-w.result = count_says c.head_word-n.ensures in
-    let at_start : (v w : ℕ) → v ≡ get_or (words c.args.rule.now) (c.args.at + 1) 0 → w ≡ get_or (words c.args.rule.now) (c.args.at + 2) 0 → Naming site v w =
-    λ v w isv isw. let k = site in
-    record {
-      begun =
-          begun_as
-          (begun {X = λ sig. NameCallAt sig k.ws k.at} c.requires.under c.requires.room.0 c.requires.room.1
-          (omega (arith, length_words c.args.rule.now, c.well_formed)) (omega (arith, length_words c.args.scratch.now, c.well_formed)))
-          (λ sig x. (name_call_at isv isw sig x).call);
-      isv = isv;
-      isw = isw;
-    } in
-    let at_get : Naming site c.get-name.result c.get-w.result = at_start _ _ c.get-name.ensures.is c.get-w.ensures.is in
-    let at_args : (let a = c.lower_all-args in let w = c.get-w.result in Argued site 3 (max_depth - 1) (count_of w) w (words a.new.scratch) (words a.new.counters) a.result) =
-    let a = c.lower_all-args in
-    argued counted at_get.begun (length_words_kept _ _ a.auto.scratch) (length_words_kept _ _ a.auto.counters) a.ensures in
-    let at_else : Fine at_args = is_fine at_args (omega arith) c.if-args-ne0.false in
+    let counted = count_says c.head_word-n.ensures in
+    let at_get = let a = c.args in naming a.rule.now a.scratch.now a.counters.now c.requires.under c.requires.room (omega arith) (omega arith) c.get-name.ensures.is c.get-w.ensures.is in
+    let at_args = let a = c.lower_all-args in argued counted at_get.begun (length_words_kept _ _ a.auto.scratch) (length_words_kept _ _ a.auto.counters) a.ensures in
+    let at_else = is_fine at_args (omega arith) c.if-args-ne0.false in
     omega (arith, at_else)
-
-pub overflow_add-n : goal.overflow_add-n
-overflow_add-n c =
-    let site : Site =
-    let a = c.args in site_of (words a.rule.now) (words a.scratch.now) (words a.counters.now) a.at a.to a.sp a.log a.scope in
-    let counted : c.head_word-n.result.count ≡ count_of c.get-w.result = count_says c.head_word-n.ensures in
-    let at_start : (v w : ℕ) → v ≡ get_or (words c.args.rule.now) (c.args.at + 1) 0 → w ≡ get_or (words c.args.rule.now) (c.args.at + 2) 0 → Naming site v w =
-    λ v w isv isw. let k = site in
-    record {
-      begun =
-          begun_as
-          (begun {X = λ sig. NameCallAt sig k.ws k.at} c.requires.under c.requires.room.0 c.requires.room.1
-          (omega (arith, length_words c.args.rule.now, c.well_formed)) (omega (arith, length_words c.args.scratch.now, c.well_formed)))
-          (λ sig x. (name_call_at isv isw sig x).call);
-      isv = isv;
-      isw = isw;
-    } in
-    let at_get : Naming site c.get-name.result c.get-w.result = at_start _ _ c.get-name.ensures.is c.get-w.ensures.is in
-    let at_args : (let a = c.lower_all-args in let w = c.get-w.result in Argued site 3 (max_depth - 1) (count_of w) w (words a.new.scratch) (words a.new.counters) a.result) =
-    let a = c.lower_all-args in
-    argued counted at_get.begun (length_words_kept _ _ a.auto.scratch) (length_words_kept _ _ a.auto.counters) a.ensures in
-    let at_else : Fine at_args = is_fine at_args (omega arith) c.if-args-ne0.false in
-    omega (arith, at_else, counted)
 
 pub put_change-requires : goal.put_change-requires
 put_change-requires c =
-    let counted : c.head_word-n.result.count ≡ count_of c.get-w.result = count_says c.head_word-n.ensures in
-    let site : Site =
-    let a = c.args in site_of (words a.rule.now) (words a.scratch.now) (words a.counters.now) a.at a.to a.sp a.log a.scope in
-    let at_start : (v w : ℕ) → v ≡ get_or (words c.args.rule.now) (c.args.at + 1) 0 → w ≡ get_or (words c.args.rule.now) (c.args.at + 2) 0 → Naming site v w =
-    λ v w isv isw. let k = site in
-    record {
-      begun =
-          begun_as
-          (begun {X = λ sig. NameCallAt sig k.ws k.at} c.requires.under c.requires.room.0 c.requires.room.1
-          (omega (arith, length_words c.args.rule.now, c.well_formed)) (omega (arith, length_words c.args.scratch.now, c.well_formed)))
-          (λ sig x. (name_call_at isv isw sig x).call);
-      isv = isv;
-      isw = isw;
-    } in
-    let at_get : Naming site c.get-name.result c.get-w.result = at_start _ _ c.get-name.ensures.is c.get-w.ensures.is in
-    let at_args : (let a = c.lower_all-args in let w = c.get-w.result in Argued site 3 (max_depth - 1) (count_of w) w (words a.new.scratch) (words a.new.counters) a.result) =
-    let a = c.lower_all-args in
-    argued counted at_get.begun (length_words_kept _ _ a.auto.scratch) (length_words_kept _ _ a.auto.counters) a.ensures in
-    let at_else : Fine at_args = is_fine at_args (omega arith) c.if-args-ne0.false in
+    let counted = count_says c.head_word-n.ensures in
+    let at_get = let a = c.args in naming a.rule.now a.scratch.now a.counters.now c.requires.under c.requires.room (omega arith) (omega arith) c.get-name.ensures.is c.get-w.ensures.is in
+    let at_args = let a = c.lower_all-args in argued counted at_get.begun (length_words_kept _ _ a.auto.scratch) (length_words_kept _ _ a.auto.counters) a.ensures in
+    let at_else = is_fine at_args (omega arith) c.if-args-ne0.false in
     let pushed : words c.put.new.s ≡ set (words c.lower_all-args.new.scratch) (c.args.sp + count_of c.get-w.result) c.get-name.result =
     c.put.ensures ∙ ap (λ (i : ℕ). set (words c.lower_all-args.new.scratch) (c.args.sp + i) c.get-name.result) counted in
     let at_put : length (words c.put.new.s) ≡ length (words c.lower_all-args.new.scratch) = length_words_kept _ _ c.put.auto.s in
     fits_as (ap (λ (i : ℕ). i + 1) counted)
     (end_asks at_get at_args at_else (reads_as c.get-name.result c.may_read.ensures) c.if-may_read.true pushed at_put)
 
-pub shape_of-counters-then-may_read : goal.shape_of-counters-then-may_read
-shape_of-counters-then-may_read c = c.put_change.auto.counters ∙ c.lower_all-args.auto.counters
-
-pub shape_of-scratch-then-may_read : goal.shape_of-scratch-then-may_read
-shape_of-scratch-then-may_read c =
-    c.put_change.auto.scratch ∙ c.put.auto.s ∙ c.lower_all-args.auto.scratch
-
 pub returns-then-may_read : goal.returns-then-may_read
 returns-then-may_read c =
-    let site : Site =
-    let a = c.args in site_of (words a.rule.now) (words a.scratch.now) (words a.counters.now) a.at a.to a.sp a.log a.scope in
-    let at_start : (v w : ℕ) → v ≡ get_or (words c.args.rule.now) (c.args.at + 1) 0 → w ≡ get_or (words c.args.rule.now) (c.args.at + 2) 0 → Naming site v w =
-    λ v w isv isw. let k = site in
-    record {
-      begun =
-          begun_as
-          (begun {X = λ sig. NameCallAt sig k.ws k.at} c.requires.under c.requires.room.0 c.requires.room.1
-          (omega (arith, length_words c.args.rule.now, c.well_formed)) (omega (arith, length_words c.args.scratch.now, c.well_formed)))
-          (λ sig x. (name_call_at isv isw sig x).call);
-      isv = isv;
-      isw = isw;
-    } in
-    let at_get : Naming site c.get-name.result c.get-w.result = at_start _ _ c.get-name.ensures.is c.get-w.ensures.is in
-    let counted : c.head_word-n.result.count ≡ count_of c.get-w.result = count_says c.head_word-n.ensures in
-    let at_args : (let a = c.lower_all-args in let w = c.get-w.result in Argued site 3 (max_depth - 1) (count_of w) w (words a.new.scratch) (words a.new.counters) a.result) =
-    let a = c.lower_all-args in
-    argued counted at_get.begun (length_words_kept _ _ a.auto.scratch) (length_words_kept _ _ a.auto.counters) a.ensures in
-    let at_else : Fine at_args = is_fine at_args (omega arith) c.if-args-ne0.false in
+    let at_get = let a = c.args in naming a.rule.now a.scratch.now a.counters.now c.requires.under c.requires.room (omega arith) (omega arith) c.get-name.ensures.is c.get-w.ensures.is in
+    let counted = count_says c.head_word-n.ensures in
+    let at_args = let a = c.lower_all-args in argued counted at_get.begun (length_words_kept _ _ a.auto.scratch) (length_words_kept _ _ a.auto.counters) a.ensures in
+    let at_else = is_fine at_args (omega arith) c.if-args-ne0.false in
     let pushed : words c.put.new.s ≡ set (words c.lower_all-args.new.scratch) (c.args.sp + count_of c.get-w.result) c.get-name.result =
     c.put.ensures ∙ ap (λ (i : ℕ). set (words c.lower_all-args.new.scratch) (c.args.sp + i) c.get-name.result) counted in
     set_ends at_get at_args at_else (reads_as c.get-name.result c.may_read.ensures) c.if-may_read.true pushed
@@ -340,47 +112,17 @@ returns-then-may_read c =
 
 pub overflow_add-at-4 : goal.overflow_add-at-4
 overflow_add-at-4 c =
-    let site : Site =
-    let a = c.args in site_of (words a.rule.now) (words a.scratch.now) (words a.counters.now) a.at a.to a.sp a.log a.scope in
-    let counted : c.head_word-n.result.count ≡ count_of c.get-w.result = count_says c.head_word-n.ensures in
-    let at_start : (v w : ℕ) → v ≡ get_or (words c.args.rule.now) (c.args.at + 1) 0 → w ≡ get_or (words c.args.rule.now) (c.args.at + 2) 0 → Naming site v w =
-    λ v w isv isw. let k = site in
-    record {
-      begun =
-          begun_as
-          (begun {X = λ sig. NameCallAt sig k.ws k.at} c.requires.under c.requires.room.0 c.requires.room.1
-          (omega (arith, length_words c.args.rule.now, c.well_formed)) (omega (arith, length_words c.args.scratch.now, c.well_formed)))
-          (λ sig x. (name_call_at isv isw sig x).call);
-      isv = isv;
-      isw = isw;
-    } in
-    let at_get : Naming site c.get-name.result c.get-w.result = at_start _ _ c.get-name.ensures.is c.get-w.ensures.is in
-    let at_args : (let a = c.lower_all-args in let w = c.get-w.result in Argued site 3 (max_depth - 1) (count_of w) w (words a.new.scratch) (words a.new.counters) a.result) =
-    let a = c.lower_all-args in
-    argued counted at_get.begun (length_words_kept _ _ a.auto.scratch) (length_words_kept _ _ a.auto.counters) a.ensures in
-    let at_else : Fine at_args = is_fine at_args (omega arith) c.if-args-ne0.false in
+    let counted = count_says c.head_word-n.ensures in
+    let at_get = let a = c.args in naming a.rule.now a.scratch.now a.counters.now c.requires.under c.requires.room (omega arith) (omega arith) c.get-name.ensures.is c.get-w.ensures.is in
+    let at_args = let a = c.lower_all-args in argued counted at_get.begun (length_words_kept _ _ a.auto.scratch) (length_words_kept _ _ a.auto.counters) a.ensures in
+    let at_else = is_fine at_args (omega arith) c.if-args-ne0.false in
     omega (arith, at_else)
 
 pub returns : goal.returns
 returns c =
-    let site : Site =
-    let a = c.args in site_of (words a.rule.now) (words a.scratch.now) (words a.counters.now) a.at a.to a.sp a.log a.scope in
-    let at_start : (v w : ℕ) → v ≡ get_or (words c.args.rule.now) (c.args.at + 1) 0 → w ≡ get_or (words c.args.rule.now) (c.args.at + 2) 0 → Naming site v w =
-    λ v w isv isw. let k = site in
-    record {
-      begun =
-          begun_as
-          (begun {X = λ sig. NameCallAt sig k.ws k.at} c.requires.under c.requires.room.0 c.requires.room.1
-          (omega (arith, length_words c.args.rule.now, c.well_formed)) (omega (arith, length_words c.args.scratch.now, c.well_formed)))
-          (λ sig x. (name_call_at isv isw sig x).call);
-      isv = isv;
-      isw = isw;
-    } in
-    let at_get : Naming site c.get-name.result c.get-w.result = at_start _ _ c.get-name.ensures.is c.get-w.ensures.is in
-    let counted : c.head_word-n.result.count ≡ count_of c.get-w.result = count_says c.head_word-n.ensures in
-    let at_args : (let a = c.lower_all-args in let w = c.get-w.result in Argued site 3 (max_depth - 1) (count_of w) w (words a.new.scratch) (words a.new.counters) a.result) =
-    let a = c.lower_all-args in
-    argued counted at_get.begun (length_words_kept _ _ a.auto.scratch) (length_words_kept _ _ a.auto.counters) a.ensures in
-    let at_else : Fine at_args = is_fine at_args (omega arith) c.if-args-ne0.false in
+    let at_get = let a = c.args in naming a.rule.now a.scratch.now a.counters.now c.requires.under c.requires.room (omega arith) (omega arith) c.get-name.ensures.is c.get-w.ensures.is in
+    let counted = count_says c.head_word-n.ensures in
+    let at_args = let a = c.lower_all-args in argued counted at_get.begun (length_words_kept _ _ a.auto.scratch) (length_words_kept _ _ a.auto.counters) a.ensures in
+    let at_else = is_fine at_args (omega arith) c.if-args-ne0.false in
     rw (c.refused_action-2.ensures, c.stopped.ensures)
     (name_refused at_get at_args at_else (reads_as c.get-name.result c.may_read.ensures) c.if-may_read.false)

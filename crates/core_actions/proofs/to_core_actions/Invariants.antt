@@ -9,7 +9,8 @@ use Rattle.core_actions.proofs.to_core_actions.Given as goal
 abbrev pub invariant-loop-left : goal.invariant-loop-left
 invariant-loop-left l =
     (length l.counters ≡ length l.initial.counters) × (length l.scratch ≡ length l.initial.scratch)
-    × (Row (head (words l.signature) (words l.rule) (words l.initial.scratch) (words l.initial.counters) l.at l.n l.to l.log l.scope) l.left l.names l.count (words l.scratch) (words l.counters) (standing l.next l.end l.uses))
+    × (Row (head (words l.signature) (words l.rule) (words l.initial.scratch) (words l.initial.counters) l.at l.n l.to l.log l.scope)
+    l.left l.names l.count (words l.scratch) (words l.counters) (standing l.next l.end l.uses))
 
 abbrev pub decreases-loop-left : goal.decreases-loop-left
 decreases-loop-left l = l.left

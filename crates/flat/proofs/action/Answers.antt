@@ -1,12 +1,9 @@
 -- The word at the index says which code the action has, and by its code the walk is the one behind the word; any other word is refused. Assumes nothing.
 use native.Mathlib.Omega.{arith}
 use lib.Dec.{lit<}
-use Rattle.octets.specs.Words.{words}
 use Rattle.octets.proofs.Words.{length_words}
-use Rattle.rules.specs.Signature.{Sig}
-use Rattle.words.specs.declared.Word.TheVariants.{Action}
 use Rattle.written.specs.Written.{with_heads}
-use Rattle.words.proofs.WordAt.{There, there, not_kind}
+use Rattle.words.proofs.WordAt.{there, not_kind}
 use Rattle.written.proofs.Expected.{none_of}
 use Rattle.flat.proofs.Laws.{action_other, action_by, change_goes, union_goes, panic_goes, action_none}
 use borrow.Enum.Refused.{opened}
@@ -18,55 +15,38 @@ returns-in_default c = action_other (with_heads c.args.heads) (not_kind c.word_a
 
 pub overflow_add-next : goal.overflow_add-next
 overflow_add-next c =
-    let at_word : (let a = c.args in There (words a.rule.now) a.at (Action c.in-Action.code)) = there c.word_at-w.ensures c.in-Action.is (lit< tt) in
-    omega (arith, at_word.inside, length_words c.args.rule.now)
+    omega (arith, (there c.word_at-w.ensures c.in-Action.is (lit< tt)).inside, length_words c.args.rule.now)
 
 -- by its code
 pub returns-in-1 : goal.returns-in-1
 returns-in-1 c =
-    let sig : Sig = with_heads c.args.heads in
-    let at_word : (let a = c.args in There (words a.rule.now) a.at (Action c.in-Action.code)) = there c.word_at-w.ensures c.in-Action.is (lit< tt) in
-    action_by sig at_word 1 c.in-1.is c.let_action.ensures
+    action_by (with_heads c.args.heads) (there c.word_at-w.ensures c.in-Action.is (lit< tt)) 1 c.in-1.is c.let_action.ensures
 
 pub returns-in-2 : goal.returns-in-2
 returns-in-2 c =
-    let sig : Sig = with_heads c.args.heads in
-    let at_word : (let a = c.args in There (words a.rule.now) a.at (Action c.in-Action.code)) = there c.word_at-w.ensures c.in-Action.is (lit< tt) in
-    action_by sig at_word 2 c.in-2.is c.set_action.ensures
+    action_by (with_heads c.args.heads) (there c.word_at-w.ensures c.in-Action.is (lit< tt)) 2 c.in-2.is c.set_action.ensures
 
 pub returns-in-5 : goal.returns-in-5
 returns-in-5 c =
-    let sig : Sig = with_heads c.args.heads in
-    let at_word : (let a = c.args in There (words a.rule.now) a.at (Action c.in-Action.code)) = there c.word_at-w.ensures c.in-Action.is (lit< tt) in
-    union_goes sig at_word c.in-5.is c.terms.ensures
+    union_goes (with_heads c.args.heads) (there c.word_at-w.ensures c.in-Action.is (lit< tt)) c.in-5.is c.terms.ensures
 
 pub returns-in-6 : goal.returns-in-6
 returns-in-6 c =
-    let sig : Sig = with_heads c.args.heads in
-    let at_word : (let a = c.args in There (words a.rule.now) a.at (Action c.in-Action.code)) = there c.word_at-w.ensures c.in-Action.is (lit< tt) in
-    panic_goes sig at_word c.in-6.is c.literal.ensures
+    panic_goes (with_heads c.args.heads) (there c.word_at-w.ensures c.in-Action.is (lit< tt)) c.in-6.is c.literal.ensures
 
 pub returns-in-7 : goal.returns-in-7
 returns-in-7 c =
-    let sig : Sig = with_heads c.args.heads in
-    let at_word : (let a = c.args in There (words a.rule.now) a.at (Action c.in-Action.code)) = there c.word_at-w.ensures c.in-Action.is (lit< tt) in
-    action_by sig at_word 7 c.in-7.is c.call_action.ensures
+    action_by (with_heads c.args.heads) (there c.word_at-w.ensures c.in-Action.is (lit< tt)) 7 c.in-7.is c.call_action.ensures
 
 pub returns-in-3-to-4 : goal.returns-in-3-to-4
 returns-in-3-to-4 c =
-    let sig : Sig = with_heads c.args.heads in
-    let at_word : (let a = c.args in There (words a.rule.now) a.at (Action c.in-Action.code)) = there c.word_at-w.ensures c.in-Action.is (lit< tt) in
-    change_goes sig at_word (omega arith) (omega arith) c.head_terms.ensures
+    change_goes (with_heads c.args.heads) (there c.word_at-w.ensures c.in-Action.is (lit< tt)) (omega arith) (omega arith) c.head_terms.ensures
 
 -- no code is left
 pub returns-in_default-code : goal.returns-in_default-code
 returns-in_default-code c =
-    let sig : Sig = with_heads c.args.heads in
-    let at_word : (let a = c.args in There (words a.rule.now) a.at (Action c.in-Action.code)) = there c.word_at-w.ensures c.in-Action.is (lit< tt) in
-    action_none sig at_word (none_of c.in_default-code.in_default-own.rest (λ e. omega arith) (λ e. omega arith))
+    action_none (with_heads c.args.heads) (there c.word_at-w.ensures c.in-Action.is (lit< tt)) (none_of c.in_default-code.in_default-own.rest (λ e. omega arith) (λ e. omega arith))
 
 pub returns-in_default-code-2 : goal.returns-in_default-code-2
 returns-in_default-code-2 c =
-    let sig : Sig = with_heads c.args.heads in
-    let at_word : (let a = c.args in There (words a.rule.now) a.at (Action c.in-Action.code)) = there c.word_at-w.ensures c.in-Action.is (lit< tt) in
-    action_none sig at_word (none_of c.in_default-code.in_default-own.rest (λ e. omega arith) (λ e. omega arith))
+    action_none (with_heads c.args.heads) (there c.word_at-w.ensures c.in-Action.is (lit< tt)) (none_of c.in_default-code.in_default-own.rest (λ e. omega arith) (λ e. omega arith))

@@ -1,13 +1,9 @@
 -- The word at the index says which code the action has, and by its code the walk is the one behind the word; any other word is refused. Assumes nothing.
 use native.Mathlib.Omega.{arith}
 use lib.Dec.{lit<}
-use Rattle.octets.specs.Words.{words}
 use Rattle.octets.proofs.Words.{length_words}
-use Rattle.rules.specs.Signature.{Sig}
-use Rattle.words.proofs.Ranges.{past}
-use Rattle.words.specs.declared.Word.TheVariants.{Action}
 use Rattle.written.specs.Written.{with_heads}
-use Rattle.words.proofs.WordAt.{There, there, not_kind}
+use Rattle.words.proofs.WordAt.{there, not_kind}
 use Rattle.written.proofs.Expected.{none_of}
 use Rattle.written.proofs.Laws.{action_other, action_by, union_goes, expression_goes, change_goes, action_none}
 use borrow.Enum.Refused.{opened}
@@ -17,84 +13,44 @@ use Rattle.written.proofs.action.Goals as goal
 pub returns-in_default : goal.returns-in_default
 returns-in_default c = action_other (with_heads c.args.heads) (not_kind c.word_at-w.ensures 6 tt (opened c.in_default.in_default-own.keys2))
 
-pub let_action-requires : goal.let_action-requires
-let_action-requires c =
-    let at_word : (let a = c.args in There (words a.rule.now) a.at (Action c.in-Action.code)) = there c.word_at-w.ensures c.in-Action.is (lit< tt) in
-    at_word.inside
-
-pub set_action-requires : goal.set_action-requires
-set_action-requires c =
-    let at_word : (let a = c.args in There (words a.rule.now) a.at (Action c.in-Action.code)) = there c.word_at-w.ensures c.in-Action.is (lit< tt) in
-    at_word.inside
-
-pub pair-requires : goal.pair-requires
-pair-requires c =
-    let at_word : (let a = c.args in There (words a.rule.now) a.at (Action c.in-Action.code)) = there c.word_at-w.ensures c.in-Action.is (lit< tt) in
-    at_word.inside
-
-pub panic_action-requires : goal.panic_action-requires
-panic_action-requires c =
-    let at_word : (let a = c.args in There (words a.rule.now) a.at (Action c.in-Action.code)) = there c.word_at-w.ensures c.in-Action.is (lit< tt) in
-    at_word.inside
-
 pub overflow_add-at : goal.overflow_add-at
 overflow_add-at c =
-    let at_word : (let a = c.args in There (words a.rule.now) a.at (Action c.in-Action.code)) = there c.word_at-w.ensures c.in-Action.is (lit< tt) in
-    omega (arith, at_word.inside, length_words c.args.rule.now)
+    omega (arith, (there c.word_at-w.ensures c.in-Action.is (lit< tt)).inside, length_words c.args.rule.now)
 
 pub overflow_add-at-in-3-to-4 : goal.overflow_add-at-in-3-to-4
 overflow_add-at-in-3-to-4 c =
-    let at_word : (let a = c.args in There (words a.rule.now) a.at (Action c.in-Action.code)) = there c.word_at-w.ensures c.in-Action.is (lit< tt) in
-    omega (arith, at_word.inside, length_words c.args.rule.now)
+    omega (arith, (there c.word_at-w.ensures c.in-Action.is (lit< tt)).inside, length_words c.args.rule.now)
 
 -- by its code
 pub returns-in-1 : goal.returns-in-1
 returns-in-1 c =
-    let sig : Sig = with_heads c.args.heads in
-    let at_word : (let a = c.args in There (words a.rule.now) a.at (Action c.in-Action.code)) = there c.word_at-w.ensures c.in-Action.is (lit< tt) in
-    action_by sig at_word 1 c.in-1.is c.let_action.ensures
+    action_by (with_heads c.args.heads) (there c.word_at-w.ensures c.in-Action.is (lit< tt)) 1 c.in-1.is c.let_action.ensures
 
 pub returns-in-2 : goal.returns-in-2
 returns-in-2 c =
-    let sig : Sig = with_heads c.args.heads in
-    let at_word : (let a = c.args in There (words a.rule.now) a.at (Action c.in-Action.code)) = there c.word_at-w.ensures c.in-Action.is (lit< tt) in
-    action_by sig at_word 2 c.in-2.is c.set_action.ensures
+    action_by (with_heads c.args.heads) (there c.word_at-w.ensures c.in-Action.is (lit< tt)) 2 c.in-2.is c.set_action.ensures
 
 pub returns-in-5 : goal.returns-in-5
 returns-in-5 c =
-    let sig : Sig = with_heads c.args.heads in
-    let at_word : (let a = c.args in There (words a.rule.now) a.at (Action c.in-Action.code)) = there c.word_at-w.ensures c.in-Action.is (lit< tt) in
-    union_goes sig at_word c.in-5.is c.pair.ensures
+    union_goes (with_heads c.args.heads) (there c.word_at-w.ensures c.in-Action.is (lit< tt)) c.in-5.is c.pair.ensures
 
 pub returns-in-6 : goal.returns-in-6
 returns-in-6 c =
-    let sig : Sig = with_heads c.args.heads in
-    let at_word : (let a = c.args in There (words a.rule.now) a.at (Action c.in-Action.code)) = there c.word_at-w.ensures c.in-Action.is (lit< tt) in
-    action_by sig at_word 6 c.in-6.is c.panic_action.ensures
+    action_by (with_heads c.args.heads) (there c.word_at-w.ensures c.in-Action.is (lit< tt)) 6 c.in-6.is c.panic_action.ensures
 
 pub returns-in-8 : goal.returns-in-8
 returns-in-8 c =
-    let sig : Sig = with_heads c.args.heads in
-    let at_word : (let a = c.args in There (words a.rule.now) a.at (Action c.in-Action.code)) = there c.word_at-w.ensures c.in-Action.is (lit< tt) in
-    expression_goes sig at_word c.in-8.is c.outermost.ensures
+    expression_goes (with_heads c.args.heads) (there c.word_at-w.ensures c.in-Action.is (lit< tt)) c.in-8.is c.outermost.ensures
 
 pub returns-in-3-to-4 : goal.returns-in-3-to-4
 returns-in-3-to-4 c =
-    let sig : Sig = with_heads c.args.heads in
-    let at_word : (let a = c.args in There (words a.rule.now) a.at (Action c.in-Action.code)) = there c.word_at-w.ensures c.in-Action.is (lit< tt) in
-    let r = c.in-3-to-4.in_default-own.rest in
-    let from = past (past c.in-3-to-4.if-code-lt1-own.false r.0.0.0.0.1) r.0.0.0.1 in
-    change_goes sig at_word from c.in-3-to-4.if-code-lt5-own.true c.target.ensures
+    change_goes (with_heads c.args.heads) (there c.word_at-w.ensures c.in-Action.is (lit< tt)) (omega arith) (omega arith) c.target.ensures
 
 -- no code is left
 pub returns-in_default-code : goal.returns-in_default-code
 returns-in_default-code c =
-    let sig : Sig = with_heads c.args.heads in
-    let at_word : (let a = c.args in There (words a.rule.now) a.at (Action c.in-Action.code)) = there c.word_at-w.ensures c.in-Action.is (lit< tt) in
-    action_none sig at_word (none_of c.in_default-code.in_default-own.rest (λ e. omega arith) (λ e. omega arith))
+    action_none (with_heads c.args.heads) (there c.word_at-w.ensures c.in-Action.is (lit< tt)) (none_of c.in_default-code.in_default-own.rest (λ e. omega arith) (λ e. omega arith))
 
 pub returns-in_default-code-2 : goal.returns-in_default-code-2
 returns-in_default-code-2 c =
-    let sig : Sig = with_heads c.args.heads in
-    let at_word : (let a = c.args in There (words a.rule.now) a.at (Action c.in-Action.code)) = there c.word_at-w.ensures c.in-Action.is (lit< tt) in
-    action_none sig at_word (none_of c.in_default-code.in_default-own.rest (λ e. omega arith) (λ e. omega arith))
+    action_none (with_heads c.args.heads) (there c.word_at-w.ensures c.in-Action.is (lit< tt)) (none_of c.in_default-code.in_default-own.rest (λ e. omega arith) (λ e. omega arith))
