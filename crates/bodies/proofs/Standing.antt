@@ -362,3 +362,7 @@ module _ (t : Tab) (l : List ℕ) (p : ℕ) (f : EncodableTab t) (s : At (tab_wo
       let rest : List ℕ = drop n (drop p l) in
       let d : drop p l ≡ tab_words t ++ rest = sym (take-append-drop n (drop p l)) ∙ ap (λ (x : List ℕ). x ++ rest) s.words in
       ap₂ tab_from (at_first s) (after_first l p (head_word t.head (suc (length t.ins))) ((t.ins ++ t.out ∷ []) ++ rest) d) ∙ tab_back t rest f b
+
+pub size_at_lem : (l : List ℕ) (p : ℕ) → size_at l p ≡ get_or l p 0 % limit16 + 1
+unfolding size_at
+size_at_lem l p = refl

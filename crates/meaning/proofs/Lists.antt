@@ -1,4 +1,9 @@
 -- Laws of lists and tests that several files share. Assumes nothing.
+use mathlib.Core.Path.{ap₂}
+use mathlib.Core.Bool.{◌&&◌}
+use lib.Dec.{eqb}
+use borrow.Author.Tests.{eqb-true, eq-eqb}
+use Rattle.rules.specs.Signature.{same_terms}
 use Prim.Native.Nat.{ℕ, ◌+◌, ◌*◌, ◌≤◌}
 use native.Mathlib.Omega.{arith}
 use mathlib.Core.Path.{◌≡◌, refl, sym, ◌∙◌, ap}
@@ -70,3 +75,14 @@ module _ {A : Type 0} (f : A → List ℕ) where
   pub length_words : (k : ℕ) → ((x : A) → k ≤ length (f x)) → (xs : List A) → k * length xs ≤ length (words_of f xs)
   length_words k h [] = omega arith
   length_words k h (x ∷ xs) = omega (arith, h x, length_words k h xs, length-append (f x) (words_of f xs))
+
+pub same_terms_lem : (xs ys : List ℕ) → same_terms xs ys ≡ true → xs ≡ ys
+same_terms_lem [] [] e = refl
+same_terms_lem [] (y ∷ ys) e = absurd (false≢true e)
+same_terms_lem (x ∷ xs) [] e = absurd (false≢true e)
+same_terms_lem (x ∷ xs) (y ∷ ys) e =
+    ap₂ ◌∷◌ (eqb-true x y (and_left (eqb x y) (same_terms xs ys) e)) (same_terms_lem xs ys (and_right (eqb x y) (same_terms xs ys) e))
+
+pub terms_same : (xs : List ℕ) → same_terms xs xs ≡ true
+terms_same [] = refl
+terms_same (x ∷ xs) = ap₂ ◌&&◌ (eq-eqb x x refl) (terms_same xs)

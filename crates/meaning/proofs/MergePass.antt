@@ -1,5 +1,7 @@
 -- What a merge pass leaves: atoms that differ in head or inputs, and equalities alone.
 -- Assumes nothing.
+use mathlib.Core.Bool.{◌||◌}
+use Rattle.meaning.proofs.Lists.{same_terms_lem}
 use Prim.Native.Nat.{suc, ◌≤◌}
 use native.Mathlib.Nat.{le_refl}
 use native.Mathlib.Omega.{arith}
@@ -101,3 +103,34 @@ clashes_same a b xs e = ap (λ (d : Bool). cond (alike a b && not d) (eqn 0 a.ou
     go : (c : Bool) → cond (c && false) (eqn 0 a.out b.out ∷ clashes a xs) (clashes a xs) ≡ clashes a xs
     go true = refl
     go false = refl
+
+pub alike_same : (a b : Tab) → alike a b ≡ true → (a.head ≡ b.head) × (a.ins ≡ b.ins)
+alike_same a b e = (
+  eqb-true a.head b.head (and_left (eqb a.head b.head) (same_terms a.ins b.ins) e),
+  same_terms_lem a.ins b.ins (and_right (eqb a.head b.head) (same_terms a.ins b.ins) e),
+)
+
+clashes_none : (a : Tab) (xs : List Tab) → All (λ (b : Tab). alike a b ≡ false) xs → clashes a xs ≡ []
+clashes_none a [] h = refl
+clashes_none a (b ∷ xs) h = clashes_unlike a b xs h.0 ∙ clashes_none a xs h.1
+
+unseen_cons : (a : Tab) (fs xs : List Tab) → All (λ (b : Tab). alike a b ≡ false) xs → All (λ (b : Tab). seen b fs ≡ false) xs
+    → All (λ (b : Tab). seen b (a ∷ fs) ≡ false) xs
+unseen_cons a fs [] h k = tt
+unseen_cons a fs (x ∷ xs) h k = (ap₂ ◌||◌ h.0 k.0, unseen_cons a fs xs h.1 k.1)
+
+apart_pass : (fs ts : List Tab) → All (λ (b : Tab). seen b fs ≡ false) ts → Apart ts → (merged fs ts ≡ []) × (keep fs ts ≡ ts)
+apart_pass fs [] u h = (refl, refl)
+apart_pass fs (a ∷ xs) u h =
+    let r = apart_pass (a ∷ fs) xs (unseen_cons a fs xs h.0 u.1) h.1 in (
+      ap (λ (c : Bool). cond c (merged fs xs) (clashes a xs ++ merged (a ∷ fs) xs)) u.0 ∙ ap₂ ◌++◌ (clashes_none a xs h.0) r.0,
+      ap (λ (c : Bool). cond c (keep fs xs) (a ∷ keep (a ∷ fs) xs)) u.0 ∙ ap (λ (l : List Tab). a ∷ l) r.1,
+    )
+
+-- another pass gives no equality, and all atoms stay
+pub apart_stays : (ts : List Tab) → Apart ts → (merged [] ts ≡ []) × (keep [] ts ≡ ts)
+apart_stays ts h = apart_pass [] ts (all_unseen ts) h
+  where
+    all_unseen : (us : List Tab) → All (λ (b : Tab). seen b [] ≡ false) us
+    all_unseen [] = tt
+    all_unseen (u ∷ us) = (refl, all_unseen us)

@@ -81,3 +81,7 @@ tabs_in_lem (t ∷ ts) = ap (λ (l : List Tab). unplaced_tab t ∷ l) (tabs_in_l
 pub tabs_back : (ts : List Tab) → All EncodableTab ts → tabs_of (words_of tab_words ts) ≡ map unplaced_tab ts
 unfolding tabs_of
 tabs_back ts f = ap (λ (l : List ℕ). tabs_in (atoms_of l)) (sym (tabs_words ts)) ∙ ap tabs_in (atoms_back (map tab ts) (tabs_encodable ts f)) ∙ tabs_in_lem ts
+
+-- bodies with the same words are the same but for their places
+pub words_tell : (xs ys : List Atom) → All Encodable xs → All Encodable ys → words_of atom_words xs ≡ words_of atom_words ys → map unplaced xs ≡ map unplaced ys
+words_tell xs ys f g e = sym (atoms_back xs f) ∙ ap atoms_of e ∙ atoms_back ys g

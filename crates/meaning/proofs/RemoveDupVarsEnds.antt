@@ -3,6 +3,8 @@
 -- A pass need not leave fewer atoms: an equality of two literals becomes a value-eq atom. Such atoms stand in front and have the output Unit, so two
 -- of them never clash. What falls with each pass is the number of atoms behind the front ones with output Unit.
 -- Assumes nothing.
+use Rattle.rules.specs.RemoveDupVars.{settle}
+use Rattle.meaning.proofs.MergePass.{apart_stays}
 use Prim.Native.Nat.{ℕ, zero, suc, ◌+◌, ◌≤◌, ◌<◌}
 use native.Mathlib.Nat.{le_refl, le_trans}
 use native.Mathlib.Decide.{dec_le}
@@ -261,3 +263,7 @@ pub passes_bounded : PassesBounded
 passes_bounded s xs =
     let c = canonicalize s xs [] in
     omega (arith, passes_count s (suc (length xs)) c.tabs c.repls 0)
+
+-- so another pass would give no equality, and all atoms would stay
+pub settled_stays : (s : Sig) (xs : List Atom) → (merged [] (settle s xs).tabs ≡ []) × (keep [] (settle s xs).tabs ≡ (settle s xs).tabs)
+settled_stays s xs = apart_stays (settle s xs).tabs (settled_apart s xs)

@@ -1,5 +1,10 @@
 -- Places change nothing in settling: what the words of a body tell settles to what the words of the settled body tell.
 -- Assumes nothing.
+use Rattle.rules.specs.Flat.{tab_words, atom_words, words_of}
+use Rattle.rules.specs.RemoveDupVars.{Settled}
+use Rattle.meaning.specs.Meaning.{All}
+use Rattle.meaning.specs.ReadBack.{Encodable, atoms_of}
+use Rattle.meaning.proofs.ReadBack.{unplaced_tabs_words, atoms_back, words_tell}
 use Prim.Native.Nat.{ℕ, zero, suc}
 use mathlib.Core.Path.{◌≡◌, refl, sym, ap, ap₂, ◌∙◌}
 use mathlib.Core.Bool.{Bool, true, false, cond, not, ◌&&◌, ◌||◌}
@@ -137,3 +142,20 @@ settle_unplaced s xs =
     let c = canonicalize s xs [] in
     ap₂ (λ (n : ℕ) (d : Canonical). remove_dup_vars s (suc n) d.tabs d.repls 0) (length-map xs unplaced) (canonicalize_unplaced s xs [])
     ∙ passes_unplaced s (suc (length xs)) c.tabs c.repls 0
+
+-- for code: settling what the words of a body tell is settling the body
+pub settle_read_back : (s : Sig) (xs : List Atom) → All Encodable xs → settle s (atoms_of (words_of atom_words xs)) ≡ unplaced_settled (settle s xs)
+settle_read_back s xs f = ap (settle s) (atoms_back xs f) ∙ settle_unplaced s xs
+
+-- in words: the same words settle to the same words, with the same replacements and passes
+pub settle_words_lem : (s : Sig) (xs ys : List Atom) → All Encodable xs → All Encodable ys → words_of atom_words xs ≡ words_of atom_words ys
+    → (words_of tab_words (settle s xs).tabs ≡ words_of tab_words (settle s ys).tabs)
+    × ((settle s xs).repls ≡ (settle s ys).repls)
+    × ((settle s xs).passes ≡ (settle s ys).passes)
+settle_words_lem s xs ys f g e =
+    let same : unplaced_settled (settle s xs) ≡ unplaced_settled (settle s ys) =
+    sym (settle_unplaced s xs) ∙ ap (settle s) (words_tell xs ys f g e) ∙ settle_unplaced s ys in (
+      sym (unplaced_tabs_words (settle s xs).tabs) ∙ ap (λ (b : Settled). words_of tab_words b.tabs) same ∙ unplaced_tabs_words (settle s ys).tabs,
+      ap (λ (b : Settled). b.repls) same,
+      ap (λ (b : Settled). b.passes) same,
+    )
