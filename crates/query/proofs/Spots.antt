@@ -17,6 +17,9 @@ pub record Spot : Type 0 where
   pub sp : ℕ
   pub lg : ℕ
 
+abbrev pub spot_of : (ws s cs : List ℕ) (at to sp lg : ℕ) → Spot
+spot_of ws s cs at to sp lg = record { ws = ws; s = s; cs = cs; at = at; to = to; sp = sp; lg = lg }
+
 -- where the walk w has come to, with s1 and cs1 left behind and the stack up to top
 abbrev pub onward : Spot → List ℕ → List ℕ → ℕ → Walk → Spot
 onward p s1 cs1 top w = record { ws = p.ws; s = s1; cs = cs1; at = w.next; to = w.to; sp = top; lg = w.log }

@@ -12,7 +12,8 @@ use Rattle.head_exprs.proofs.+lower_lower_all.Given as goal
 abbrev pub invariant-lower_all-loop-top : goal.invariant-lower_all-loop-top
 invariant-lower_all-loop-top l =
     (length l.counters ≡ length l.initial.counters) × (length l.scratch ≡ length l.initial.scratch)
-    × (Row (site_of (words l.rule) (words l.initial.scratch) (words l.initial.counters) l.at l.to l.sp l.log l.scope) l.depth l.n (l.sp + l.n - l.top) l.top (words l.scratch) (words l.counters) (standing l.next l.end l.uses))
+    × (Row (site_of (words l.rule) (words l.initial.scratch) (words l.initial.counters) l.at l.to l.sp l.log l.scope) l.depth l.n
+    (l.sp + l.n - l.top) l.top (words l.scratch) (words l.counters) (standing l.next l.end l.uses))
 
 abbrev pub decreases-lower_all-loop-top : goal.decreases-lower_all-loop-top
 decreases-lower_all-loop-top l = l.sp + l.n - l.top

@@ -1,507 +1,229 @@
 -- Flattening a call and a row of arguments: the one proof of their cycle. The depth falls at each call's arguments. What is known at a place of the
 -- code is said once, as a record of `Arguments`, `Exprs` or `Calls`, and the needs behind that place cite it. Assumes nothing.
-use Prim.Native.Nat.{◌+◌, ◌-◌, ◌^◌}
+use Prim.Native.Nat.{ℕ, ◌-◌, ◌^◌, ◌<◌}
 use mathlib.Core.Path.{◌≡◌, refl, ◌∙◌}
+use mathlib.Core.List.{List}
 use native.Mathlib.Omega.{arith}
-use lib.ListN.{length}
+use lib.ListN.{length, get_or}
 use Rattle.octets.specs.Words.{words}
 use Rattle.octets.proofs.Words.{length_words, length_words_kept}
-use Rattle.rules.specs.Words.{count_of}
-use Rattle.walks.proofs.Turns.{Turn}
+use Rattle.rules.specs.Words.{literal_base, head_of, count_of}
+use Rattle.rules.specs.Refusals.{used_up}
+use Rattle.rules.specs.ToQuery.{fresh}
+use Rattle.walks.specs.Log.{Taken}
+use Rattle.walks.specs.Steps.{stopped_at, Room, Under, Counted, ExprAt}
+use Rattle.walks.specs.declared.Walk.{Walk}
 use Rattle.walks.proofs.Words.{leaf_high, call_low, head_says, count_says}
-use Rattle.query.proofs.Spots.{Spot, Held, onward}
-use Rattle.query.proofs.Arguments.{here, row_start, row_is, row_fits, row_turn, row_known, row_done, row_stop, row_next}
-use Rattle.query.proofs.Exprs.{leaf_answer, Begun, begun, Asked, asked_as, none_left, Named}
+use Rattle.query.proofs.Spots.{Spot, spot_of, ExprAnswers, ExprsAnswers}
+use Rattle.query.proofs.Arguments.{row_start, row_is, row_fits, row_turn, row_known, row_done, row_stop, row_next}
+use Rattle.query.proofs.Exprs.{leaf_answer, Begun, begun, asked_as, none_left, Named, inner}
 use Rattle.query.proofs.Calls.{Fronted, fronted, around_room, leaves_answer, args_known, args_room, Argued, args_refused, atom_asks, call_answer}
 use Rattle.query.proofs.+flatten_all_flatten_call.Goals as goal
 
+-- ---- the row of arguments
+
 pub flatten_all-loop-top-init : goal.flatten_all-loop-top-init
-flatten_all-loop-top-init t c =
-    let all_spot : Spot =
-    let a = c.args in
-    record { ws = words a.rule.now; s = words a.scratch.now; cs = words a.counters.now; at = a.at; to = a.to; sp = a.sp; lg = a.log } in
-    let a = c.args in
-    let held : Held all_spot = record { rule = omega (arith, length_words a.rule.now, c.well_formed); scratch = omega (arith, length_words a.scratch.now, c.well_formed) } in
-    (refl, refl, row_is (omega arith) (row_start c.requires.0 c.requires.1 held))
+flatten_all-loop-top-init t c = (
+  refl,
+  refl,
+  row_is (omega arith)
+      (row_start c.requires.0 c.requires.1 (record { rule = omega (arith, length_words, c.well_formed); scratch = omega (arith, length_words, c.well_formed) })),
+)
 
 pub flatten_all-overflow_add-sp : goal.flatten_all-overflow_add-sp
 flatten_all-overflow_add-sp t c = omega (arith, row_fits c.loop-top.invariant.2)
 
 pub flatten_all-get-w-requires : goal.flatten_all-get-w-requires
 flatten_all-get-w-requires t c =
-    let all_spot : Spot =
-    let a = c.args in
-    record { ws = words a.rule.now; s = words a.scratch.now; cs = words a.counters.now; at = a.at; to = a.to; sp = a.sp; lg = a.log } in
-    let at_turn : (let p = all_spot in let l = c.loop-top in Turn p.ws c.args.depth p.at (p.sp + c.args.n - l.top) l.top p.s p.cs (words l.scratch) (words l.counters) (here l.next l.end l.uses)) =
     let l = c.loop-top in
-    row_turn l.invariant.2 (omega (arith, c.loop-top-test.true)) (length_words_kept _ _ l.invariant.0) (length_words_kept _ _ l.invariant.1) in
-    at_turn.inside
+    let turn = row_turn l.invariant.2 (omega (arith, c.loop-top-test.true)) (length_words_kept _ _ l.invariant.0) (length_words_kept _ _ l.invariant.1) in
+    turn.inside
 
-pub flatten_all-put-requires : goal.flatten_all-put-requires
-flatten_all-put-requires t c =
-    let all_spot : Spot =
-    let a = c.args in
-    record { ws = words a.rule.now; s = words a.scratch.now; cs = words a.counters.now; at = a.at; to = a.to; sp = a.sp; lg = a.log } in
-    let at_turn : (let p = all_spot in let l = c.loop-top in Turn p.ws c.args.depth p.at (p.sp + c.args.n - l.top) l.top p.s p.cs (words l.scratch) (words l.counters) (here l.next l.end l.uses)) =
-    let l = c.loop-top in
-    row_turn l.invariant.2 (omega (arith, c.loop-top-test.true)) (length_words_kept _ _ l.invariant.0) (length_words_kept _ _ l.invariant.1) in
-    omega (arith, at_turn)
-
-pub flatten_all-overflow_add-next : goal.flatten_all-overflow_add-next
-flatten_all-overflow_add-next t c =
-    let all_spot : Spot =
-    let a = c.args in
-    record { ws = words a.rule.now; s = words a.scratch.now; cs = words a.counters.now; at = a.at; to = a.to; sp = a.sp; lg = a.log } in
-    let at_turn : (let p = all_spot in let l = c.loop-top in Turn p.ws c.args.depth p.at (p.sp + c.args.n - l.top) l.top p.s p.cs (words l.scratch) (words l.counters) (here l.next l.end l.uses)) =
-    let l = c.loop-top in
-    row_turn l.invariant.2 (omega (arith, c.loop-top-test.true)) (length_words_kept _ _ l.invariant.0) (length_words_kept _ _ l.invariant.1) in
-    omega (arith, at_turn, c.loop-top.invariant.2.held)
-
-pub flatten_all-overflow_add-top : goal.flatten_all-overflow_add-top
-flatten_all-overflow_add-top t c =
-    let all_spot : Spot =
-    let a = c.args in
-    record { ws = words a.rule.now; s = words a.scratch.now; cs = words a.counters.now; at = a.at; to = a.to; sp = a.sp; lg = a.log } in
-    let at_turn : (let p = all_spot in let l = c.loop-top in Turn p.ws c.args.depth p.at (p.sp + c.args.n - l.top) l.top p.s p.cs (words l.scratch) (words l.counters) (here l.next l.end l.uses)) =
-    let l = c.loop-top in
-    row_turn l.invariant.2 (omega (arith, c.loop-top-test.true)) (length_words_kept _ _ l.invariant.0) (length_words_kept _ _ l.invariant.1) in
-    omega (arith, at_turn, c.loop-top.invariant.2.held)
-
-pub flatten_all-loop-top-smaller-then-is_leaf : goal.flatten_all-loop-top-smaller-then-is_leaf
-flatten_all-loop-top-smaller-then-is_leaf t c =
-    let all_spot : Spot =
-    let a = c.args in
-    record { ws = words a.rule.now; s = words a.scratch.now; cs = words a.counters.now; at = a.at; to = a.to; sp = a.sp; lg = a.log } in
-    let at_turn : (let p = all_spot in let l = c.loop-top in Turn p.ws c.args.depth p.at (p.sp + c.args.n - l.top) l.top p.s p.cs (words l.scratch) (words l.counters) (here l.next l.end l.uses)) =
-    let l = c.loop-top in
-    row_turn l.invariant.2 (omega (arith, c.loop-top-test.true)) (length_words_kept _ _ l.invariant.0) (length_words_kept _ _ l.invariant.1) in
-    let some = at_turn.some in omega arith
+-- a leaf
 
 pub flatten_all-loop-top-preserved-then-is_leaf : goal.flatten_all-loop-top-preserved-then-is_leaf
 flatten_all-loop-top-preserved-then-is_leaf t c =
-    let all_spot : Spot =
-    let a = c.args in
-    record { ws = words a.rule.now; s = words a.scratch.now; cs = words a.counters.now; at = a.at; to = a.to; sp = a.sp; lg = a.log } in
-    let at_turn : (let p = all_spot in let l = c.loop-top in Turn p.ws c.args.depth p.at (p.sp + c.args.n - l.top) l.top p.s p.cs (words l.scratch) (words l.counters) (here l.next l.end l.uses)) =
     let l = c.loop-top in
-    row_turn l.invariant.2 (omega (arith, c.loop-top-test.true)) (length_words_kept _ _ l.invariant.0) (length_words_kept _ _ l.invariant.1) in
-    let l = c.loop-top in
-    let p = c.put in
-    let here = onward all_spot (words l.scratch) (words l.counters) l.top (here l.next l.end l.uses) in
-    let leaf = leaf_answer here c.args.depth _ c.get-w.ensures.is (leaf_high c.is_leaf.ensures c.if-is_leaf.true) in
-    (l.invariant.0, p.auto.s ∙ l.invariant.1, row_is (omega arith) (row_next l.invariant.2 at_turn _ _ _ leaf _ refl p.ensures))
+    let turn = row_turn l.invariant.2 (omega (arith, c.loop-top-test.true)) (length_words_kept _ _ l.invariant.0) (length_words_kept _ _ l.invariant.1) in
+    let spot = spot_of (words c.args.rule.now) (words l.scratch) (words l.counters) l.next l.end l.top l.uses in
+    let leaf = leaf_answer spot c.args.depth _ c.get-w.ensures.is (leaf_high c.is_leaf.ensures c.if-is_leaf.true) in
+    (l.invariant.0, c.put.auto.s ∙ l.invariant.1, row_is (omega arith) (row_next l.invariant.2 turn _ _ _ leaf _ refl c.put.ensures))
+
+-- a call
 
 pub flatten_all-flatten_call-walk-requires : goal.flatten_all-flatten_call-walk-requires
 flatten_all-flatten_call-walk-requires t c =
-    let all_spot : Spot =
-    let a = c.args in
-    record { ws = words a.rule.now; s = words a.scratch.now; cs = words a.counters.now; at = a.at; to = a.to; sp = a.sp; lg = a.log } in
-    let at_turn : (let p = all_spot in let l = c.loop-top in Turn p.ws c.args.depth p.at (p.sp + c.args.n - l.top) l.top p.s p.cs (words l.scratch) (words l.counters) (here l.next l.end l.uses)) =
     let l = c.loop-top in
-    row_turn l.invariant.2 (omega (arith, c.loop-top-test.true)) (length_words_kept _ _ l.invariant.0) (length_words_kept _ _ l.invariant.1) in
-    let m = at_turn in
-    (omega (arith, c.decreases, m.on), (row_known c.loop-top.invariant.2 m, (m.room, (c.get-w.ensures.is, call_low c.is_leaf.ensures c.if-is_leaf.false))))
-
-pub flatten_all-shape_of-counters-then-walk-ne0 : goal.flatten_all-shape_of-counters-then-walk-ne0
-flatten_all-shape_of-counters-then-walk-ne0 t c =
-    let all_counters_kept : length c.flatten_call-walk.new.counters ≡ length c.args.counters.now =
-    c.flatten_call-walk.auto.counters ∙ c.loop-top.invariant.0 in
-    all_counters_kept
-
-pub flatten_all-shape_of-scratch-then-walk-ne0 : goal.flatten_all-shape_of-scratch-then-walk-ne0
-flatten_all-shape_of-scratch-then-walk-ne0 t c =
-    let all_scratch_kept : length c.flatten_call-walk.new.scratch ≡ length c.args.scratch.now =
-    c.flatten_call-walk.auto.scratch ∙ c.loop-top.invariant.1 in
-    all_scratch_kept
+    let turn = row_turn l.invariant.2 (omega (arith, c.loop-top-test.true)) (length_words_kept _ _ l.invariant.0) (length_words_kept _ _ l.invariant.1) in
+    (omega (arith, c.decreases, turn.on), (row_known l.invariant.2 turn, (turn.room, (c.get-w.ensures.is, call_low c.is_leaf.ensures c.if-is_leaf.false))))
 
 pub flatten_all-returns-then-walk-ne0 : goal.flatten_all-returns-then-walk-ne0
 flatten_all-returns-then-walk-ne0 t c =
-    let all_spot : Spot =
-    let a = c.args in
-    record { ws = words a.rule.now; s = words a.scratch.now; cs = words a.counters.now; at = a.at; to = a.to; sp = a.sp; lg = a.log } in
-    let at_turn : (let p = all_spot in let l = c.loop-top in Turn p.ws c.args.depth p.at (p.sp + c.args.n - l.top) l.top p.s p.cs (words l.scratch) (words l.counters) (here l.next l.end l.uses)) =
     let l = c.loop-top in
-    row_turn l.invariant.2 (omega (arith, c.loop-top-test.true)) (length_words_kept _ _ l.invariant.0) (length_words_kept _ _ l.invariant.1) in
-    row_stop c.loop-top.invariant.2 at_turn _ _ _ c.flatten_call-walk.ensures c.if-walk-ne0.true
+    let turn = row_turn l.invariant.2 (omega (arith, c.loop-top-test.true)) (length_words_kept _ _ l.invariant.0) (length_words_kept _ _ l.invariant.1) in
+    row_stop l.invariant.2 turn _ _ _ c.flatten_call-walk.ensures c.if-walk-ne0.true
 
 pub flatten_all-put-requires-in-loop-top : goal.flatten_all-put-requires-in-loop-top
 flatten_all-put-requires-in-loop-top t c =
-    let all_spot : Spot =
-    let a = c.args in
-    record { ws = words a.rule.now; s = words a.scratch.now; cs = words a.counters.now; at = a.at; to = a.to; sp = a.sp; lg = a.log } in
-    let at_turn : (let p = all_spot in let l = c.loop-top in Turn p.ws c.args.depth p.at (p.sp + c.args.n - l.top) l.top p.s p.cs (words l.scratch) (words l.counters) (here l.next l.end l.uses)) =
     let l = c.loop-top in
-    row_turn l.invariant.2 (omega (arith, c.loop-top-test.true)) (length_words_kept _ _ l.invariant.0) (length_words_kept _ _ l.invariant.1) in
-    let k = c.flatten_call-walk in
-    omega (arith, at_turn, length_words_kept k.new.scratch c.loop-top.scratch k.auto.scratch)
+    let turn = row_turn l.invariant.2 (omega (arith, c.loop-top-test.true)) (length_words_kept _ _ l.invariant.0) (length_words_kept _ _ l.invariant.1) in
+    omega (arith, turn.room, turn.inside, length_words_kept c.flatten_call-walk.new.scratch l.scratch c.flatten_call-walk.auto.scratch)
 
 pub flatten_all-overflow_add-top-in-loop-top : goal.flatten_all-overflow_add-top-in-loop-top
-flatten_all-overflow_add-top-in-loop-top t c =
-    let all_spot : Spot =
-    let a = c.args in
-    record { ws = words a.rule.now; s = words a.scratch.now; cs = words a.counters.now; at = a.at; to = a.to; sp = a.sp; lg = a.log } in
-    let at_turn : (let p = all_spot in let l = c.loop-top in Turn p.ws c.args.depth p.at (p.sp + c.args.n - l.top) l.top p.s p.cs (words l.scratch) (words l.counters) (here l.next l.end l.uses)) =
-    let l = c.loop-top in
-    row_turn l.invariant.2 (omega (arith, c.loop-top-test.true)) (length_words_kept _ _ l.invariant.0) (length_words_kept _ _ l.invariant.1) in
-    omega (arith, at_turn, c.loop-top.invariant.2.held)
-
-pub flatten_all-loop-top-smaller : goal.flatten_all-loop-top-smaller
-flatten_all-loop-top-smaller t c =
-    let all_spot : Spot =
-    let a = c.args in
-    record { ws = words a.rule.now; s = words a.scratch.now; cs = words a.counters.now; at = a.at; to = a.to; sp = a.sp; lg = a.log } in
-    let at_turn : (let p = all_spot in let l = c.loop-top in Turn p.ws c.args.depth p.at (p.sp + c.args.n - l.top) l.top p.s p.cs (words l.scratch) (words l.counters) (here l.next l.end l.uses)) =
-    let l = c.loop-top in
-    row_turn l.invariant.2 (omega (arith, c.loop-top-test.true)) (length_words_kept _ _ l.invariant.0) (length_words_kept _ _ l.invariant.1) in
-    let some = at_turn.some in omega arith
+flatten_all-overflow_add-top-in-loop-top t c = omega (arith, c.loop-top-test.true, row_fits c.loop-top.invariant.2)
 
 pub flatten_all-loop-top-preserved : goal.flatten_all-loop-top-preserved
 flatten_all-loop-top-preserved t c =
-    let all_spot : Spot =
-    let a = c.args in
-    record { ws = words a.rule.now; s = words a.scratch.now; cs = words a.counters.now; at = a.at; to = a.to; sp = a.sp; lg = a.log } in
-    let at_turn : (let p = all_spot in let l = c.loop-top in Turn p.ws c.args.depth p.at (p.sp + c.args.n - l.top) l.top p.s p.cs (words l.scratch) (words l.counters) (here l.next l.end l.uses)) =
     let l = c.loop-top in
-    row_turn l.invariant.2 (omega (arith, c.loop-top-test.true)) (length_words_kept _ _ l.invariant.0) (length_words_kept _ _ l.invariant.1) in
-    let all_counters_kept : length c.flatten_call-walk.new.counters ≡ length c.args.counters.now =
-    c.flatten_call-walk.auto.counters ∙ c.loop-top.invariant.0 in
-    let all_scratch_kept : length c.flatten_call-walk.new.scratch ≡ length c.args.scratch.now =
-    c.flatten_call-walk.auto.scratch ∙ c.loop-top.invariant.1 in
+    let turn = row_turn l.invariant.2 (omega (arith, c.loop-top-test.true)) (length_words_kept _ _ l.invariant.0) (length_words_kept _ _ l.invariant.1) in
+    let k = c.flatten_call-walk in
     let p = c.put-in-loop-top in
-    let row = row_next c.loop-top.invariant.2 at_turn _ _ _ c.flatten_call-walk.ensures _ c.if-walk-ne0.false p.ensures in
-    (all_counters_kept, p.auto.s ∙ all_scratch_kept, row_is (omega arith) row)
-
-pub flatten_all-shape_of-counters : goal.flatten_all-shape_of-counters
-flatten_all-shape_of-counters t c = c.loop-top.invariant.0
-
-pub flatten_all-shape_of-scratch : goal.flatten_all-shape_of-scratch
-flatten_all-shape_of-scratch t c = c.loop-top.invariant.1
+    let row = row_next l.invariant.2 turn _ _ _ k.ensures _ c.if-walk-ne0.false p.ensures in
+    (k.auto.counters ∙ l.invariant.0, p.auto.s ∙ k.auto.scratch ∙ l.invariant.1, row_is (omega arith) row)
 
 pub flatten_all-returns : goal.flatten_all-returns
 flatten_all-returns t c =
     rw c.reached.ensures (row_done c.loop-top.invariant.2 (omega (arith, c.loop-top-test.false)))
 
-pub flatten_call-head_word-call-requires : goal.flatten_call-head_word-call-requires
-flatten_call-head_word-call-requires t c =
-    let spot : Spot =
-    let a = c.args in
-    record { ws = words a.rule.now; s = words a.scratch.now; cs = words a.counters.now; at = a.at; to = a.to; sp = a.sp; lg = a.log } in
-    let at_start : Begun spot c.args.depth c.args.w =
-    let a = c.args in
-    let held : Held spot = record { rule = omega (arith, length_words a.rule.now, c.well_formed); scratch = omega (arith, length_words a.scratch.now, c.well_formed) } in
-    begun c.requires.under c.requires.room held c.requires.w_value.0 c.requires.w_value.1 in
-    at_start.facts.high
+-- ---- a call: its head word
 
-pub flatten_call-take-v-requires : goal.flatten_call-take-v-requires
-flatten_call-take-v-requires t c =
-    let spot : Spot =
-    let a = c.args in
-    record { ws = words a.rule.now; s = words a.scratch.now; cs = words a.counters.now; at = a.at; to = a.to; sp = a.sp; lg = a.log } in
-    let at_start : Begun spot c.args.depth c.args.w =
-    let a = c.args in
-    let held : Held spot = record { rule = omega (arith, length_words a.rule.now, c.well_formed); scratch = omega (arith, length_words a.scratch.now, c.well_formed) } in
-    begun c.requires.under c.requires.room held c.requires.w_value.0 c.requires.w_value.1 in
-    let b = at_start in
-    rw (head_says c.head_word-call.ensures) (b.facts.small, b.facts.low, b.log)
+-- what is asked of the call says what is known where it starts
+call_begun : {ws cs : List ℕ} (s : List ℕ) {d at to sp lg w : ℕ} → Under (λ sig. ExprAt sig ws d at × Counted sig cs) → Room (length ws) at to sp lg (length s)
+    → length ws < 2 ^ 64 → length s < 2 ^ 64 → (w ≡ get_or ws at 0) × (w < literal_base) → Begun (spot_of ws s cs at to sp lg) d w
+call_begun s q room rule scratch word = begun q room (record { rule = rule; scratch = scratch }) word.0 word.1
+
+-- there is no variable left for it
+none_taken : {p : Spot} {d w : ℕ} (g : Begun p d w) {v h : ℕ} (s1 cs1 : List ℕ) → h ≡ head_of w → ((a : ℕ) → Taken (fresh a h p.cs) a p.lg p.s p.cs s1 cs1 v)
+    → v ≡ 0 → ExprAnswers p d s1 cs1 (stopped_at p.at p.lg used_up)
+none_taken {p} {d} {w} g {v} {h} s1 cs1 is asked none = none_left g (asked_as p w v h s1 cs1 is asked) none
+
+-- it has taken the variable v
+named : {p : Spot} {d w : ℕ} (g : Begun p d w) {v h : ℕ} (s1 cs1 : List ℕ) → h ≡ head_of w → ((a : ℕ) → Taken (fresh a h p.cs) a p.lg p.s p.cs s1 cs1 v)
+    → (v ≡ 0 → ⊥) → length cs1 ≡ length p.cs → length s1 ≡ length p.s → Named g v s1 cs1
+named {p} {d} {w} g {v} {h} s1 cs1 is asked some counters scratch =
+    record { asked = asked_as p w v h s1 cs1 is asked; some = some; counters = counters; scratch = scratch }
+
+-- all its arguments are walked
+all_walked : {p : Spot} {d w : ℕ} {g : Begun p d w} {v : ℕ} {s1 cs1 : List ℕ} {o : Named g v s1 cs1} {k : ℕ} {sl : List ℕ} (f : Fronted o k sl)
+    {n : ℕ} {s2 cs2 : List ℕ} {a : Walk} → n ≡ count_of w → ExprsAnswers (inner o sl) (d - 1) n s2 cs2 a → length s2 ≡ length sl → Argued f n s2 cs2 a
+all_walked f count walk scratch = record { count = count; walk = walk; scratch = scratch }
 
 pub flatten_call-returns-then-v-eq0 : goal.flatten_call-returns-then-v-eq0
 flatten_call-returns-then-v-eq0 t c =
-    let spot : Spot =
-    let a = c.args in
-    record { ws = words a.rule.now; s = words a.scratch.now; cs = words a.counters.now; at = a.at; to = a.to; sp = a.sp; lg = a.log } in
-    let at_start : Begun spot c.args.depth c.args.w =
-    let a = c.args in
-    let held : Held spot = record { rule = omega (arith, length_words a.rule.now, c.well_formed); scratch = omega (arith, length_words a.scratch.now, c.well_formed) } in
-    begun c.requires.under c.requires.room held c.requires.w_value.0 c.requires.w_value.1 in
-    let asked : Asked spot c.args.w c.take-v.result (words c.take-v.new.scratch) (words c.take-v.new.counters) =
-    let t = c.take-v in
-    let h = c.head_word-call in
-    asked_as spot c.args.w t.result h.result.head (words t.new.scratch) (words t.new.counters) (head_says h.ensures) t.ensures in
-    rw c.stopped.ensures (none_left at_start asked c.if-v-eq0.true)
+    let q = c.requires in
+    let start = call_begun (words c.args.scratch.now) q.under q.room (omega (arith, length_words, c.well_formed)) (omega (arith, length_words, c.well_formed)) q.w_value in
+    let v = c.take-v in
+    rw c.stopped.ensures (none_taken start (words v.new.scratch) (words v.new.counters) (head_says c.head_word-call.ensures) v.ensures c.if-v-eq0.true)
 
 pub flatten_call-overflow_add-first : goal.flatten_call-overflow_add-first
 flatten_call-overflow_add-first t c =
-    let spot : Spot =
-    let a = c.args in
-    record { ws = words a.rule.now; s = words a.scratch.now; cs = words a.counters.now; at = a.at; to = a.to; sp = a.sp; lg = a.log } in
-    let at_start : Begun spot c.args.depth c.args.w =
-    let a = c.args in
-    let held : Held spot = record { rule = omega (arith, length_words a.rule.now, c.well_formed); scratch = omega (arith, length_words a.scratch.now, c.well_formed) } in
-    begun c.requires.under c.requires.room held c.requires.w_value.0 c.requires.w_value.1 in
-    omega (arith, at_start)
+    let q = c.requires in
+    let start = call_begun (words c.args.scratch.now) q.under q.room (omega (arith, length_words, c.well_formed)) (omega (arith, length_words, c.well_formed)) q.w_value in
+    omega (arith, start)
 
-pub flatten_call-overflow_add-to : goal.flatten_call-overflow_add-to
-flatten_call-overflow_add-to t c =
-    let spot : Spot =
-    let a = c.args in
-    record { ws = words a.rule.now; s = words a.scratch.now; cs = words a.counters.now; at = a.at; to = a.to; sp = a.sp; lg = a.log } in
-    let at_start : Begun spot c.args.depth c.args.w =
-    let a = c.args in
-    let held : Held spot = record { rule = omega (arith, length_words a.rule.now, c.well_formed); scratch = omega (arith, length_words a.scratch.now, c.well_formed) } in
-    begun c.requires.under c.requires.room held c.requires.w_value.0 c.requires.w_value.1 in
-    omega (arith, at_start)
+-- ---- the arguments in front
 
 pub flatten_call-leaves-k-requires : goal.flatten_call-leaves-k-requires
 flatten_call-leaves-k-requires t c =
-    let spot : Spot =
-    let a = c.args in
-    record { ws = words a.rule.now; s = words a.scratch.now; cs = words a.counters.now; at = a.at; to = a.to; sp = a.sp; lg = a.log } in
-    let at_start : Begun spot c.args.depth c.args.w =
-    let a = c.args in
-    let held : Held spot = record { rule = omega (arith, length_words a.rule.now, c.well_formed); scratch = omega (arith, length_words a.scratch.now, c.well_formed) } in
-    begun c.requires.under c.requires.room held c.requires.w_value.0 c.requires.w_value.1 in
-    let counted : c.head_word-call.result.count ≡ count_of c.args.w = count_says c.head_word-call.ensures in
-    let asked : Asked spot c.args.w c.take-v.result (words c.take-v.new.scratch) (words c.take-v.new.counters) =
-    let t = c.take-v in
-    let h = c.head_word-call in
-    asked_as spot c.args.w t.result h.result.head (words t.new.scratch) (words t.new.counters) (head_says h.ensures) t.ensures in
-    let at_named : (let v = c.take-v in Named at_start v.result (words v.new.scratch) (words v.new.counters)) =
-    let v = c.take-v in
-    record { asked = asked; some = c.if-v-eq0.false; counters = length_words_kept _ _ v.auto.counters; scratch = length_words_kept _ _ v.auto.scratch } in
-    let b = at_start.atom in
-    let e = counted in
-    (omega (arith, b.inside), omega (arith, b.words, at_named.scratch))
+    let q = c.requires in
+    let start = call_begun (words c.args.scratch.now) q.under q.room (omega (arith, length_words, c.well_formed)) (omega (arith, length_words, c.well_formed)) q.w_value in
+    let room = start.atom in
+    let count = count_says c.head_word-call.ensures in
+    (omega (arith, room.inside), omega (arith, room.words, length_words_kept c.take-v.new.scratch c.args.scratch.now c.take-v.auto.scratch))
 
-pub flatten_call-overflow_add-w : goal.flatten_call-overflow_add-w
-flatten_call-overflow_add-w t c =
-    let spot : Spot =
-    let a = c.args in
-    record { ws = words a.rule.now; s = words a.scratch.now; cs = words a.counters.now; at = a.at; to = a.to; sp = a.sp; lg = a.log } in
-    let at_start : Begun spot c.args.depth c.args.w =
-    let a = c.args in
-    let held : Held spot = record { rule = omega (arith, length_words a.rule.now, c.well_formed); scratch = omega (arith, length_words a.scratch.now, c.well_formed) } in
-    begun c.requires.under c.requires.room held c.requires.w_value.0 c.requires.w_value.1 in
-    omega (arith, at_start.low)
+-- ---- all are names or literals
 
 pub flatten_call-put_around-end-requires : goal.flatten_call-put_around-end-requires
 flatten_call-put_around-end-requires t c =
-    let spot : Spot =
-    let a = c.args in
-    record { ws = words a.rule.now; s = words a.scratch.now; cs = words a.counters.now; at = a.at; to = a.to; sp = a.sp; lg = a.log } in
-    let at_start : Begun spot c.args.depth c.args.w =
-    let a = c.args in
-    let held : Held spot = record { rule = omega (arith, length_words a.rule.now, c.well_formed); scratch = omega (arith, length_words a.scratch.now, c.well_formed) } in
-    begun c.requires.under c.requires.room held c.requires.w_value.0 c.requires.w_value.1 in
-    let asked : Asked spot c.args.w c.take-v.result (words c.take-v.new.scratch) (words c.take-v.new.counters) =
-    let t = c.take-v in
-    let h = c.head_word-call in
-    asked_as spot c.args.w t.result h.result.head (words t.new.scratch) (words t.new.counters) (head_says h.ensures) t.ensures in
-    let at_named : (let v = c.take-v in Named at_start v.result (words v.new.scratch) (words v.new.counters)) =
+    let q = c.requires in
+    let start = call_begun (words c.args.scratch.now) q.under q.room (omega (arith, length_words, c.well_formed)) (omega (arith, length_words, c.well_formed)) q.w_value in
     let v = c.take-v in
-    record { asked = asked; some = c.if-v-eq0.false; counters = length_words_kept _ _ v.auto.counters; scratch = length_words_kept _ _ v.auto.scratch } in
-    let counted : c.head_word-call.result.count ≡ count_of c.args.w = count_says c.head_word-call.ensures in
-    let at_leaves : (let l = c.leaves-k in Fronted at_named l.result (words l.new.scratch)) =
-    let l = c.leaves-k in
-    fronted at_named (2 ^ 32 - 1) counted l.ensures.0 l.ensures.1 (length_words_kept _ _ l.auto.scratch) in
-    around_room at_leaves counted
+    let own = named start (words v.new.scratch) (words v.new.counters) (head_says c.head_word-call.ensures) v.ensures c.if-v-eq0.false
+    (length_words_kept _ _ v.auto.counters) (length_words_kept _ _ v.auto.scratch) in
+    let count = count_says c.head_word-call.ensures in
+    let front = fronted {g = start} own (2 ^ 32 - 1) count c.leaves-k.ensures.0 c.leaves-k.ensures.1 (length_words_kept _ _ c.leaves-k.auto.scratch) in
+    around_room {g = start} {o = own} front count
 
 pub flatten_call-overflow_add-first-then-k-n : goal.flatten_call-overflow_add-first-then-k-n
 flatten_call-overflow_add-first-then-k-n t c =
-    let spot : Spot =
-    let a = c.args in
-    record { ws = words a.rule.now; s = words a.scratch.now; cs = words a.counters.now; at = a.at; to = a.to; sp = a.sp; lg = a.log } in
-    let at_start : Begun spot c.args.depth c.args.w =
-    let a = c.args in
-    let held : Held spot = record { rule = omega (arith, length_words a.rule.now, c.well_formed); scratch = omega (arith, length_words a.scratch.now, c.well_formed) } in
-    begun c.requires.under c.requires.room held c.requires.w_value.0 c.requires.w_value.1 in
-    let counted : c.head_word-call.result.count ≡ count_of c.args.w = count_says c.head_word-call.ensures in
-    omega (arith, at_start, c.if-k-n.true, counted)
+    let q = c.requires in
+    let start = call_begun (words c.args.scratch.now) q.under q.room (omega (arith, length_words, c.well_formed)) (omega (arith, length_words, c.well_formed)) q.w_value in
+    omega (arith, start, c.if-k-n.true, count_says c.head_word-call.ensures)
 
 pub flatten_call-overflow_add-log : goal.flatten_call-overflow_add-log
 flatten_call-overflow_add-log t c =
-    let spot : Spot =
-    let a = c.args in
-    record { ws = words a.rule.now; s = words a.scratch.now; cs = words a.counters.now; at = a.at; to = a.to; sp = a.sp; lg = a.log } in
-    let at_start : Begun spot c.args.depth c.args.w =
-    let a = c.args in
-    let held : Held spot = record { rule = omega (arith, length_words a.rule.now, c.well_formed); scratch = omega (arith, length_words a.scratch.now, c.well_formed) } in
-    begun c.requires.under c.requires.room held c.requires.w_value.0 c.requires.w_value.1 in
-    omega (arith, at_start)
-
-pub flatten_call-shape_of-counters-then-k-n : goal.flatten_call-shape_of-counters-then-k-n
-flatten_call-shape_of-counters-then-k-n t c = c.take-v.auto.counters
-
-pub flatten_call-shape_of-scratch-then-k-n : goal.flatten_call-shape_of-scratch-then-k-n
-flatten_call-shape_of-scratch-then-k-n t c =
-    let leaves_kept : length c.leaves-k.new.scratch ≡ length c.args.scratch.now = c.leaves-k.auto.scratch ∙ c.take-v.auto.scratch in
-    c.put_around-end.auto.scratch ∙ leaves_kept
+    let q = c.requires in
+    let start = call_begun (words c.args.scratch.now) q.under q.room (omega (arith, length_words, c.well_formed)) (omega (arith, length_words, c.well_formed)) q.w_value in
+    omega (arith, start)
 
 pub flatten_call-returns-then-k-n : goal.flatten_call-returns-then-k-n
 flatten_call-returns-then-k-n t c =
-    let spot : Spot =
-    let a = c.args in
-    record { ws = words a.rule.now; s = words a.scratch.now; cs = words a.counters.now; at = a.at; to = a.to; sp = a.sp; lg = a.log } in
-    let at_start : Begun spot c.args.depth c.args.w =
-    let a = c.args in
-    let held : Held spot = record { rule = omega (arith, length_words a.rule.now, c.well_formed); scratch = omega (arith, length_words a.scratch.now, c.well_formed) } in
-    begun c.requires.under c.requires.room held c.requires.w_value.0 c.requires.w_value.1 in
-    let asked : Asked spot c.args.w c.take-v.result (words c.take-v.new.scratch) (words c.take-v.new.counters) =
-    let t = c.take-v in
-    let h = c.head_word-call in
-    asked_as spot c.args.w t.result h.result.head (words t.new.scratch) (words t.new.counters) (head_says h.ensures) t.ensures in
-    let at_named : (let v = c.take-v in Named at_start v.result (words v.new.scratch) (words v.new.counters)) =
+    let q = c.requires in
+    let start = call_begun (words c.args.scratch.now) q.under q.room (omega (arith, length_words, c.well_formed)) (omega (arith, length_words, c.well_formed)) q.w_value in
     let v = c.take-v in
-    record { asked = asked; some = c.if-v-eq0.false; counters = length_words_kept _ _ v.auto.counters; scratch = length_words_kept _ _ v.auto.scratch } in
-    let counted : c.head_word-call.result.count ≡ count_of c.args.w = count_says c.head_word-call.ensures in
-    let at_leaves : (let l = c.leaves-k in Fronted at_named l.result (words l.new.scratch)) =
-    let l = c.leaves-k in
-    fronted at_named (2 ^ 32 - 1) counted l.ensures.0 l.ensures.1 (length_words_kept _ _ l.auto.scratch) in
+    let own = named start (words v.new.scratch) (words v.new.counters) (head_says c.head_word-call.ensures) v.ensures c.if-v-eq0.false
+    (length_words_kept _ _ v.auto.counters) (length_words_kept _ _ v.auto.scratch) in
+    let count = count_says c.head_word-call.ensures in
+    let front = fronted {g = start} own (2 ^ 32 - 1) count c.leaves-k.ensures.0 c.leaves-k.ensures.1 (length_words_kept _ _ c.leaves-k.auto.scratch) in
     let e = c.put_around-end.ensures in
-    rw c.reached.ensures (leaves_answer at_leaves counted _ _ c.if-k-n.true e.0 e.1)
+    rw c.reached.ensures (leaves_answer {g = start} {o = own} front count _ _ c.if-k-n.true e.0 e.1)
 
-pub flatten_call-overflow_sub-less : goal.flatten_call-overflow_sub-less
-flatten_call-overflow_sub-less t c =
-    let spot : Spot =
-    let a = c.args in
-    record { ws = words a.rule.now; s = words a.scratch.now; cs = words a.counters.now; at = a.at; to = a.to; sp = a.sp; lg = a.log } in
-    let at_start : Begun spot c.args.depth c.args.w =
-    let a = c.args in
-    let held : Held spot = record { rule = omega (arith, length_words a.rule.now, c.well_formed); scratch = omega (arith, length_words a.scratch.now, c.well_formed) } in
-    begun c.requires.under c.requires.room held c.requires.w_value.0 c.requires.w_value.1 in
-    omega (arith, at_start.facts.deep)
+-- ---- a call stands among them
 
 pub flatten_call-overflow_add-log-2 : goal.flatten_call-overflow_add-log-2
 flatten_call-overflow_add-log-2 t c =
-    let spot : Spot =
-    let a = c.args in
-    record { ws = words a.rule.now; s = words a.scratch.now; cs = words a.counters.now; at = a.at; to = a.to; sp = a.sp; lg = a.log } in
-    let at_start : Begun spot c.args.depth c.args.w =
-    let a = c.args in
-    let held : Held spot = record { rule = omega (arith, length_words a.rule.now, c.well_formed); scratch = omega (arith, length_words a.scratch.now, c.well_formed) } in
-    begun c.requires.under c.requires.room held c.requires.w_value.0 c.requires.w_value.1 in
-    omega (arith, at_start)
+    let q = c.requires in
+    let start = call_begun (words c.args.scratch.now) q.under q.room (omega (arith, length_words, c.well_formed)) (omega (arith, length_words, c.well_formed)) q.w_value in
+    omega (arith, start)
 
 pub flatten_call-flatten_all-args-requires : goal.flatten_call-flatten_all-args-requires
 flatten_call-flatten_all-args-requires t c =
-    let spot : Spot =
-    let a = c.args in
-    record { ws = words a.rule.now; s = words a.scratch.now; cs = words a.counters.now; at = a.at; to = a.to; sp = a.sp; lg = a.log } in
-    let at_start : Begun spot c.args.depth c.args.w =
-    let a = c.args in
-    let held : Held spot = record { rule = omega (arith, length_words a.rule.now, c.well_formed); scratch = omega (arith, length_words a.scratch.now, c.well_formed) } in
-    begun c.requires.under c.requires.room held c.requires.w_value.0 c.requires.w_value.1 in
-    let asked : Asked spot c.args.w c.take-v.result (words c.take-v.new.scratch) (words c.take-v.new.counters) =
-    let t = c.take-v in
-    let h = c.head_word-call in
-    asked_as spot c.args.w t.result h.result.head (words t.new.scratch) (words t.new.counters) (head_says h.ensures) t.ensures in
-    let at_named : (let v = c.take-v in Named at_start v.result (words v.new.scratch) (words v.new.counters)) =
+    let q = c.requires in
+    let start = call_begun (words c.args.scratch.now) q.under q.room (omega (arith, length_words, c.well_formed)) (omega (arith, length_words, c.well_formed)) q.w_value in
     let v = c.take-v in
-    record { asked = asked; some = c.if-v-eq0.false; counters = length_words_kept _ _ v.auto.counters; scratch = length_words_kept _ _ v.auto.scratch } in
-    let counted : c.head_word-call.result.count ≡ count_of c.args.w = count_says c.head_word-call.ensures in
-    let at_leaves : (let l = c.leaves-k in Fronted at_named l.result (words l.new.scratch)) =
-    let l = c.leaves-k in
-    fronted at_named (2 ^ 32 - 1) counted l.ensures.0 l.ensures.1 (length_words_kept _ _ l.auto.scratch) in
-    let f = at_leaves in
-    let n = counted in
-    (omega (arith, c.decreases, at_start.facts.inside, at_start.facts.deep), (args_known f n, args_room f n))
-
-pub flatten_call-shape_of-counters-then-args-ne0 : goal.flatten_call-shape_of-counters-then-args-ne0
-flatten_call-shape_of-counters-then-args-ne0 t c =
-    let call_counters_kept : length c.flatten_all-args.new.counters ≡ length c.args.counters.now =
-    c.flatten_all-args.auto.counters ∙ c.take-v.auto.counters in
-    call_counters_kept
-
-pub flatten_call-shape_of-scratch-then-args-ne0 : goal.flatten_call-shape_of-scratch-then-args-ne0
-flatten_call-shape_of-scratch-then-args-ne0 t c =
-    let leaves_kept : length c.leaves-k.new.scratch ≡ length c.args.scratch.now = c.leaves-k.auto.scratch ∙ c.take-v.auto.scratch in
-    let call_scratch_kept : length c.flatten_all-args.new.scratch ≡ length c.args.scratch.now = c.flatten_all-args.auto.scratch ∙ leaves_kept in
-    call_scratch_kept
+    let own = named start (words v.new.scratch) (words v.new.counters) (head_says c.head_word-call.ensures) v.ensures c.if-v-eq0.false
+    (length_words_kept _ _ v.auto.counters) (length_words_kept _ _ v.auto.scratch) in
+    let count = count_says c.head_word-call.ensures in
+    let front = fronted {g = start} own (2 ^ 32 - 1) count c.leaves-k.ensures.0 c.leaves-k.ensures.1 (length_words_kept _ _ c.leaves-k.auto.scratch) in
+    let f = start.facts in
+    (omega (arith, c.decreases, f.inside, f.deep), (args_known {g = start} {o = own} front count, args_room {g = start} {o = own} front count))
 
 pub flatten_call-returns-then-args-ne0 : goal.flatten_call-returns-then-args-ne0
 flatten_call-returns-then-args-ne0 t c =
-    let spot : Spot =
-    let a = c.args in
-    record { ws = words a.rule.now; s = words a.scratch.now; cs = words a.counters.now; at = a.at; to = a.to; sp = a.sp; lg = a.log } in
-    let at_start : Begun spot c.args.depth c.args.w =
-    let a = c.args in
-    let held : Held spot = record { rule = omega (arith, length_words a.rule.now, c.well_formed); scratch = omega (arith, length_words a.scratch.now, c.well_formed) } in
-    begun c.requires.under c.requires.room held c.requires.w_value.0 c.requires.w_value.1 in
-    let asked : Asked spot c.args.w c.take-v.result (words c.take-v.new.scratch) (words c.take-v.new.counters) =
-    let t = c.take-v in
-    let h = c.head_word-call in
-    asked_as spot c.args.w t.result h.result.head (words t.new.scratch) (words t.new.counters) (head_says h.ensures) t.ensures in
-    let at_named : (let v = c.take-v in Named at_start v.result (words v.new.scratch) (words v.new.counters)) =
+    let q = c.requires in
+    let start = call_begun (words c.args.scratch.now) q.under q.room (omega (arith, length_words, c.well_formed)) (omega (arith, length_words, c.well_formed)) q.w_value in
     let v = c.take-v in
-    record { asked = asked; some = c.if-v-eq0.false; counters = length_words_kept _ _ v.auto.counters; scratch = length_words_kept _ _ v.auto.scratch } in
-    let counted : c.head_word-call.result.count ≡ count_of c.args.w = count_says c.head_word-call.ensures in
-    let at_leaves : (let l = c.leaves-k in Fronted at_named l.result (words l.new.scratch)) =
-    let l = c.leaves-k in
-    fronted at_named (2 ^ 32 - 1) counted l.ensures.0 l.ensures.1 (length_words_kept _ _ l.auto.scratch) in
-    let at_args : (let k = c.flatten_all-args in Argued at_leaves c.head_word-call.result.count (words k.new.scratch) (words k.new.counters) k.result) =
+    let own = named start (words v.new.scratch) (words v.new.counters) (head_says c.head_word-call.ensures) v.ensures c.if-v-eq0.false
+    (length_words_kept _ _ v.auto.counters) (length_words_kept _ _ v.auto.scratch) in
+    let count = count_says c.head_word-call.ensures in
+    let front = fronted {g = start} own (2 ^ 32 - 1) count c.leaves-k.ensures.0 c.leaves-k.ensures.1 (length_words_kept _ _ c.leaves-k.auto.scratch) in
     let k = c.flatten_all-args in
-    record { count = counted; walk = k.ensures; scratch = length_words_kept _ _ k.auto.scratch } in
-    args_refused at_args c.if-args-ne0.true
-
-pub flatten_call-overflow_add-w-2 : goal.flatten_call-overflow_add-w-2
-flatten_call-overflow_add-w-2 t c =
-    let spot : Spot =
-    let a = c.args in
-    record { ws = words a.rule.now; s = words a.scratch.now; cs = words a.counters.now; at = a.at; to = a.to; sp = a.sp; lg = a.log } in
-    let at_start : Begun spot c.args.depth c.args.w =
-    let a = c.args in
-    let held : Held spot = record { rule = omega (arith, length_words a.rule.now, c.well_formed); scratch = omega (arith, length_words a.scratch.now, c.well_formed) } in
-    begun c.requires.under c.requires.room held c.requires.w_value.0 c.requires.w_value.1 in
-    omega (arith, at_start.low)
+    let args = all_walked {g = start} {o = own} front count k.ensures (length_words_kept _ _ k.auto.scratch) in
+    args_refused {g = start} {o = own} {f = front} args c.if-args-ne0.true
 
 pub flatten_call-put_atom-end-requires : goal.flatten_call-put_atom-end-requires
 flatten_call-put_atom-end-requires t c =
-    let spot : Spot =
-    let a = c.args in
-    record { ws = words a.rule.now; s = words a.scratch.now; cs = words a.counters.now; at = a.at; to = a.to; sp = a.sp; lg = a.log } in
-    let at_start : Begun spot c.args.depth c.args.w =
-    let a = c.args in
-    let held : Held spot = record { rule = omega (arith, length_words a.rule.now, c.well_formed); scratch = omega (arith, length_words a.scratch.now, c.well_formed) } in
-    begun c.requires.under c.requires.room held c.requires.w_value.0 c.requires.w_value.1 in
-    let asked : Asked spot c.args.w c.take-v.result (words c.take-v.new.scratch) (words c.take-v.new.counters) =
-    let t = c.take-v in
-    let h = c.head_word-call in
-    asked_as spot c.args.w t.result h.result.head (words t.new.scratch) (words t.new.counters) (head_says h.ensures) t.ensures in
-    let at_named : (let v = c.take-v in Named at_start v.result (words v.new.scratch) (words v.new.counters)) =
+    let q = c.requires in
+    let start = call_begun (words c.args.scratch.now) q.under q.room (omega (arith, length_words, c.well_formed)) (omega (arith, length_words, c.well_formed)) q.w_value in
     let v = c.take-v in
-    record { asked = asked; some = c.if-v-eq0.false; counters = length_words_kept _ _ v.auto.counters; scratch = length_words_kept _ _ v.auto.scratch } in
-    let counted : c.head_word-call.result.count ≡ count_of c.args.w = count_says c.head_word-call.ensures in
-    let at_leaves : (let l = c.leaves-k in Fronted at_named l.result (words l.new.scratch)) =
-    let l = c.leaves-k in
-    fronted at_named (2 ^ 32 - 1) counted l.ensures.0 l.ensures.1 (length_words_kept _ _ l.auto.scratch) in
-    let at_args : (let k = c.flatten_all-args in Argued at_leaves c.head_word-call.result.count (words k.new.scratch) (words k.new.counters) k.result) =
+    let own = named start (words v.new.scratch) (words v.new.counters) (head_says c.head_word-call.ensures) v.ensures c.if-v-eq0.false
+    (length_words_kept _ _ v.auto.counters) (length_words_kept _ _ v.auto.scratch) in
+    let count = count_says c.head_word-call.ensures in
+    let front = fronted {g = start} own (2 ^ 32 - 1) count c.leaves-k.ensures.0 c.leaves-k.ensures.1 (length_words_kept _ _ c.leaves-k.auto.scratch) in
     let k = c.flatten_all-args in
-    record { count = counted; walk = k.ensures; scratch = length_words_kept _ _ k.auto.scratch } in
-    atom_asks at_args c.if-args-ne0.false
-
-pub flatten_call-shape_of-counters : goal.flatten_call-shape_of-counters
-flatten_call-shape_of-counters t c =
-    let call_counters_kept : length c.flatten_all-args.new.counters ≡ length c.args.counters.now =
-    c.flatten_all-args.auto.counters ∙ c.take-v.auto.counters in
-    call_counters_kept
-
-pub flatten_call-shape_of-scratch : goal.flatten_call-shape_of-scratch
-flatten_call-shape_of-scratch t c =
-    let leaves_kept : length c.leaves-k.new.scratch ≡ length c.args.scratch.now = c.leaves-k.auto.scratch ∙ c.take-v.auto.scratch in
-    let call_scratch_kept : length c.flatten_all-args.new.scratch ≡ length c.args.scratch.now = c.flatten_all-args.auto.scratch ∙ leaves_kept in
-    c.put_atom-end.auto.buf ∙ call_scratch_kept
+    let args = all_walked {g = start} {o = own} front count k.ensures (length_words_kept _ _ k.auto.scratch) in
+    atom_asks {g = start} {o = own} {f = front} args c.if-args-ne0.false
 
 pub flatten_call-returns : goal.flatten_call-returns
 flatten_call-returns t c =
-    let spot : Spot =
-    let a = c.args in
-    record { ws = words a.rule.now; s = words a.scratch.now; cs = words a.counters.now; at = a.at; to = a.to; sp = a.sp; lg = a.log } in
-    let at_start : Begun spot c.args.depth c.args.w =
-    let a = c.args in
-    let held : Held spot = record { rule = omega (arith, length_words a.rule.now, c.well_formed); scratch = omega (arith, length_words a.scratch.now, c.well_formed) } in
-    begun c.requires.under c.requires.room held c.requires.w_value.0 c.requires.w_value.1 in
-    let asked : Asked spot c.args.w c.take-v.result (words c.take-v.new.scratch) (words c.take-v.new.counters) =
-    let t = c.take-v in
-    let h = c.head_word-call in
-    asked_as spot c.args.w t.result h.result.head (words t.new.scratch) (words t.new.counters) (head_says h.ensures) t.ensures in
-    let at_named : (let v = c.take-v in Named at_start v.result (words v.new.scratch) (words v.new.counters)) =
+    let q = c.requires in
+    let start = call_begun (words c.args.scratch.now) q.under q.room (omega (arith, length_words, c.well_formed)) (omega (arith, length_words, c.well_formed)) q.w_value in
     let v = c.take-v in
-    record { asked = asked; some = c.if-v-eq0.false; counters = length_words_kept _ _ v.auto.counters; scratch = length_words_kept _ _ v.auto.scratch } in
-    let counted : c.head_word-call.result.count ≡ count_of c.args.w = count_says c.head_word-call.ensures in
-    let at_leaves : (let l = c.leaves-k in Fronted at_named l.result (words l.new.scratch)) =
-    let l = c.leaves-k in
-    fronted at_named (2 ^ 32 - 1) counted l.ensures.0 l.ensures.1 (length_words_kept _ _ l.auto.scratch) in
-    let at_args : (let k = c.flatten_all-args in Argued at_leaves c.head_word-call.result.count (words k.new.scratch) (words k.new.counters) k.result) =
+    let own = named start (words v.new.scratch) (words v.new.counters) (head_says c.head_word-call.ensures) v.ensures c.if-v-eq0.false
+    (length_words_kept _ _ v.auto.counters) (length_words_kept _ _ v.auto.scratch) in
+    let count = count_says c.head_word-call.ensures in
+    let front = fronted {g = start} own (2 ^ 32 - 1) count c.leaves-k.ensures.0 c.leaves-k.ensures.1 (length_words_kept _ _ c.leaves-k.auto.scratch) in
     let k = c.flatten_all-args in
-    record { count = counted; walk = k.ensures; scratch = length_words_kept _ _ k.auto.scratch } in
+    let args = all_walked {g = start} {o = own} front count k.ensures (length_words_kept _ _ k.auto.scratch) in
     let e = c.put_atom-end.ensures in
-    rw c.reached-2.ensures (call_answer at_args c.if-args-ne0.false _ _ e.0 e.1)
+    rw c.reached-2.ensures (call_answer {g = start} {o = own} {f = front} args c.if-args-ne0.false _ _ e.0 e.1)

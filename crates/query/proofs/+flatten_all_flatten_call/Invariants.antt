@@ -11,7 +11,8 @@ use Rattle.query.proofs.+flatten_all_flatten_call.Given as goal
 abbrev pub invariant-flatten_all-loop-top : goal.invariant-flatten_all-loop-top
 invariant-flatten_all-loop-top l =
     let p : Spot = record { ws = words l.rule; s = words l.initial.scratch; cs = words l.initial.counters; at = l.at; to = l.to; sp = l.sp; lg = l.log } in
-    (length l.counters ≡ length l.initial.counters) × (length l.scratch ≡ length l.initial.scratch) × Row p l.depth l.n (l.sp + l.n - l.top) l.top (words l.scratch) (words l.counters) (here l.next l.end l.uses)
+    (length l.counters ≡ length l.initial.counters) × (length l.scratch ≡ length l.initial.scratch)
+    × Row p l.depth l.n (l.sp + l.n - l.top) l.top (words l.scratch) (words l.counters) (here l.next l.end l.uses)
 
 abbrev pub decreases-flatten_all-loop-top : goal.decreases-flatten_all-loop-top
 decreases-flatten_all-loop-top l = l.sp + l.n - l.top
