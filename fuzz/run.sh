@@ -35,19 +35,18 @@ counting_toolchain() { # KIT'S-TOOLCHAIN
 
 # The archive as it is shipped, and the same proved code compiled with counters, as build/archive/libtulgarent.a.
 build_archives() {
-    local kit own words name
-    rt staticlib tulgarent >"$build/rt.log" 2>&1 || { cat "$build/rt.log"; return 1; }
+    local kit name words=() below=()
+    tools/build.sh archive >"$build/rt.log" 2>&1 || { cat "$build/rt.log"; return 1; }
     # Compiling it again gives the same bytes, unless the code has changed.
     if cmp -s target/staticlib/libtulgarent.a "$build/archive/shipped"; then return; fi
     kit=$(cd "$(dirname "$(readlink -f "$(command -v rt)")")/.." && pwd)
-    own=$kit/on/$(uname -m)
-    counting_toolchain "$own/toolchain"
-    words=()
-    for name in $(sed -n 's/#.*//; s/^tulgarent: *//p' crates.txt); do words+=(--extern "$name=target/rlib/$name.rlib"); done
+    counting_toolchain "$kit/toolchain"
+    for name in $(sed -n 's/#.*//; s/^tulgarent_c staticlib: *//p' crates.txt); do words+=(--extern "$name=crates/$name/out/rlib/$name.rlib"); done
+    for name in crates/*/out/rlib; do below+=(-L "dependency=$name"); done
     mkdir -p "$build/archive"
-    rattle build --crate-name tulgarent crates/tulgarent/src/lib.rt --extern "std=$own/rlib/std.rlib" "${words[@]}" \
-        -L "dependency=$own/rlib" -L dependency=target/rlib --antt-project "$kit/logic/antt-project.json" \
-        --logic-built "$own/logic-built" --toolchain "$build/toolchain" --crate-type staticlib \
+    "$kit/bin/rattle" build --crate-name tulgarent_c crates/tulgarent_c/src/lib.rt --extern "std=$kit/rlibs/std.rlib" "${words[@]}" \
+        -L "dependency=$kit/rlibs" "${below[@]}" --antt-project "$kit/rattle/logic/antt-project.json" \
+        --logic-built "$kit/logic_built" --toolchain "$build/toolchain" --crate-type staticlib \
         -o "$build/archive/libtulgarent.a" >"$build/rattle.log" 2>&1 || { cat "$build/rattle.log"; return 1; }
     cp target/staticlib/libtulgarent.a "$build/archive/shipped"
 }
