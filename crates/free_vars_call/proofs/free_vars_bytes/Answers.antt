@@ -12,7 +12,7 @@ use Rattle.answers.proofs.Calls.{Given, slices_ragged, Ready, front_refuses, rea
 use Rattle.free_vars_call.proofs.FreeVars.{freeing, free_gives, free_whole, free_asks, free_done}
 use Rattle.free_vars_call.proofs.free_vars_bytes.Goals as goal
 
--- no counters are lent, and no scratch
+-- the bytes that the call is lent, which has no counters and no scratch
 abbrev given : (signature rule output : List ℕ) → Given
 given s r o = record { signature = s; rule = r; counters = []; output = o; scratch = [] }
 

@@ -19,6 +19,7 @@ use Rattle.lower_call.proofs.LowerCall.{lowering, lower_gives, lower_tested, low
 use Rattle.lower_call.proofs.LowerCall.{worked, rule_refused, lower_short, lower_written}
 use Rattle.lower_call.proofs.lower_bytes.Goals as goal
 
+-- the bytes that the call is lent
 abbrev given : (signature rule counters output scratch : List ℕ) → Given
 given s r c o t = record { signature = s; rule = r; counters = c; output = o; scratch = t }
 

@@ -20,6 +20,29 @@ use Rattle.query.proofs.Exprs.{leaf_answer, Begun, begun, asked_as, none_left, N
 use Rattle.query.proofs.Calls.{Fronted, fronted, around_room, leaves_answer, args_known, args_room, Argued, args_refused, atom_asks, call_answer}
 use Rattle.query.proofs.+flatten_all_flatten_call.Goals as goal
 
+-- ---- what is known of a call
+
+-- what is asked of the call says what is known where it starts
+call_begun : {ws cs : List ℕ} (s : List ℕ) {d at to sp lg w : ℕ} → Under (λ sig. ExprAt sig ws d at × Counted sig cs) → Room (length ws) at to sp lg (length s)
+    → length ws < 2 ^ 64 → length s < 2 ^ 64 → (w ≡ get_or ws at 0) × (w < literal_base) → Begun (spot_of ws s cs at to sp lg) d w
+call_begun s q room rule scratch word = begun q room (record { rule = rule; scratch = scratch }) word.0 word.1
+
+-- there is no variable left for it
+none_taken : {p : Spot} {d w : ℕ} (g : Begun p d w) {v h : ℕ} (s1 cs1 : List ℕ) → h ≡ head_of w → ((a : ℕ) → Taken (fresh a h p.cs) a p.lg p.s p.cs s1 cs1 v)
+    → v ≡ 0 → ExprAnswers p d s1 cs1 (stopped_at p.at p.lg used_up)
+none_taken {p} {d} {w} g {v} {h} s1 cs1 is asked none = none_left g (asked_as p w v h s1 cs1 is asked) none
+
+-- it has taken the variable v
+named : {p : Spot} {d w : ℕ} (g : Begun p d w) {v h : ℕ} (s1 cs1 : List ℕ) → h ≡ head_of w → ((a : ℕ) → Taken (fresh a h p.cs) a p.lg p.s p.cs s1 cs1 v)
+    → (v ≡ 0 → ⊥) → length cs1 ≡ length p.cs → length s1 ≡ length p.s → Named g v s1 cs1
+named {p} {d} {w} g {v} {h} s1 cs1 is asked some counters scratch =
+    record { asked = asked_as p w v h s1 cs1 is asked; some = some; counters = counters; scratch = scratch }
+
+-- all its arguments are walked
+all_walked : {p : Spot} {d w : ℕ} {g : Begun p d w} {v : ℕ} {s1 cs1 : List ℕ} {o : Named g v s1 cs1} {k : ℕ} {sl : List ℕ} (f : Fronted o k sl)
+    {n : ℕ} {s2 cs2 : List ℕ} {a : Walk} → n ≡ count_of w → ExprsAnswers (inner o sl) (d - 1) n s2 cs2 a → length s2 ≡ length sl → Argued f n s2 cs2 a
+all_walked f count walk scratch = record { count = count; walk = walk; scratch = scratch }
+
 -- ---- the row of arguments
 
 pub flatten_all-loop-top-init : goal.flatten_all-loop-top-init
@@ -86,27 +109,6 @@ flatten_all-returns t c =
     rw c.reached.ensures (row_done c.loop-top.invariant.2 (omega (arith, c.loop-top-test.false)))
 
 -- ---- a call: its head word
-
--- what is asked of the call says what is known where it starts
-call_begun : {ws cs : List ℕ} (s : List ℕ) {d at to sp lg w : ℕ} → Under (λ sig. ExprAt sig ws d at × Counted sig cs) → Room (length ws) at to sp lg (length s)
-    → length ws < 2 ^ 64 → length s < 2 ^ 64 → (w ≡ get_or ws at 0) × (w < literal_base) → Begun (spot_of ws s cs at to sp lg) d w
-call_begun s q room rule scratch word = begun q room (record { rule = rule; scratch = scratch }) word.0 word.1
-
--- there is no variable left for it
-none_taken : {p : Spot} {d w : ℕ} (g : Begun p d w) {v h : ℕ} (s1 cs1 : List ℕ) → h ≡ head_of w → ((a : ℕ) → Taken (fresh a h p.cs) a p.lg p.s p.cs s1 cs1 v)
-    → v ≡ 0 → ExprAnswers p d s1 cs1 (stopped_at p.at p.lg used_up)
-none_taken {p} {d} {w} g {v} {h} s1 cs1 is asked none = none_left g (asked_as p w v h s1 cs1 is asked) none
-
--- it has taken the variable v
-named : {p : Spot} {d w : ℕ} (g : Begun p d w) {v h : ℕ} (s1 cs1 : List ℕ) → h ≡ head_of w → ((a : ℕ) → Taken (fresh a h p.cs) a p.lg p.s p.cs s1 cs1 v)
-    → (v ≡ 0 → ⊥) → length cs1 ≡ length p.cs → length s1 ≡ length p.s → Named g v s1 cs1
-named {p} {d} {w} g {v} {h} s1 cs1 is asked some counters scratch =
-    record { asked = asked_as p w v h s1 cs1 is asked; some = some; counters = counters; scratch = scratch }
-
--- all its arguments are walked
-all_walked : {p : Spot} {d w : ℕ} {g : Begun p d w} {v : ℕ} {s1 cs1 : List ℕ} {o : Named g v s1 cs1} {k : ℕ} {sl : List ℕ} (f : Fronted o k sl)
-    {n : ℕ} {s2 cs2 : List ℕ} {a : Walk} → n ≡ count_of w → ExprsAnswers (inner o sl) (d - 1) n s2 cs2 a → length s2 ≡ length sl → Argued f n s2 cs2 a
-all_walked f count walk scratch = record { count = count; walk = walk; scratch = scratch }
 
 pub flatten_call-returns-then-v-eq0 : goal.flatten_call-returns-then-v-eq0
 flatten_call-returns-then-v-eq0 t c =

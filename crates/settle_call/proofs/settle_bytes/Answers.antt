@@ -18,6 +18,7 @@ use Rattle.answers.proofs.Calls.{Given, slices_ragged, Ready, front_refuses, rea
 use Rattle.settle_call.proofs.Settled.{settling, settle_gives, settle_tested, settle_whole, settle_front, settle_lent, settle_asks, settle_done}
 use Rattle.settle_call.proofs.settle_bytes.Goals as goal
 
+-- the bytes that the call is lent, which has no counters
 abbrev given : (signature rule output scratch : List ℕ) → Given
 given s r o t = record { signature = s; rule = r; counters = []; output = o; scratch = t }
 
