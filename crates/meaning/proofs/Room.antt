@@ -1,5 +1,7 @@
 -- Settling never makes a body and its replacements heavier: so its words and bindings have room where the weight of the flat body has.
 -- Assumes nothing.
+use lib.Dec.{eqb}
+use Rattle.rules.specs.Signature.{same_terms}
 use Prim.Native.Nat.{ℕ, zero, suc, ◌+◌, ◌-◌, ◌*◌, ◌≤◌}
 use native.Mathlib.Nat.{le_refl}
 use native.Mathlib.Omega.{arith}
@@ -197,3 +199,8 @@ weight_settle s xs =
 pub settle_size : (s : Sig) (xs : List Atom)
     → length (words_of tab_words (settle s xs).tabs) + 3 * length (settle s xs).repls ≤ weight xs
 settle_size s xs = omega (arith, weight_settle s xs, tabs_words_weight (settle s xs).tabs)
+
+alike_seen : (f b : Tab) (fs : List Tab) → (f.head ≡ b.head) × (f.ins ≡ b.ins) → seen f fs ≡ seen b fs
+alike_seen f b [] e = refl
+alike_seen f b (g ∷ gs) e =
+    ap₂ ◌||◌ (ap₂ (λ (h : ℕ) (is : List ℕ). eqb g.head h && same_terms g.ins is) e.0 e.1) (alike_seen f b gs e)

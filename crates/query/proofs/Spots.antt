@@ -1,4 +1,5 @@
 -- Where a walk of flattening starts, as one value, and what the contracts say of an answer from there. Assumes nothing.
+use Rattle.walks.specs.Steps.{OnStack}
 use mathlib.Core.List.{List}
 use Prim.Native.Nat.{ℕ, ◌^◌, ◌<◌}
 use lib.ListN.{length}
@@ -71,3 +72,6 @@ FactAnswers p s' cs' r =
 abbrev pub FactsAnswers : Spot → ℕ → List ℕ → List ℕ → Walk → Type 0
 FactsAnswers p n s' cs' r =
     FlattensFacts p.ws n p.at p.to p.sp p.lg p.s p.cs s' cs' r
+
+abbrev pub ExprsWalked : Spot → ℕ → Res Piece → ℕ → List ℕ → List ℕ → Walk → Type 0
+ExprsWalked p n x k s' cs' r = Walked n (OnStack p.sp n p.lg s' r) x k p.at p.to p.sp p.lg p.s p.cs s' cs' r

@@ -1,4 +1,4 @@
-// Runs the cases on standard input through the exported calls, and compares all that each call gives with what the Rust gave. It needs no Rust: the list has
+// Runs the cases on standard input through the calls, and compares all that each call gives with what the Rust gave. It needs no Rust: the list has
 // its answers, and its head says how it was made and how it is laid out.
 //
 // There are two lists. In the first the answers are the Rust's, and nothing may differ. In the second each answer was made wrong in one thing, so that it

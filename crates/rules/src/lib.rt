@@ -1,3 +1,2 @@
-#![tactic(auto)]
-
 // Document 01 as definitions: see specs/. There is no code here.
+#![tactic(auto)]

@@ -45,7 +45,18 @@ pub fn write_all<W: Write>(to: &mut W, bytes: &[u8]) -> bool {
 
 // Writes a number's decimal digits. Answers whether all were written.
 pub fn print_decimal<W: Write>(to: &mut W, n: u64) -> bool {
-    write!(to, "{n}").is_ok()
+    let mut digits = [b'0'; 20];
+    let mut at = 19;
+    let mut left = n;
+    for place in 0..20 {
+        at = 19 - place;
+        digits[at] = b'0' + (left % 10) as u8;
+        left /= 10;
+        if left == 0 {
+            break;
+        }
+    }
+    write_all(to, &digits[at..])
 }
 
 #[cfg(test)]
