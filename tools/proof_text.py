@@ -1,12 +1,12 @@
 #!/usr/bin/env python3
-"""Figures of the text that people read: how long the proofs are, how far a need reaches back, and what stands twice.
+"""Figures of the text that people read: how long the proofs are, how far an answer reaches back, and what stands twice.
 
     tools/proof_text.py            the figures of all crates
     tools/proof_text.py --files    a row for each file that has a path of four steps back or more, or a line over the limit
     tools/proof_text.py --check    the figures; exits with 1 where a limit is broken, and says where
 
-A path is a run of `.before`, each a step back from the place of a need. Text that stands twice is a run of lines, in two places, that are equal
-but for their indentation. Not counted there: blank lines, comments, imports, lone parameters of a function, and the list that closes a proof file.
+A path is a run of `.before`, each a step back from the place of a goal; answers name facts by their step and need none. Text that stands twice is a run of
+lines, in two places, that are equal but for their indentation. Not counted there: blank lines, comments, imports, and lone parameters of a function.
 """
 import pathlib
 import re
@@ -36,8 +36,6 @@ class Source:
         rows = []
         for number, line in enumerate(self.lines, 1):
             line = line.strip()
-            if line.startswith("tie.close"):
-                break
             if PASSED_OVER.match(line) or (self.path.suffix == ".rt" and PARAMETER.match(line)):
                 continue
             rows.append((line, number))
