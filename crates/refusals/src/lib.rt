@@ -1,0 +1,50 @@
+// Why a call is turned back, and at which place.
+#![tactic(auto)]
+
+ghost use Rattle.std.specs.Prelude.{◌≡◌};
+ghost use Rattle.refusals.specs.Numbers.{number_of};
+
+// A reason for each number of 01, "Turned back", in the order of the numbers from 1 to 14.
+#[derive(Clone, Copy, Debug, PartialEq, Eq)]
+pub enum Reason {
+    BadSignature,
+    FewCounters,
+    SmallScratch,
+    BadLength,
+    Unfit,
+    TooDeep,
+    Unbound,
+    AlreadyDefined,
+    UsedUp,
+    ShortOutput,
+    NoTerms,
+    NotTwo,
+    BadLine,
+    Ragged,
+}
+
+// A refusal: its reason, and the place that goes with it.
+#[derive(Clone, Copy, Debug, PartialEq, Eq)]
+pub struct Refusal {
+    pub reason: Reason,
+    pub place: usize,
+}
+
+impl Reason {
+    // The refusal for this reason at a place.
+    pub fn at(self, place: usize) -> Refusal
+        ensures { (result.reason ≡ self) × (result.place ≡ place) }
+    {
+        Refusal {
+            reason: self,
+            place,
+        }
+    }
+
+    // The number that a caller is given.
+    pub fn number(self) -> u64
+        ensures { result ≡ number_of self }
+    {
+        self as u64 + 1
+    }
+}
