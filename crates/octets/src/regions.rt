@@ -6,15 +6,12 @@ ghost use Rattle.octets.specs.Regions.{splice, part, Clear, swap, elem};
 use crate::{get, put};
 
 // Writes the n words of `src` from `from` on at `at` of `out`.
+#[tactic(auto, using(crate::proofs::Words::length_words))]
 pub fn copy(out: &mut [u8], at: usize, src: &[u8], from: usize, n: usize)
     requires { (at + n ≤ length (words out.old)) × (from + n ≤ length (words src.now)) }
     ensures { words out.new ≡ splice (words out.old) at (part (words src.now) from n) }
 {
-    let mut i = 0;
-    while i < n {
-        put(out, at + i, get(src, from + i));
-        i += 1;
-    }
+    out[4 * at..4 * (at + n)].copy_from_slice(&src[4 * from..4 * (from + n)]);
 }
 
 // Writes the n words from `from` on at `to` of the same slice. `to` lies at or below `from`, or beyond those words, since a word must not
@@ -24,11 +21,9 @@ pub fn carry(buf: &mut [u8], to: usize, from: usize, n: usize)
     requires clear { Clear to from n }
     ensures { words buf.new ≡ splice (words buf.old) to (part (words buf.old) from n) }
 {
-    let mut i = 0;
-    while i < n {
+    for i in 0..n {
         let w = get(buf, from + i);
         put(buf, to + i, w);
-        i += 1;
     }
 }
 
@@ -44,12 +39,10 @@ pub fn replace(buf: &mut [u8], from: usize, n: usize, x: u32, y: u32)
     requires { from + n ≤ length (words buf.old) }
     ensures { words buf.new ≡ splice (words buf.old) from (map (swap x y) (part (words buf.old) from n)) }
 {
-    let mut i = 0;
-    while i < n {
+    for i in 0..n {
         let at = from + i;
         let w = get(buf, at);
         put(buf, at, swapped(x, y, w));
-        i += 1;
     }
 }
 
@@ -66,11 +59,9 @@ pub fn among(buf: &[u8], from: usize, n: usize, w: u32) -> bool
     ensures { result ≡ elem w (part (words buf.now) from n) }
 {
     let mut found: u32 = 0;
-    let mut i = 0;
-    while i < n {
+    for i in 0..n {
         let x = get(buf, from + i);
         found = met(x, w, found);
-        i += 1;
     }
     found == 1
 }

@@ -1,32 +1,17 @@
--- The row that it fills is what it has read of the source so far, and the source is not written. Assumes nothing.
-use mathlib.Core.Path.{refl}
-use Prim.Native.Nat.{◌+◌, ◌<◌}
+-- What is copied is lent at words' boundaries on both sides. Assumes nothing.
+use mathlib.Core.Path.{ap, ◌∙◌}
 use native.Mathlib.Omega.{arith}
-use lib.ListN.{length}
+use Rattle.std.proofs.Common.{rules, ◌+◌, ◌-◌, ◌≡◌}
 use Rattle.octets.specs.Words.{words}
-use Rattle.octets.proofs.Words.{length_words}
-use Rattle.octets.proofs.Splice.{part_more}
-use Rattle.octets.proofs.Filling.{filled_start, filled_next, filled_end, filled_count}
+use Rattle.octets.specs.Regions.{splice, part}
+use Rattle.octets.proofs.Words.{length_words, words_lent}
+use Rattle.octets.proofs.Returned.{words_given_back}
 use Rattle.octets.proofs.regions.copy.Goals as goal
 
-pub loop-i-init : goal.loop-i-init
-loop-i-init c = filled_start _ _ _ _ refl
-
-pub overflow_add-at : goal.overflow_add-at
-overflow_add-at c = omega (arith, length_words c.args.out.now)
-
-pub overflow_add-from : goal.overflow_add-from
-overflow_add-from c = omega (arith, length_words c.args.src.now)
-
-pub put-requires : goal.put-requires
-put-requires c = omega (arith, filled_count c.loop-i.invariant)
-
-pub loop-i-preserved : goal.loop-i-preserved
-loop-i-preserved c =
-    let a = c.args in
-    let i = c.loop-i in
-    let room : a.from + i.i < length (words a.src.now) = omega arith in
-    filled_next i.invariant (omega arith) (omega arith) c.put.auto.s c.put.ensures c.get.ensures.is (part_more _ _ _ room)
-
 pub returns : goal.returns
-returns c = filled_end c.loop-i.invariant (omega arith)
+returns c =
+    let a = c.args in
+    let lent = words_lent a.src.now a.from (a.from + a.n) (omega arith) (omega arith) in
+    let long : a.from + a.n - a.from ≡ a.n = omega arith in
+    words_given_back a.out.now c.copy_from_slice.new.self a.at (a.at + a.n) (omega arith) (omega arith) (search rules)
+    ∙ ap (splice (words a.out.now) a.at) (ap words c.copy_from_slice.ensures.after ∙ lent ∙ rw long)
