@@ -1,12 +1,12 @@
 -- What writing a part of a slice of bytes makes of the slice's words, where the part begins and ends at words' boundaries. Assumes nothing.
-use mathlib.Core.Path.{◌≡◌, refl, sym, ap, ◌∙◌}
-use mathlib.Core.List.{List, [], ◌∷◌, ◌++◌, append_assoc}
-use Prim.Native.Nat.{ℕ, ◌+◌, ◌-◌, ◌*◌, ◌/◌, ◌%◌, ◌≤◌, ◌<◌, ◌^◌}
+use mathlib.Core.Path.{◌≡◌, sym, ap, ◌∙◌}
+use mathlib.Core.List.{List, ◌++◌, append_assoc}
+use Prim.Native.Nat.{ℕ, ◌+◌, ◌-◌, ◌*◌, ◌%◌, ◌≤◌}
 use native.Mathlib.Omega.{arith}
-use lib.ListN.{length, take, drop, set, length-drop}
+use lib.ListN.{length, take, drop}
 use lib.Seq.{length-take-le}
 use borrow.Rule.Slice.PartMut.{put_mid, Post-is}
-use Rattle.octets.specs.Words.{word_of, words}
+use Rattle.octets.specs.Words.{words}
 use Rattle.octets.specs.Regions.{splice}
 use Rattle.octets.proofs.Words.{length_words, words_take, words_drop, words_append}
 use Rattle.octets.proofs.Splice.{splice_is}

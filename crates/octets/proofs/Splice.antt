@@ -25,6 +25,9 @@ pub part_all : (l : List ℕ) → part l 0 (length l) ≡ l
 part_all l = take-length l
 
 -- one word more
+pub take_more : (l : List ℕ) (n : ℕ) → n < length l → take (n + 1) l ≡ take n l ++ (get_or l n 0 ∷ [])
+take_more l n h = rw add-one (take-suc l n 0 h)
+
 pub part_more : (l : List ℕ) (p n : ℕ) → p + n < length l → part l p (n + 1) ≡ part l p n ++ (get_or l (p + n) 0 ∷ [])
 part_more l p n h =
     let k : n < length (drop p l) = omega (arith, length-drop p l) in

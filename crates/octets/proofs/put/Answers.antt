@@ -4,7 +4,7 @@ use native.Mathlib.Omega.{arith}
 use Rattle.std.proofs.Common.{rules, ◌+◌}
 use Rattle.octets.specs.Words.{words}
 use Rattle.octets.specs.Regions.{splice}
-use Rattle.octets.proofs.Words.{length_words, words_of_one}
+use Rattle.octets.proofs.Words.{words_of_one}
 use Rattle.octets.proofs.Splice.{splice_one}
 use Rattle.octets.proofs.Returned.{words_given_back}
 use Rattle.octets.proofs.put.Goals as goal

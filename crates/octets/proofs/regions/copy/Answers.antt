@@ -3,8 +3,8 @@ use mathlib.Core.Path.{ap, ◌∙◌}
 use native.Mathlib.Omega.{arith}
 use Rattle.std.proofs.Common.{rules, ◌+◌, ◌-◌, ◌≡◌}
 use Rattle.octets.specs.Words.{words}
-use Rattle.octets.specs.Regions.{splice, part}
-use Rattle.octets.proofs.Words.{length_words, words_lent}
+use Rattle.octets.specs.Regions.{splice}
+use Rattle.octets.proofs.Words.{words_lent}
 use Rattle.octets.proofs.Returned.{words_given_back}
 use Rattle.octets.proofs.regions.copy.Goals as goal
 
