@@ -3,25 +3,22 @@
 use Prim.Native.Nat.{ℕ, ◌+◌, ◌-◌, ◌<◌}
 use native.Mathlib.Omega.{arith}
 use mathlib.Core.Bool.{Bool, true, false, not, ◌&&◌, ◌||◌, and-false}
-use mathlib.Core.List.{List, [], ◌∷◌}
+use mathlib.Core.List.{List, []}
 use mathlib.Core.Path.{◌≡◌, refl, sym, ap, ap₂, ◌∙◌}
-use denote.Enum.Declared.{tag_of}
-use types.Run.{OneOf, miss}
 use lib.ListN.{get_or}
 use borrow.Author.Tests.{lt-leb}
 use Rattle.octets.specs.Regions.{part}
 use Rattle.rules.specs.Signature.{elem}
 use Rattle.rules.specs.Words.{name_base, fresh_base}
 use Rattle.words.proofs.AtomLaws.{term_of, is_var_term, termed, term_var}
-use Rattle.words.specs.contracts.Term.{the_type}
 use Rattle.words.specs.Atom.{term_word, TermSays}
 use Rattle.words.specs.declared.Term.TheVariants.{Var, Global, Literal}
 use Rattle.words.specs.declared.Term.{Term}
 use Rattle.free_vars.specs.First.{binds, is_var_word, first_free, first_free_at}
 
 -- the other branch of `let Term::Var(..) = t else`
-not_var : (t : Term) → OneOf (1 ∷ 2 ∷ []) (tag_of the_type t) → is_var_term t ≡ false
-not_var (Var w) h = absurd (miss (1 ∷ 2 ∷ []) 0 tt h)
+not_var : (t : Term) → ((v : ℕ) → t ≡ Var v → ⊥) → is_var_term t ≡ false
+not_var (Var w) h = absurd (h w refl)
 not_var (Global w) h = refl
 not_var (Literal w) h = refl
 
@@ -46,7 +43,7 @@ low_none G w h = ap₂ ◌||◌ (lt-leb fresh_base w (omega arith)) (lt-leb (nam
 
 module _ (G : ℕ) (ws : List ℕ) (from i : ℕ) where
   -- nor is a term of another kind
-  pub no_variable : {w : ℕ} {t : Term} → w ≡ get_or ws (from + i) 0 → TermSays t G w → OneOf (1 ∷ 2 ∷ []) (tag_of the_type t) → is_var_word G (get_or ws (from + i) 0) ≡ false
+  pub no_variable : {w : ℕ} {t : Term} → w ≡ get_or ws (from + i) 0 → TermSays t G w → ((v : ℕ) → t ≡ Var v → ⊥) → is_var_word G (get_or ws (from + i) 0) ≡ false
   no_variable {w} {t} read is h = ap (is_var_word G) (sym read) ∙ sym (is_var_lem G w) ∙ ap is_var_term (sym (termed is)) ∙ not_var t h
 
   pub none_free : is_var_word G (get_or ws (from + i) 0) ≡ false → first_free_at G ws from i ≡ false
