@@ -48,11 +48,7 @@ impl Head<'_> {
     pub fn count_free(&self) -> usize
         ensures { result ≡ length (free self.now) }
     {
-        let mut found = 0;
-        for i in 0..self.len() {
-            found += self.first_free(i) as usize;
-        }
-        found
+        (0..self.len()).filter(|i| self.first_free(*i)).count()
     }
 
     // Whether v lies from `low` to `high` and is among the first n words. Of a variable that is not in the row this says whether an action before binds it:
