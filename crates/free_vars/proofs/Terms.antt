@@ -31,11 +31,11 @@ pub record Variable (G : ℕ) (ws : List ℕ) (from i v : ℕ) (bound : Bool) : 
   pub var : is_var_word G v ≡ true
   pub told : binds (get_or ws (from + i - 1) 0) ≡ bound
 
-pub variable : {G : ℕ} {ws : List ℕ} {from i w w' v : ℕ} {t : Term} {bound : Bool} → w ≡ get_or ws (from + i) 0 → TermSays t G w → t ≡ Var v
-    → w' ≡ get_or ws (from + i - 1) 0 → bound ≡ binds w' → Variable G ws from i v bound
-variable {G} {ws} {from} {i} {w} {w'} {v} read is e read' says =
+pub variable : {G : ℕ} {ws : List ℕ} {from i w v : ℕ} {t : Term} {bound : Bool} → w ≡ get_or ws (from + i) 0 → TermSays t G w → t ≡ Var v
+    → bound ≡ binds (get_or ws (from + i - 1) 0) → Variable G ws from i v bound
+variable {G} {ws} {from} {i} {w} {v} read is e says =
     let same : v ≡ w = ap term_word (sym e) ∙ is.word_is in
-    record { is = same ∙ read; var = ap (is_var_word G) same ∙ sym (is_var_lem G w) ∙ ap is_var_term (sym (termed is) ∙ e); told = sym (says ∙ ap binds read') }
+    record { is = same ∙ read; var = ap (is_var_word G) same ∙ sym (is_var_lem G w) ∙ ap is_var_term (sym (termed is) ∙ e); told = sym says }
 
 -- a word below the names is no variable
 pub low_none : (G w : ℕ) → w < name_base → is_var_word G w ≡ false

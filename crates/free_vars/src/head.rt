@@ -1,7 +1,6 @@
 // The head of a flat rule, whose free variables are asked for.
-ghost use Rattle.std.specs.Prelude.{◌≡◌, ◌&&◌, ◌+◌, ◌-◌, ◌<◌, ◌≤◌, length};
-ghost use Rattle.octets.specs.Words.{words};
-ghost use Rattle.free_vars.specs.First.{binds};
+ghost use Rattle.std.specs.Prelude.{◌≡◌, ◌&&◌, ◌+◌, ◌-◌, ◌<◌, ◌≤◌, length, get_or};
+ghost use Rattle.octets.specs.Words.{words, Got};
 
 use octets::regions::among;
 use octets::{count, get};
@@ -21,7 +20,7 @@ pub struct Head<'a> {
 impl Head<'_> {
     ghost use Rattle.octets.specs.Regions.{part};
     ghost use Rattle.rules.specs.Signature.{elem};
-    ghost use Rattle.free_vars.specs.First.{first_free_at};
+    ghost use Rattle.free_vars.specs.First.{binds, first_free_at};
     ghost use Rattle.free_vars.specs.Free.{free};
     ghost use Rattle.free_vars.specs.Targets.{between};
 
@@ -32,16 +31,31 @@ impl Head<'_> {
         count(self.rule) - self.from
     }
 
+    // Its word i.
+    pub fn word(&self, i: usize) -> u32
+        requires { self.now.from + i < length (words self.now.rule.now) }
+        ensures { Got (words self.now.rule.now) (self.now.from + i) result }
+    {
+        get(self.rule, self.from + i)
+    }
+
+    // Whether word i is a target: the word before it is that of one of the two actions that bind, a let or a call.
+    pub fn is_target(&self, i: usize) -> bool
+        requires { self.now.from + i < length (words self.now.rule.now) }
+        ensures { result ≡ binds (get_or (words self.now.rule.now) (self.now.from + i - 1) 0) }
+    {
+        matches!(get(self.rule, self.from + i - 1), LET | CALL)
+    }
+
     // Whether word i is a free variable that is met for the first time.
     fn first_free(&self, i: usize) -> bool
         requires { self.now.from + i < length (words self.now.rule.now) }
         ensures { result ≡ first_free_at self.now.globals (words self.now.rule.now) self.now.from i }
     {
-        let at = self.from + i;
-        let Term::Var(v) = term_of(get(self.rule, at), self.globals) else {
+        let Term::Var(v) = term_of(self.word(i), self.globals) else {
             return false;
         };
-        !binds_next(get(self.rule, at - 1)) && !among(self.rule, self.from, i, v)
+        !self.is_target(i) && !among(self.rule, self.from, i, v)
     }
 
     // How many free variables it has, told word by word.
@@ -59,11 +73,4 @@ impl Head<'_> {
     {
         low <= v && v <= high && among(self.rule, self.from, n, v)
     }
-}
-
-// Whether the word behind w is a target: w is the word of one of the two actions that bind, a let or a call.
-pub fn binds_next(w: u32) -> bool
-    ensures { result ≡ binds w }
-{
-    matches!(w, LET | CALL)
 }
