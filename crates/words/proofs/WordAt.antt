@@ -1,10 +1,10 @@
 -- The word at an index, as the code is told it: `There` is a word that is there and says something, `NotKind` one of another kind, or none. Assumes nothing.
-use mathlib.Core.Path.{◌≡◌, refl, sym, ap, ◌∙◌}
+use mathlib.Core.Path.{◌≡◌, refl, sym, ◌∙◌}
 use mathlib.Core.Bool.{Bool, true, false, not, cond}
 use mathlib.Core.List.{List}
 use Prim.Native.Nat.{ℕ, ◌<◌}
-use native.Mathlib.Omega.{arith}
 use lib.ListN.{length, get_or}
+use Rattle.std.specs.Prelude.{Option, Some, None}
 use lib.Dec.{T, ltb, eqb, lit<}
 use borrow.Author.Tests.{ltb-true, lt-ltb}
 use types.Run.{OneOf}
@@ -12,20 +12,19 @@ use mir.Val.{has_key}
 use denote.Enum.Declared.{tag_of}
 use Rattle.words.specs.Word.{numbers, kind, numbers_of, WordSays}
 use Rattle.words.specs.declared.Word.{Word}
-use Rattle.words.specs.declared.Word.TheVariants.{Unfit}
 use Rattle.words.proofs.Tags.{others, other_kind}
 use Rattle.words.specs.contracts.Word.{the_type}
 use Rattle.words.proofs.WordLaws.{word_of, answered, answers, unfit_low}
 
-unfoldable pub word_at : List ℕ → ℕ → Word
-word_at ws p = cond (ltb p (length ws)) (word_of (get_or ws p 0)) Unfit
+unfoldable pub word_at : List ℕ → ℕ → Option Word
+word_at ws p = cond (ltb p (length ws)) (word_of (get_or ws p 0)) None
 
 -- the one with the numbers there
-pub word_is_lem : {ws : List ℕ} {p : ℕ} {x : Word} → WordSays x ws p → x ≡ word_at ws p
+pub word_is_lem : {ws : List ℕ} {p : ℕ} {x : Option Word} → WordSays x ws p → x ≡ word_at ws p
 unfolding word_at
 word_is_lem {ws} {p} {x} says = go (ltb p (length ws)) says.numbers_are
   where
-    go : (b : Bool) → numbers x ≡ cond b (numbers_of (get_or ws p 0)) (numbers Unfit) → x ≡ cond b (word_of (get_or ws p 0)) Unfit
+    go : (b : Bool) → numbers x ≡ cond b (numbers_of (get_or ws p 0)) (numbers None) → x ≡ cond b (word_of (get_or ws p 0)) None
     go true e = answered (get_or ws p 0) e
     go false e = answered 0 (e ∙ answers 0 (unfit_low 0 (lit< tt))) ∙ unfit_low 0 (lit< tt)
 
@@ -37,23 +36,30 @@ pub record Here (ws : List ℕ) (p w : ℕ) : Type 0 where
 -- the word at p is there, and says x
 pub record There (ws : List ℕ) (p : ℕ) (x : Word) : Type 0 where
   pub inside : p < length ws
-  pub says : word_of (get_or ws p 0) ≡ x
+  pub says : word_of (get_or ws p 0) ≡ Some x
 
 -- it is of another kind than k, if it is there
 pub record NotKind (ws : List ℕ) (p k : ℕ) : Type 0 where
   pub other : p < length ws → eqb (kind (word_of (get_or ws p 0))) k ≡ false
 
 -- w is what the code was told of it
-module _ {ws : List ℕ} {p : ℕ} {w : Word} (read : WordSays w ws p) where
-  pub there : {x : Word} → w ≡ x → kind x < 8 → There ws p x
+module _ {ws : List ℕ} {p : ℕ} {w : Option Word} (read : WordSays w ws p) where
+  pub there : {x : Word} → w ≡ Some x → There ws p x
   unfolding word_at
   there {x} is = go (ltb p (length ws)) refl (sym (word_is_lem read) ∙ is)
     where
-      go : (b : Bool) → ltb p (length ws) ≡ b → cond b (word_of (get_or ws p 0)) Unfit ≡ x → kind x < 8 → There ws p x
-      go true t e l = record { inside = ltb-true p (length ws) t; says = e }
-      go false t e l = let eight : 8 ≡ kind x = ap kind e in absurd (omega arith)
+      go : (b : Bool) → ltb p (length ws) ≡ b → cond b (word_of (get_or ws p 0)) None ≡ Some x → There ws p x
+      go true t e = record { inside = ltb-true p (length ws) t; says = e }
+      go false t e = cc
 
-  -- the other branch of a `let .. else`; at a numeral k the premise between is `tt`
-  pub not_kind : (k : ℕ) → T (not (has_key (others k) k)) → OneOf (others k) (tag_of the_type w) → NotKind ws p k
+  other_than : (k : ℕ) → eqb (kind w) k ≡ false → NotKind ws p k
   unfolding word_at
-  not_kind k t h = record { other = λ l. rw (lt-ltb p (length ws) l) at (rw (word_is_lem read) at (other_kind k w t h)) }
+  other_than k o = record { other = λ l. rw (lt-ltb p (length ws) l) at (rw (word_is_lem read) at o) }
+
+  -- the other branch of a `let Some(Word::K(..)) = w else`: no word is there that says something, or it is of another kind. At a numeral k the premise
+  -- between is `tt`
+  pub none_there : (k : ℕ) → eqb 8 k ≡ false → w ≡ None → NotKind ws p k
+  none_there k t e = other_than k (rw e t)
+
+  pub not_kind : {x : Word} → w ≡ Some x → (k : ℕ) → T (not (has_key (others k) k)) → OneOf (others k) (tag_of the_type x) → NotKind ws p k
+  not_kind {x} e k t h = other_than k (rw e (other_kind k x t h))

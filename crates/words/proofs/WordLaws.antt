@@ -5,6 +5,7 @@ use mathlib.Core.List.{List, [], ◌∷◌}
 use Prim.Native.Nat.{ℕ, ◌+◌, ◌*◌, ◌-◌, ◌/◌, ◌%◌, ◌≤◌, ◌<◌}
 use native.Mathlib.Omega.{arith}
 use lib.ListN.{get_or}
+use Rattle.std.specs.Prelude.{⊤, Option, Some, None}
 use lib.Dec.{ltb, leb, eqb, lit≤}
 use borrow.Author.Tests.{le-leb, lt-leb, leb-true, leb-false, eq-eqb, ne_eqb}
 use Rattle.rules.specs.Words.{limit12, limit16, fresh_base, name_base, literal_base, head_base, equality_base, header_base, action_base}
@@ -12,23 +13,23 @@ use Rattle.rules.specs.Words.{signature_base, action_word, within, is_name_word,
 use Rattle.rules.specs.Words.{is_header_word, head_of, count_of, facts_of, actions_of, fresh_word, head_word, header_word, no_code, code_of}
 use Rattle.words.specs.Word.{Numbers, numbered, numbers, kind, numbers_of}
 use Rattle.words.specs.declared.Word.{Word}
-use Rattle.words.specs.declared.Word.TheVariants.{Fresh, Name, Literal, Head, Equality, Header, Action, Signature, Unfit}
+use Rattle.words.specs.declared.Word.TheVariants.{Fresh, Name, Literal, Head, Equality, Header, Action, Signature}
 use Rattle.words.proofs.Ranges.{within_true, true_within, false_below, false_above, heads_below}
 
 -- the enum's case for a word
-unfoldable pub word_of : ℕ → Word
+unfoldable pub word_of : ℕ → Option Word
 word_of w =
-    cond (leb fresh_base w) (Fresh ((w - fresh_base) / limit16) ((w - fresh_base) % limit16))
-    (cond (is_name_word w) (Name (w - name_base))
-    (cond (is_literal_word w) (Literal (w - literal_base))
-    (cond (within head_base head_base w) (Head (head_of w) (count_of w))
-    (cond (is_equality_word w) (Equality (w - equality_base))
-    (cond (is_header_word w) (Header (facts_of w) (actions_of w))
-    (cond (within (action_word 1) 8 w) (Action (w - action_base))
-    (cond (within signature_base signature_base w) (Signature (w - signature_base))
-    Unfit)))))))
+    cond (leb fresh_base w) (Some (Fresh ((w - fresh_base) / limit16) ((w - fresh_base) % limit16)))
+    (cond (is_name_word w) (Some (Name (w - name_base)))
+    (cond (is_literal_word w) (Some (Literal (w - literal_base)))
+    (cond (within head_base head_base w) (Some (Head (head_of w) (count_of w)))
+    (cond (is_equality_word w) (Some (Equality (w - equality_base)))
+    (cond (is_header_word w) (Some (Header (facts_of w) (actions_of w)))
+    (cond (within (action_word 1) 8 w) (Some (Action (w - action_base)))
+    (cond (within signature_base signature_base w) (Some (Signature (w - signature_base)))
+    None)))))))
 
--- the word that a case spells. None says `Unfit` alone, which is given 0
+-- the word that a case spells
 abbrev pub spelled : Word → ℕ
 spelled (Fresh h n) = fresh_word h n
 spelled (Name n) = name_base + n
@@ -38,7 +39,6 @@ spelled (Equality n) = equality_base + n
 spelled (Header a b) = header_word a b
 spelled (Action n) = action_word n
 spelled (Signature n) = signature_base + n
-spelled Unfit = 0
 
 -- 01's limits of the numbers of each case
 abbrev pub Fits : Word → Type 0
@@ -50,46 +50,45 @@ Fits (Equality n) = n < equality_base
 Fits (Header a b) = (a < limit12) × (b < limit12)
 Fits (Action n) = (1 ≤ n) × (n ≤ 8)
 Fits (Signature n) = n < signature_base
-Fits Unfit = ⊥
 
 -- ---- each case of `word_of`, from the test of its range: the tests of the higher ranges fail
 
 module _ (w : ℕ) where
-  pub is_fresh_lem : fresh_base ≤ w → word_of w ≡ Fresh ((w - fresh_base) / limit16) ((w - fresh_base) % limit16)
+  pub is_fresh_lem : fresh_base ≤ w → word_of w ≡ Some (Fresh ((w - fresh_base) / limit16) ((w - fresh_base) % limit16))
   unfolding word_of
   is_fresh_lem h = simp (le-leb fresh_base w h)
 
-  pub is_name_lem : is_name_word w ≡ true → word_of w ≡ Name (w - name_base)
+  pub is_name_lem : is_name_word w ≡ true → word_of w ≡ Some (Name (w - name_base))
   unfolding word_of
   is_name_lem h =
       let r = within_true name_base limit12 w h in
       simp (lt-leb fresh_base w (omega arith), h)
 
-  pub is_literal : is_literal_word w ≡ true → word_of w ≡ Literal (w - literal_base)
+  pub is_literal : is_literal_word w ≡ true → word_of w ≡ Some (Literal (w - literal_base))
   unfolding word_of
   is_literal h =
       let r = within_true literal_base limit16 w h in
       simp (lt-leb fresh_base w (omega arith), lt-leb name_base w (omega arith), h)
 
-  pub is_head : within head_base head_base w ≡ true → word_of w ≡ Head (head_of w) (count_of w)
+  pub is_head : within head_base head_base w ≡ true → word_of w ≡ Some (Head (head_of w) (count_of w))
   unfolding word_of
   is_head h =
       let r = within_true head_base head_base w h in
       simp (lt-leb fresh_base w (omega arith), lt-leb name_base w (omega arith), lt-leb literal_base w (omega arith), h)
 
-  pub is_equality : is_equality_word w ≡ true → word_of w ≡ Equality (w - equality_base)
+  pub is_equality : is_equality_word w ≡ true → word_of w ≡ Some (Equality (w - equality_base))
   unfolding word_of
   is_equality h =
       let r = within_true equality_base equality_base w h in
       simp (lt-leb fresh_base w (omega arith), lt-leb name_base w (omega arith), lt-leb literal_base w (omega arith), lt-leb head_base w (omega arith), h)
 
-  pub is_header : is_header_word w ≡ true → word_of w ≡ Header (facts_of w) (actions_of w)
+  pub is_header : is_header_word w ≡ true → word_of w ≡ Some (Header (facts_of w) (actions_of w))
   unfolding word_of
   is_header h =
       let r = within_true header_base (limit12 * limit12) w h in
       simp (lt-leb fresh_base w (omega arith), lt-leb name_base w (omega arith), lt-leb literal_base w (omega arith), lt-leb head_base w (omega arith), lt-leb equality_base w (omega arith), h)
 
-  pub is_action : within (action_word 1) 8 w ≡ true → word_of w ≡ Action (w - action_base)
+  pub is_action : within (action_word 1) 8 w ≡ true → word_of w ≡ Some (Action (w - action_base))
   unfolding word_of
   is_action h =
       let r = within_true (action_word 1) 8 w h in
@@ -103,7 +102,7 @@ module _ (w : ℕ) where
         h,
       )
 
-  pub is_signature : within signature_base signature_base w ≡ true → word_of w ≡ Signature (w - signature_base)
+  pub is_signature : within signature_base signature_base w ≡ true → word_of w ≡ Some (Signature (w - signature_base))
   unfolding word_of
   is_signature h =
       let r = within_true signature_base signature_base w h in
@@ -119,12 +118,12 @@ module _ (w : ℕ) where
       )
 
   pub is_unfit : w < fresh_base → is_name_word w ≡ false → is_literal_word w ≡ false → within head_base head_base w ≡ false → is_equality_word w ≡ false
-      → is_header_word w ≡ false → within (action_word 1) 8 w ≡ false → within signature_base signature_base w ≡ false → word_of w ≡ Unfit
+      → is_header_word w ≡ false → within (action_word 1) 8 w ≡ false → within signature_base signature_base w ≡ false → word_of w ≡ None
   unfolding word_of
   is_unfit a b c d e f g h = simp (lt-leb fresh_base w a, b, c, d, e, f, g, h)
 
   -- the words between the ranges
-  pub unfit_name : name_base + limit12 ≤ w → w < fresh_base → word_of w ≡ Unfit
+  pub unfit_name : name_base + limit12 ≤ w → w < fresh_base → word_of w ≡ None
   unfit_name lo hi =
       is_unfit hi
       (false_above name_base limit12 w (omega arith))
@@ -135,7 +134,7 @@ module _ (w : ℕ) where
       (false_above (action_word 1) 8 w (omega arith))
       (false_above signature_base signature_base w (omega arith))
 
-  pub unfit_literal : literal_base + limit16 ≤ w → w < name_base → word_of w ≡ Unfit
+  pub unfit_literal : literal_base + limit16 ≤ w → w < name_base → word_of w ≡ None
   unfit_literal lo hi =
       is_unfit (omega arith)
       (false_below name_base limit12 w (omega arith))
@@ -146,7 +145,7 @@ module _ (w : ℕ) where
       (false_above (action_word 1) 8 w (omega arith))
       (false_above signature_base signature_base w (omega arith))
 
-  pub unfit_header : header_base + limit12 * limit12 ≤ w → w < equality_base → word_of w ≡ Unfit
+  pub unfit_header : header_base + limit12 * limit12 ≤ w → w < equality_base → word_of w ≡ None
   unfit_header lo hi =
       is_unfit (omega arith)
       (false_below name_base limit12 w (omega arith))
@@ -157,7 +156,7 @@ module _ (w : ℕ) where
       (false_above (action_word 1) 8 w (omega arith))
       (false_above signature_base signature_base w (omega arith))
 
-  pub unfit_action : action_word 9 ≤ w → w < header_base → word_of w ≡ Unfit
+  pub unfit_action : action_word 9 ≤ w → w < header_base → word_of w ≡ None
   unfit_action lo hi =
       is_unfit (omega arith)
       (false_below name_base limit12 w (omega arith))
@@ -168,7 +167,7 @@ module _ (w : ℕ) where
       (false_above (action_word 1) 8 w (omega arith))
       (false_above signature_base signature_base w (omega arith))
 
-  pub unfit_no_action : action_base ≤ w → w < action_word 1 → word_of w ≡ Unfit
+  pub unfit_no_action : action_base ≤ w → w < action_word 1 → word_of w ≡ None
   unfit_no_action lo hi =
       is_unfit (omega arith)
       (false_below name_base limit12 w (omega arith))
@@ -179,7 +178,7 @@ module _ (w : ℕ) where
       (false_below (action_word 1) 8 w (omega arith))
       (false_above signature_base signature_base w (omega arith))
 
-  pub unfit_low : w < signature_base → word_of w ≡ Unfit
+  pub unfit_low : w < signature_base → word_of w ≡ None
   unfit_low hi =
       is_unfit (omega arith)
       (false_below name_base limit12 w (omega arith))
@@ -198,16 +197,16 @@ module _ (w : ℕ) where
       ∷ within signature_base signature_base w ∷ []
 
   -- the case, by the answers of the tests
-  abbrev pick : (a b c d e f g h : Bool) → Word
+  abbrev pick : (a b c d e f g h : Bool) → Option Word
   pick a b c d e f g h =
-      cond a (Fresh ((w - fresh_base) / limit16) ((w - fresh_base) % limit16))
-      (cond b (Name (w - name_base))
-      (cond c (Literal (w - literal_base))
-      (cond d (Head (head_of w) (count_of w))
-      (cond e (Equality (w - equality_base))
-      (cond f (Header (facts_of w) (actions_of w))
-      (cond g (Action (w - action_base))
-      (cond h (Signature (w - signature_base)) Unfit)))))))
+      cond a (Some (Fresh ((w - fresh_base) / limit16) ((w - fresh_base) % limit16)))
+      (cond b (Some (Name (w - name_base)))
+      (cond c (Some (Literal (w - literal_base)))
+      (cond d (Some (Head (head_of w) (count_of w)))
+      (cond e (Some (Equality (w - equality_base)))
+      (cond f (Some (Header (facts_of w) (actions_of w)))
+      (cond g (Some (Action (w - action_base)))
+      (cond h (Some (Signature (w - signature_base))) None)))))))
 
   -- its numbers are those of the word
   numbers_of_lem : numbers (word_of w) ≡ numbers_of w
@@ -256,24 +255,28 @@ module _ (w : ℕ) where
       go false false false false false false false false = refl
 
   -- and its numbers fit and spell the word
-  fits_back : kind (word_of w) < 8 → (w ≡ spelled (word_of w)) × Fits (word_of w)
-  unfolding word_of
+  Said : Option Word → Type 0
+  Said (Some x) = (w ≡ spelled x) × Fits x
+  Said None = ⊤
+
+  fits_back : Said (word_of w)
+  unfolding word_of Said
   fits_back =
       go (leb fresh_base w) refl (is_name_word w) refl (is_literal_word w) refl (within head_base head_base w) refl (is_equality_word w) refl (is_header_word w) refl
       (within (action_word 1) 8 w) refl (within signature_base signature_base w) refl
     where
       go : (a : Bool) → leb fresh_base w ≡ a → (b : Bool) → is_name_word w ≡ b → (c : Bool) → is_literal_word w ≡ c → (d : Bool) → within head_base head_base w ≡ d
           → (e : Bool) → is_equality_word w ≡ e → (f : Bool) → is_header_word w ≡ f → (g : Bool) → within (action_word 1) 8 w ≡ g
-          → (h : Bool) → within signature_base signature_base w ≡ h → kind (pick a b c d e f g h) < 8 → (w ≡ spelled (pick a b c d e f g h)) × Fits (pick a b c d e f g h)
-      go true r b _ c _ d _ e _ f _ g _ h _ l = let k = leb-true fresh_base w r in (omega arith, omega arith)
-      go false _ true r c _ d _ e _ f _ g _ h _ l = let k = within_true name_base limit12 w r in (omega arith, omega arith)
-      go false _ false _ true r d _ e _ f _ g _ h _ l = let k = within_true literal_base limit16 w r in (omega arith, omega arith)
-      go false _ false _ false _ true r e _ f _ g _ h _ l = let k = within_true head_base head_base w r in (omega arith, (omega arith, omega arith))
-      go false _ false _ false _ false _ true r f _ g _ h _ l = let k = within_true equality_base equality_base w r in (omega arith, omega arith)
-      go false _ false _ false _ false _ false _ true r g _ h _ l = let k = within_true header_base (limit12 * limit12) w r in (omega arith, (omega arith, omega arith))
-      go false _ false _ false _ false _ false _ false _ true r h _ l = let k = within_true (action_word 1) 8 w r in (omega arith, (omega arith, omega arith))
-      go false _ false _ false _ false _ false _ false _ false _ true r l = let k = within_true signature_base signature_base w r in (omega arith, omega arith)
-      go false _ false _ false _ false _ false _ false _ false _ false _ l = absurd (omega arith)
+          → (h : Bool) → within signature_base signature_base w ≡ h → Said (pick a b c d e f g h)
+      go true r b _ c _ d _ e _ f _ g _ h _ = let k = leb-true fresh_base w r in (omega arith, omega arith)
+      go false _ true r c _ d _ e _ f _ g _ h _ = let k = within_true name_base limit12 w r in (omega arith, omega arith)
+      go false _ false _ true r d _ e _ f _ g _ h _ = let k = within_true literal_base limit16 w r in (omega arith, omega arith)
+      go false _ false _ false _ true r e _ f _ g _ h _ = let k = within_true head_base head_base w r in (omega arith, (omega arith, omega arith))
+      go false _ false _ false _ false _ true r f _ g _ h _ = let k = within_true equality_base equality_base w r in (omega arith, omega arith)
+      go false _ false _ false _ false _ false _ true r g _ h _ = let k = within_true header_base (limit12 * limit12) w r in (omega arith, (omega arith, omega arith))
+      go false _ false _ false _ false _ false _ false _ true r h _ = let k = within_true (action_word 1) 8 w r in (omega arith, (omega arith, omega arith))
+      go false _ false _ false _ false _ false _ false _ false _ true r = let k = within_true signature_base signature_base w r in (omega arith, omega arith)
+      go false _ false _ false _ false _ false _ false _ false _ false _ = tt
 
   -- a test of a range is the test of a kind
   tells : (k : ℕ) (t : Bool) → get_or tests k true ≡ t → (t ≡ true → kind (word_of w) ≡ k) → t ≡ eqb (kind (word_of w)) k
@@ -306,17 +309,18 @@ module _ (w : ℕ) where
 
   -- ---- what a word says: its numbers fit, spell the word, and are those that `rules` takes from it
 
-  pub said : {x : Word} → word_of w ≡ x → kind x < 8 → (w ≡ spelled x) × Fits x
-  said {x} says l = subst (λ (y : Word). (w ≡ spelled y) × Fits y) says (fits_back (rw says l))
+  pub said : {x : Word} → word_of w ≡ Some x → (w ≡ spelled x) × Fits x
+  unfolding Said
+  said says = subst Said says fits_back
 
-  pub fresh_below : (h n : ℕ) → word_of w ≡ Fresh h n → (H : ℕ) → is_fresh_word H w ≡ ltb h H
+  pub fresh_below : (h n : ℕ) → word_of w ≡ Some (Fresh h n) → (H : ℕ) → is_fresh_word H w ≡ ltb h H
   fresh_below h n says H =
       let low = leb-true fresh_base w (fresh_kind ∙ rw says refl) in
       let x = is_fresh_lem low in
       let same : (w - fresh_base) / limit16 ≡ h = cc in
       heads_below fresh_base H w low ∙ rw same
 
-  module _ (h n : ℕ) (says : word_of w ≡ Head h n) where
+  module _ (h n : ℕ) (says : word_of w ≡ Some (Head h n)) where
     head_range : within head_base head_base w ≡ true
     head_range = head_kind_lem ∙ rw says refl
 
@@ -326,7 +330,7 @@ module _ (w : ℕ) where
     pub head_below : (H : ℕ) → is_head_word H w ≡ ltb h H
     head_below H = heads_below head_base H w (within_true head_base head_base w head_range).0 ∙ rw head_numbers.0
 
-  pub header_numbers : (a b : ℕ) → word_of w ≡ Header a b → (facts_of w ≡ a) × (actions_of w ≡ b)
+  pub header_numbers : (a b : ℕ) → word_of w ≡ Some (Header a b) → (facts_of w ≡ a) × (actions_of w ≡ b)
   header_numbers a b says = let x = is_header (header_kind ∙ rw says refl) in (cc, cc)
 
   -- a test of a smaller range fails where that of the whole range does
@@ -370,35 +374,35 @@ module _ (w : ℕ) where
 
 -- ---- a case is told by its numbers
 
-by_numbers : Numbers → Word
+by_numbers : Numbers → Option Word
 by_numbers n =
-    cond (eqb n.kind_is 0) (Fresh n.first_is n.second_is)
-    (cond (eqb n.kind_is 1) (Name n.first_is)
-    (cond (eqb n.kind_is 2) (Literal n.first_is)
-    (cond (eqb n.kind_is 3) (Head n.first_is n.second_is)
-    (cond (eqb n.kind_is 4) (Equality n.first_is)
-    (cond (eqb n.kind_is 5) (Header n.first_is n.second_is)
-    (cond (eqb n.kind_is 6) (Action n.first_is)
-    (cond (eqb n.kind_is 7) (Signature n.first_is) Unfit)))))))
+    cond (eqb n.kind_is 0) (Some (Fresh n.first_is n.second_is))
+    (cond (eqb n.kind_is 1) (Some (Name n.first_is))
+    (cond (eqb n.kind_is 2) (Some (Literal n.first_is))
+    (cond (eqb n.kind_is 3) (Some (Head n.first_is n.second_is))
+    (cond (eqb n.kind_is 4) (Some (Equality n.first_is))
+    (cond (eqb n.kind_is 5) (Some (Header n.first_is n.second_is))
+    (cond (eqb n.kind_is 6) (Some (Action n.first_is))
+    (cond (eqb n.kind_is 7) (Some (Signature n.first_is)) None)))))))
 
-by_its_numbers : (x : Word) → by_numbers (numbers x) ≡ x
+by_its_numbers : (x : Option Word) → by_numbers (numbers x) ≡ x
 unfolding by_numbers
-by_its_numbers (Fresh h n) = refl
-by_its_numbers (Name n) = refl
-by_its_numbers (Literal n) = refl
-by_its_numbers (Head h n) = refl
-by_its_numbers (Equality n) = refl
-by_its_numbers (Header a b) = refl
-by_its_numbers (Action n) = refl
-by_its_numbers (Signature n) = refl
-by_its_numbers Unfit = refl
+by_its_numbers (Some (Fresh h n)) = refl
+by_its_numbers (Some (Name n)) = refl
+by_its_numbers (Some (Literal n)) = refl
+by_its_numbers (Some (Head h n)) = refl
+by_its_numbers (Some (Equality n)) = refl
+by_its_numbers (Some (Header a b)) = refl
+by_its_numbers (Some (Action n)) = refl
+by_its_numbers (Some (Signature n)) = refl
+by_its_numbers None = refl
 
 -- what an answer with a word's numbers is
-pub answered : (w : ℕ) {x : Word} → numbers x ≡ numbers_of w → x ≡ word_of w
+pub answered : (w : ℕ) {x : Option Word} → numbers x ≡ numbers_of w → x ≡ word_of w
 answered w {x} e = sym (by_its_numbers x) ∙ ap by_numbers (e ∙ sym (numbers_of_lem w)) ∙ by_its_numbers (word_of w)
 
 -- and the other way round
-pub answers : (w : ℕ) {x : Word} → word_of w ≡ x → numbers x ≡ numbers_of w
+pub answers : (w : ℕ) {x : Option Word} → word_of w ≡ x → numbers x ≡ numbers_of w
 answers w e = ap numbers (sym e) ∙ numbers_of_lem w
 
 -- ---- and the word that is spelled says so
@@ -406,7 +410,7 @@ answers w e = ap numbers (sym e) ∙ numbers_of_lem w
 there : (low size n : ℕ) → n < size → within low size (low + n) ≡ true
 there low size n h = true_within low size (low + n) (omega arith) (omega arith)
 
-pub says : (x : Word) → Fits x → word_of (spelled x) ≡ x
+pub says : (x : Word) → Fits x → word_of (spelled x) ≡ Some x
 says (Fresh h n) f =
     let w = fresh_word h n in
     let a : (w - fresh_base) / limit16 ≡ h = omega arith in
@@ -427,4 +431,3 @@ says (Header x y) f =
     is_header w (true_within header_base (limit12 * limit12) w (omega arith) (omega arith)) ∙ rw (a, b)
 says (Action n) f = let a : action_word n - action_base ≡ n = omega arith in is_action (action_word n) (true_within (action_word 1) 8 (action_word n) (omega arith) (omega arith)) ∙ rw a
 says (Signature n) f = let a : signature_base + n - signature_base ≡ n = omega arith in is_signature (signature_base + n) (there signature_base signature_base n f) ∙ rw a
-says Unfit f = absurd f

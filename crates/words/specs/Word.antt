@@ -1,14 +1,14 @@
--- 01, "Words and records": what a word says, kind by kind, as the code's enum `Word`.
+-- 01, "Words and records": what a word says, kind by kind, as the code's `Option` of its enum `Word`.
 --
 -- The kinds are ranges of numbers here, as in `rules`; that the count of leading zero bits tells the same is proved in `proofs/Ranges`.
 -- Assumes nothing: these are definitions.
-use Rattle.std.specs.Prelude.{ℕ, ◌-◌, ◌/◌, ◌%◌, ◌≡◌, cond, List, length, get_or, leb, ltb}
+use Rattle.std.specs.Prelude.{ℕ, Option, Some, None, ◌-◌, ◌/◌, ◌%◌, ◌≡◌, cond, List, length, get_or, leb, ltb}
 use Rattle.rules.specs.Words.{limit16, fresh_base, name_base, literal_base, head_base, equality_base, action_base}
 use Rattle.rules.specs.Words.{signature_base, action_word, within, is_name_word, is_literal_word}
 use Rattle.rules.specs.Words.{is_equality_word, is_header_word, head_of, count_of, facts_of, actions_of}
 use Rattle.words.specs.declared.HeadWord.{HeadWord}
 use Rattle.words.specs.declared.Word.{Word}
-use Rattle.words.specs.declared.Word.TheVariants.{Fresh, Name, Literal, Head, Equality, Header, Action, Signature, Unfit}
+use Rattle.words.specs.declared.Word.TheVariants.{Fresh, Name, Literal, Head, Equality, Header, Action, Signature}
 
 -- 01's number of a word, its kind, and the numbers of its payload: the first or only one, and the second. What has no kind, or a payload that does not
 -- fit, is given the kind 8
@@ -20,20 +20,20 @@ pub record Numbers : Type 0 where
 abbrev pub numbered : (kind first second : ℕ) → Numbers
 numbered k a b = record { kind_is = k; first_is = a; second_is = b }
 
--- ---- of each case of the enum
+-- ---- of each case of the enum, and of none
 
-abbrev pub numbers : Word → Numbers
-numbers (Fresh h n) = numbered 0 h n
-numbers (Name n) = numbered 1 n 0
-numbers (Literal n) = numbered 2 n 0
-numbers (Head h n) = numbered 3 h n
-numbers (Equality n) = numbered 4 n 0
-numbers (Header a b) = numbered 5 a b
-numbers (Action n) = numbered 6 n 0
-numbers (Signature n) = numbered 7 n 0
-numbers Unfit = numbered 8 0 0
+abbrev pub numbers : Option Word → Numbers
+numbers (Some (Fresh h n)) = numbered 0 h n
+numbers (Some (Name n)) = numbered 1 n 0
+numbers (Some (Literal n)) = numbered 2 n 0
+numbers (Some (Head h n)) = numbered 3 h n
+numbers (Some (Equality n)) = numbered 4 n 0
+numbers (Some (Header a b)) = numbered 5 a b
+numbers (Some (Action n)) = numbered 6 n 0
+numbers (Some (Signature n)) = numbered 7 n 0
+numbers None = numbered 8 0 0
 
-abbrev pub kind : Word → ℕ
+abbrev pub kind : Option Word → ℕ
 kind w = (numbers w).kind_is
 
 -- ---- of a word of a record
@@ -53,9 +53,9 @@ numbers_of w =
 
 -- and of the word at an index of a record; behind its end there is none that fits
 abbrev pub numbers_at : List ℕ → ℕ → Numbers
-numbers_at ws p = cond (ltb p (length ws)) (numbers_of (get_or ws p 0)) (numbers Unfit)
+numbers_at ws p = cond (ltb p (length ws)) (numbers_of (get_or ws p 0)) (numbers None)
 
-pub record WordSays (r : Word) (ws : List ℕ) (p : ℕ) : Type 0 where
+pub record WordSays (r : Option Word) (ws : List ℕ) (p : ℕ) : Type 0 where
   pub numbers_are : numbers r ≡ numbers_at ws p
 
 -- the head and the count of a word of kind 3

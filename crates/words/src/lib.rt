@@ -48,6 +48,7 @@ pub const CALL: u32 = ACTION_BASE + 7;
 // An expression holds expressions up to 32 deep, itself counted.
 pub const MAX_DEPTH: u32 = 32;
 
+// What a word says, by its kind.
 #[derive(Clone, Copy)]
 pub enum Word {
     // kind 0: a fresh variable, its head and its count
@@ -66,80 +67,79 @@ pub enum Word {
     Action(u32),
     // kind 7: a word of a signature
     Signature(u32),
-    // no kind, or a payload that does not fit its kind
-    Unfit,
 }
 
 // What a word below those of heads says: it is of a kind from 4 to 7, or of none. `word_of` has counted the zeros already, and the compiler makes one jump of both.
-fn low_word_of(w: u32) -> Word
+fn low_word_of(w: u32) -> Option<Word>
     requires { w < head_base }
     ensures { numbers result ≡ numbers_of w }
 {
     let kind = u32::leading_zeros(w);
     match kind {
-        4 => Word::Equality(w - EQUALITY_BASE),
+        4 => Some(Word::Equality(w - EQUALITY_BASE)),
         5 => {
             let p = w - HEADER_BASE;
             if p < LIMIT_12 * LIMIT_12 {
-                Word::Header(p / LIMIT_12, p % LIMIT_12)
+                Some(Word::Header(p / LIMIT_12, p % LIMIT_12))
             } else {
-                Word::Unfit
+                None
             }
         }
         6 => {
             let code = w - ACTION_BASE;
             match code {
-                1..=8 => Word::Action(code),
-                _ => Word::Unfit,
+                1..=8 => Some(Word::Action(code)),
+                _ => None,
             }
         }
-        7 => Word::Signature(w - SIGNATURE_BASE),
-        _ => Word::Unfit,
+        7 => Some(Word::Signature(w - SIGNATURE_BASE)),
+        _ => None,
     }
 }
 
-// What a word says: the count of its leading zeros tells the kind, and so where the payload begins.
-fn word_of(w: u32) -> Word
+// What a word says: the count of its leading zeros tells the kind, and so where the payload begins. A word of no kind, or with a payload that does not fit its
+// kind, says nothing.
+fn word_of(w: u32) -> Option<Word>
     ensures { numbers result ≡ numbers_of w }
 {
     let kind = u32::leading_zeros(w);
     match kind {
         0 => {
             let p = w - FRESH_BASE;
-            Word::Fresh(p / LIMIT_16, p % LIMIT_16)
+            Some(Word::Fresh(p / LIMIT_16, p % LIMIT_16))
         }
         1 => {
             let n = w - NAME_BASE;
             if n < LIMIT_12 {
-                Word::Name(n)
+                Some(Word::Name(n))
             } else {
-                Word::Unfit
+                None
             }
         }
         2 => {
             let n = w - LITERAL_BASE;
             if n < LIMIT_16 {
-                Word::Literal(n)
+                Some(Word::Literal(n))
             } else {
-                Word::Unfit
+                None
             }
         }
         3 => {
             let p = w - HEAD_BASE;
-            Word::Head(p / LIMIT_16, p % LIMIT_16)
+            Some(Word::Head(p / LIMIT_16, p % LIMIT_16))
         }
         _ => low_word_of(w),
     }
 }
 
-// The word at an index; behind the record's end there is none that fits.
-pub fn word_at(rule: &[u8], at: usize) -> Word
+// What the word at an index says; behind the record's end there is none.
+pub fn word_at(rule: &[u8], at: usize) -> Option<Word>
     ensures { WordSays result (words rule.now) at }
 {
     if at < octets::count(rule) {
         word_of(octets::get(rule, at))
     } else {
-        Word::Unfit
+        None
     }
 }
 
