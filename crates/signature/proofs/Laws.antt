@@ -5,7 +5,7 @@ use mathlib.Core.List.{List, [], ◌∷◌}
 use Prim.Native.Nat.{ℕ, zero, suc, ◌+◌, ◌-◌, ◌≤◌, ◌<◌}
 use native.Mathlib.Omega.{arith}
 use lib.ListN.{length, get_or}
-use lib.Dec.{ltb, leb, eqb, lit<}
+use lib.Dec.{ltb, leb, eqb}
 use borrow.Author.Tests.{lt-ltb, le-ltb, ltb-true, leb-true, ne_eqb, eq-eqb, eqb-true, eqb-false}
 use Rattle.rules.specs.Words.{signature_base, within, limit12}
 use Rattle.rules.specs.Refusals.{Res, ok, refuse, ◌>>=◌, demand, bad_signature}
@@ -16,9 +16,8 @@ use Rattle.words.proofs.WordAt.{There, NotKind}
 use Rattle.words.proofs.WordLaws.{said, signature_kind}
 use Rattle.meaning.proofs.Lists.{and_left, and_right}
 use Rattle.meaning.proofs.Results.{demand_ok}
-use Rattle.signature.specs.Signature.{is_kind_at, all_kinds, first_bad, payload_says, sign_of, Begins}
-use Rattle.signature.specs.declared.Payload.{Payload}
-use Rattle.signature.specs.declared.Payload.TheVariants.{Fits, Unfit}
+use Rattle.refusals.specs.Numbers.{told}
+use Rattle.signature.specs.Signature.{is_kind_at, all_kinds, first_bad, sign_of, Begins}
 use Rattle.signature.specs.declared.Signature.{Signature as Sign}
 
 module _ (ws : List ℕ) where
@@ -173,14 +172,14 @@ pub record PayloadAt (ws : List ℕ) (p n : ℕ) : Type 0 where
   pub is : get_or ws p 0 ≡ signature_base + n
 
 pub payload_there : {ws : List ℕ} {p n : ℕ} → There ws p (Signature n) → PayloadAt ws p n
-payload_there {ws} {p} t = record { here = t.inside; is = (said (get_or ws p 0) t.says (lit< tt)).0 }
+payload_there {ws} {p} t = record { here = t.inside; is = (said (get_or ws p 0) t.says).0 }
 
 module _ (ws : List ℕ) (low size p : ℕ) where
   -- what an answer for it is
-  abbrev Answers : Payload → Type 0
-  Answers x = payload_says x p ≡ payload_at ws low size p
+  abbrev Answers : Res ℕ → Type 0
+  Answers x = x ≡ payload_at ws low size p
 
-  pub payload_other : low + size ≤ signature_base → NotKind ws p 7 → Answers Unfit
+  pub payload_other : low + size ≤ signature_base → NotKind ws p 7 → Answers (refuse bad_signature p)
   payload_other most none = go (ltb p (length ws)) refl
     where
       out : p < length ws → (b : Bool) → within (signature_base + low) size (get_or ws p 0) ≡ b → b ≡ false
@@ -196,21 +195,17 @@ module _ (ws : List ℕ) (low size p : ℕ) where
       go false e = refl
 
   module _ {n : ℕ} (t : PayloadAt ws p n) where
-    pub payload_low : n < low → Answers Unfit
+    pub payload_low : n < low → Answers (refuse bad_signature p)
     payload_low l = let e = t.is in rw (lt-ltb p (length ws) t.here, false_below (signature_base + low) size (get_or ws p 0) (omega arith))
 
-    pub payload_high : low + size ≤ n → Answers Unfit
+    pub payload_high : low + size ≤ n → Answers (refuse bad_signature p)
     payload_high l = let e = t.is in rw (lt-ltb p (length ws) t.here, false_above (signature_base + low) size (get_or ws p 0) (omega arith))
 
-    pub payload_good : low ≤ n → n < low + size → Answers (Fits n)
+    pub payload_good : low ≤ n → n < low + size → Answers (ok n)
     payload_good lo hi =
         let e = t.is in
         let same : signature_base + n - signature_base ≡ n = omega arith in
         rw (lt-ltb p (length ws) t.here, true_within (signature_base + low) size (get_or ws p 0) (omega arith) (omega arith), e, same)
-
-  -- and back, from the answer
-  pub payload_is : {x y : Payload} → Answers x → x ≡ y → payload_at ws low size p ≡ payload_says y p
-  payload_is says e = sym says ∙ ap (λ (y : Payload). payload_says y p) e
 
   -- a payload that was read lies in its range
   pub payload_range : {n : ℕ} → payload_at ws low size p ≡ ok n → (p < length ws) × (low ≤ n) × (n < low + size)
@@ -225,68 +220,61 @@ module _ (ws : List ℕ) (low size p : ℕ) where
 
 module _ (ws : List ℕ) where
   -- what the code answers for the signature
-  abbrev signature : Sign
-  signature = sign_of (read_signature ws)
-
-  pub heads_bad : payload_at ws 1 limit12 0 ≡ refuse 1 0 → sign_of (refuse 1 0) ≡ signature
-  heads_bad e = rw e refl
-
-  pub globals_bad : {h : ℕ} → payload_at ws 1 limit12 0 ≡ ok h → payload_at ws 0 (suc limit12) 1 ≡ refuse 1 1 → sign_of (refuse 1 1) ≡ signature
-  globals_bad rh e = rw (rh, e) refl
-
-  pub equals_bad : {h g : ℕ} → payload_at ws 1 limit12 0 ≡ ok h → payload_at ws 0 (suc limit12) 1 ≡ ok g → payload_at ws 0 h 2 ≡ refuse 1 2 → sign_of (refuse 1 2) ≡ signature
-  equals_bad rh rg e = rw (rh, rg, e) refl
-
-  pub flag_bad : {h g v : ℕ} → payload_at ws 1 limit12 0 ≡ ok h → payload_at ws 0 (suc limit12) 1 ≡ ok g → payload_at ws 0 h 2 ≡ ok v → payload_at ws 0 2 3 ≡ refuse 1 3
-      → sign_of (refuse 1 3) ≡ signature
-  flag_bad rh rg rv e = rw (rh, rg, rv, e) refl
+  abbrev signature : Res Sign
+  signature = told sign_of (read_signature ws)
 
 -- ---- and then the kinds
 
-module _ {ws : List ℕ} {h g v f : ℕ} (b : Begins ws h g v f) where
-  pub begins_inside : (4 ≤ length ws) × (h ≤ limit12) × (v < h)
+-- the first bad index, as the code asks for it up to where the kinds end
+asked : (ws : List ℕ) (h : ℕ) {bad : ℕ} → bad ≡ first_bad ws (4 + h - 4) 4 → bad ≡ first_bad ws h 4
+asked ws h is = let same : 4 + h - 4 ≡ h = omega arith in rw same at is
+
+module _ {ws : List ℕ} {g : Sign} (b : Begins ws g) where
+  pub begins_inside : (4 ≤ length ws) × (g.heads ≤ limit12) × (g.equals < g.heads)
   begins_inside =
       let rh = payload_range ws 1 limit12 0 b.heads_read in
-      let rv = payload_range ws 0 h 2 b.equals_read in
+      let rv = payload_range ws 0 g.heads 2 b.equals_read in
       let rf = payload_range ws 0 2 3 b.flag_read in
       omega arith
 
-  pub kind_bad : {bad : ℕ} → bad ≡ first_bad ws h 4 → bad < 4 + h → sign_of (refuse 1 bad) ≡ signature ws
-  kind_bad is low = rw (is, b.heads_read, b.globals_read, b.equals_read, b.flag_read, kinds_bad ws h 4 (omega arith)) refl
+  pub kind_bad : {bad : ℕ} → bad ≡ first_bad ws (4 + g.heads - 4) 4 → bad < 4 + g.heads → refuse 1 bad ≡ signature ws
+  kind_bad is low =
+      let bad_is = asked ws g.heads is in
+      rw (bad_is, b.heads_read, b.globals_read, b.equals_read, b.flag_read, kinds_bad ws g.heads 4 (omega arith)) refl
 
 -- all the kinds are there
-pub record Kinds (ws : List ℕ) (h g v f : ℕ) : Type 0 where
-  pub begins : Begins ws h g v f
-  pub good : first_bad ws h 4 ≡ 4 + h
-  pub inside : 4 + h ≤ length ws
-  pub equals : v < h
+pub record Kinds (ws : List ℕ) (g : Sign) : Type 0 where
+  pub begins : Begins ws g
+  pub good : first_bad ws g.heads 4 ≡ 4 + g.heads
+  pub inside : 4 + g.heads ≤ length ws
+  pub equals : g.equals < g.heads
 
 -- no index is bad
-pub none_bad : {ws : List ℕ} {h g v f bad : ℕ} → Begins ws h g v f → bad ≡ first_bad ws h 4 → 4 + h ≤ bad → Kinds ws h g v f
-none_bad {ws} {h} b is l =
-    let e : first_bad ws h 4 ≡ 4 + h = omega (arith, first_bad_most ws h 4) in
+pub none_bad : {ws : List ℕ} {g : Sign} {bad : ℕ} → Begins ws g → bad ≡ first_bad ws (4 + g.heads - 4) 4 → 4 + g.heads ≤ bad → Kinds ws g
+none_bad {ws} {g} b is l =
+    let e : first_bad ws g.heads 4 ≡ 4 + g.heads = omega (arith, first_bad_most ws g.heads 4, asked ws g.heads is) in
     let i = begins_inside b in
-    let last = is_kind_inside ws (3 + h) (all_good ws h 4 (h - 1) (3 + h) e (omega arith) (omega arith)) in
+    let last = is_kind_inside ws (3 + g.heads) (all_good ws g.heads 4 (g.heads - 1) (3 + g.heads) e (omega arith) (omega arith)) in
     record { begins = b; good = e; inside = omega arith; equals = i.2 }
 
-module _ {ws : List ℕ} {h g v f : ℕ} (k : Kinds ws h g v f) where
-  abbrev b : Begins ws h g v f
+module _ {ws : List ℕ} {g : Sign} (k : Kinds ws g) where
+  abbrev b : Begins ws g
   b = k.begins
 
-  pub surplus_bad : 4 + h < length ws → sign_of (refuse 1 (4 + h)) ≡ signature ws
-  surplus_bad l = rw (b.heads_read, b.globals_read, b.equals_read, b.flag_read, kinds_good ws h 4 k.good, ne_eqb (length ws) (4 + h) (λ e. omega arith)) refl
+  pub surplus_bad : 4 + g.heads < length ws → refuse 1 (4 + g.heads) ≡ signature ws
+  surplus_bad l = rw (b.heads_read, b.globals_read, b.equals_read, b.flag_read, kinds_good ws g.heads 4 k.good, ne_eqb (length ws) (4 + g.heads) (λ e. omega arith)) refl
 
   -- w is the word of the value-eq head's kind
-  module _ {w : ℕ} (whole : length ws ≡ 4 + h) (is : w ≡ get_or ws (4 + v) 0) where
-    test : (t : Bool) → eqb w (signature_base + 2) ≡ t → eqb (get_or (kinds_from ws h 4) v 0) 2 ≡ t
-    test t e = kind_test ws h v 2 k.good k.equals ∙ ap (λ (u : ℕ). eqb u (signature_base + 2)) (sym is) ∙ e
+  module _ {w : ℕ} (whole : length ws ≡ 4 + g.heads) (is : w ≡ get_or ws (4 + g.equals) 0) where
+    test : (t : Bool) → eqb w (signature_base + 2) ≡ t → eqb (get_or (kinds_from ws g.heads 4) g.equals 0) 2 ≡ t
+    test t e = kind_test ws g.heads g.equals 2 k.good k.equals ∙ ap (λ (u : ℕ). eqb u (signature_base + 2)) (sym is) ∙ e
 
-    pub equals_no_primitive : ¬ (w ≡ signature_base + 2) → sign_of (refuse 1 2) ≡ signature ws
+    pub equals_no_primitive : ¬ (w ≡ signature_base + 2) → refuse 1 2 ≡ signature ws
     equals_no_primitive n =
         let no = test false (ne_eqb w (signature_base + 2) n) in
-        rw (b.heads_read, b.globals_read, b.equals_read, b.flag_read, kinds_good ws h 4 k.good, eq-eqb (length ws) (4 + h) whole, no) refl
+        rw (b.heads_read, b.globals_read, b.equals_read, b.flag_read, kinds_good ws g.heads 4 k.good, eq-eqb (length ws) (4 + g.heads) whole, no) refl
 
-    pub signature_read : w ≡ signature_base + 2 → record { refused = 0; place = 0; heads = h; globals = g; equals = v; flag = eqb f 1 } ≡ signature ws
+    pub signature_read : w ≡ signature_base + 2 → ok g ≡ signature ws
     signature_read y =
         let yes = test true (eq-eqb w (signature_base + 2) y) in
-        rw (b.heads_read, b.globals_read, b.equals_read, b.flag_read, kinds_good ws h 4 k.good, eq-eqb (length ws) (4 + h) whole, yes, length_kinds_from ws h 4) refl
+        rw (b.heads_read, b.globals_read, b.equals_read, b.flag_read, kinds_good ws g.heads 4 k.good, eq-eqb (length ws) (4 + g.heads) whole, yes, length_kinds_from ws g.heads 4, ← b.flag_is) refl

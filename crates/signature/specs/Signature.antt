@@ -1,22 +1,14 @@
 -- 01, "Words and records": what the readers of a signature answer, by the definition of reading it.
 -- Assumes nothing: these are definitions.
-use Rattle.std.specs.Prelude.{ℕ, zero, suc, ◌≡◌, Bool, true, false, ◌&&◌, cond, List, length, get_or, ltb}
+use Rattle.std.specs.Prelude.{ℕ, zero, suc, ◌≡◌, Bool, true, ◌&&◌, cond, List, length, get_or, ltb, eqb}
 use Rattle.rules.specs.Words.{limit12, signature_base, within}
-use Rattle.rules.specs.Refusals.{Res, ok, refuse, bad_signature}
+use Rattle.rules.specs.Refusals.{ok}
 use Rattle.rules.specs.Signature.{Sig, heads, payload_at}
 use Rattle.signature.specs.declared.Signature.{Signature}
-use Rattle.signature.specs.declared.Payload.{Payload}
-use Rattle.signature.specs.declared.Payload.TheVariants.{Fits, Unfit}
 
--- the struct for a signature that was read or turned back. The kinds stay in the words
-abbrev pub sign_of : Res Sig → Signature
-sign_of (ok s) = record { refused = 0; place = 0; heads = heads s; globals = s.globals; equals = s.value_eq; flag = s.flag }
-sign_of (refuse n p) = record { refused = n; place = p; heads = 0; globals = 0; equals = 0; flag = false }
-
--- a payload of the first words, for each case at p: the number, or refusal 1 there
-abbrev pub payload_says : Payload → (p : ℕ) → Res ℕ
-payload_says (Fits n) p = ok n
-payload_says Unfit p = refuse bad_signature p
+-- the struct for a signature that was read. The kinds stay in the words
+abbrev pub sign_of : Sig → Signature
+sign_of s = record { heads = heads s; globals = s.globals; equals = s.value_eq; flag = s.flag }
 
 -- a kind of a head stands at an index
 abbrev pub is_kind_at : List ℕ → ℕ → Bool
@@ -33,8 +25,10 @@ first_bad ws zero p = p
 first_bad ws (suc n) p = cond (is_kind_at ws p) (first_bad ws n (suc p)) p
 
 -- the first four words are good: H, G, the value-eq head and the flag
-pub record Begins (ws : List ℕ) (h g v f : ℕ) : Type 0 where
-  pub heads_read : payload_at ws 1 limit12 0 ≡ ok h
-  pub globals_read : payload_at ws 0 (suc limit12) 1 ≡ ok g
-  pub equals_read : payload_at ws 0 h 2 ≡ ok v
-  pub flag_read : payload_at ws 0 2 3 ≡ ok f
+pub record Begins (ws : List ℕ) (g : Signature) : Type 0 where
+  pub heads_read : payload_at ws 1 limit12 0 ≡ ok g.heads
+  pub globals_read : payload_at ws 0 (suc limit12) 1 ≡ ok g.globals
+  pub equals_read : payload_at ws 0 g.heads 2 ≡ ok g.equals
+  pub flag_word : ℕ
+  pub flag_read : payload_at ws 0 2 3 ≡ ok flag_word
+  pub flag_is : g.flag ≡ eqb flag_word 1

@@ -56,10 +56,11 @@ module _ {ws : List ℕ} {p : ℕ} {w : Option Word} (read : WordSays w ws p) wh
   unfolding word_at
   other_than k o = record { other = λ l. rw (lt-ltb p (length ws) l) at (rw (word_is_lem read) at o) }
 
-  -- the other branch of a `let Some(Word::K(..)) = w else`: no word is there that says something, or it is of another kind. At a numeral k the premise
-  -- between is `tt`
+  -- The other branch of a `let Some(Word::K(..)) = w else`: nothing that says something is there, or (`not_kind`) it is of another kind
   pub none_there : (k : ℕ) → eqb 8 k ≡ false → w ≡ None → NotKind ws p k
   none_there k t e = other_than k (rw e t)
 
-  pub not_kind : {x : Word} → w ≡ Some x → (k : ℕ) → T (not (has_key (others k) k)) → OneOf (others k) (tag_of the_type x) → NotKind ws p k
-  not_kind {x} e k t h = other_than k (rw e (other_kind k x t h))
+-- at a numeral k the premise between is `tt`
+pub not_kind : {ws : List ℕ} {p : ℕ} {x : Word} → WordSays (Some x) ws p → (k : ℕ) → T (not (has_key (others k) k)) → OneOf (others k) (tag_of the_type x)
+    → NotKind ws p k
+not_kind {x = x} read k t h = other_than read k (other_kind k x t h)

@@ -10,7 +10,7 @@ use Rattle.signature.proofs.all_kinds.Goals as goal
 
 pub loop-i-init : goal.loop-i-init
 unfolding all_kinds
-loop-i-init c = (omega arith, omega arith, refl)
+loop-i-init c = refl
 
 pub loop-i-preserved : goal.loop-i-preserved
 loop-i-preserved c =
@@ -19,9 +19,9 @@ loop-i-preserved c =
     let i = l.i in
     let more : suc i - 4 ≡ suc (i - 4) = omega arith in
     let here : c.is_kind-good.result ≡ is_kind_at ws i = kind_here ws i (omega arith) c.get.ensures.is c.is_kind-good.ensures in
-    (omega arith, omega arith, rw (add-one, more, all_kinds_next ws (i - 4) 4 i (omega arith), ← here, ← l.invariant.2) refl)
+    rw (add-one, more, all_kinds_next ws (i - 4) 4 i (omega arith), ← here, ← l.invariant) refl
 
 pub returns : goal.returns
 returns c =
     let l = c.loop-i in
-    let e : l.i ≡ c.args.end = omega arith in rw e at l.invariant.2
+    let e : l.i ≡ c.args.end = omega arith in rw e at l.invariant

@@ -10,25 +10,25 @@ use Rattle.signature.proofs.Laws.{first_bad_next, first_bad_here, first_bad_none
 use Rattle.signature.proofs.find_bad.Goals as goal
 
 pub loop-i-init : goal.loop-i-init
-loop-i-init c = (omega arith, omega arith, refl)
+loop-i-init c = refl
 
 pub returns-then-not-is_kind : goal.returns-then-not-is_kind
 returns-then-not-is_kind c =
     let ws : List ℕ = words c.args.signature.now in
     let is_here : c.is_kind.result ≡ is_kind_at ws c.loop-i.i = kind_here ws c.loop-i.i (omega arith) c.get.ensures.is c.is_kind.ensures in
-    sym (first_bad_here ws (c.args.end - c.loop-i.i) (c.args.end - suc c.loop-i.i) c.loop-i.i (omega arith) (sym is_here ∙ c.if-not-is_kind.true)) ∙ c.loop-i.invariant.2
+    sym (first_bad_here ws (c.args.end - c.loop-i.i) (c.args.end - suc c.loop-i.i) c.loop-i.i (omega arith) (sym is_here ∙ c.if-not-is_kind.true)) ∙ c.loop-i.invariant
 
 pub loop-i-preserved : goal.loop-i-preserved
 loop-i-preserved c =
     let ws : List ℕ = words c.args.signature.now in
     let is_here : c.is_kind.result ≡ is_kind_at ws c.loop-i.i = kind_here ws c.loop-i.i (omega arith) c.get.ensures.is c.is_kind.ensures in
     let next = first_bad_next ws (c.args.end - c.loop-i.i) (c.args.end - suc c.loop-i.i) c.loop-i.i (omega arith) (sym is_here ∙ c.if-not-is_kind.false) in
-    (omega arith, omega arith, rw add-one (sym next ∙ c.loop-i.invariant.2))
+    rw add-one (sym next ∙ c.loop-i.invariant)
 
 -- ---- all are kinds
 
 pub returns : goal.returns
 returns c =
     let a = c.args in
-    let l = c.loop-i in
-    sym (first_bad_none (words a.signature.now) (a.end - l.i) l.i (omega arith)) ∙ l.invariant.2
+    let e : a.end ≡ c.loop-i.i = omega (arith, c.loop-i.auto.i-end) in
+    e ∙ sym (first_bad_none (words a.signature.now) (a.end - c.loop-i.i) c.loop-i.i (omega arith)) ∙ c.loop-i.invariant

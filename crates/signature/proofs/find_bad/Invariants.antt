@@ -1,11 +1,8 @@
 use mathlib.Core.Path.{◌≡◌}
-use Prim.Native.Nat.{◌-◌, ◌≤◌}
+use Prim.Native.Nat.{◌-◌}
 use Rattle.octets.specs.Words.{words}
 use Rattle.signature.specs.Signature.{first_bad}
 use Rattle.signature.proofs.find_bad.Given as goal
 
 abbrev pub invariant-loop-i : goal.invariant-loop-i
-invariant-loop-i l = (4 ≤ l.i) × (l.i ≤ l.end) × (first_bad (words l.signature) (l.end - l.i) l.i ≡ first_bad (words l.signature) (l.end - 4) 4)
-
-abbrev pub decreases-loop-i : goal.decreases-loop-i
-decreases-loop-i l = l.end - l.i
+invariant-loop-i l = first_bad (words l.signature) (l.end - l.i) l.i ≡ first_bad (words l.signature) (l.end - 4) 4
