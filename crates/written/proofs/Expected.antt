@@ -8,19 +8,19 @@ use native.Mathlib.Nat.{min-le_left, min-le_right, le-min, eq-or-lt_of_le}
 use native.Mathlib.Numerals.{add-one}
 use native.Mathlib.Omega.{arith}
 use lib.ListN.{length, get_or, length-replicate}
-use lib.Dec.{ltb, eqb, lit<}
+use lib.Dec.{ltb, eqb}
 use borrow.Author.Tests.{ltb-true, ltb-false, lt-ltb, le-ltb, ne_eqb, eqb-true}
 use Rattle.rules.specs.Words.{limit12, is_head_word, is_header_word, count_of, facts_of, actions_of, action_word, Code, a_delete, a_subsume, a_call, an_expression, no_code, code_of}
 use Rattle.rules.specs.Refusals.{Res, ok, refuse, ◌>>=◌, demand, unfit}
 use Rattle.rules.specs.Signature.{heads}
 use Rattle.rules.specs.Written.{Read, Reader, read_word, read_row, code_at, all_read}
+use Rattle.std.specs.Prelude.{Some}
 use Rattle.words.specs.Word.{kind}
 use Rattle.words.specs.declared.Word.{Word}
 use Rattle.words.specs.declared.Word.TheVariants.{Head, Header, Action}
 use Rattle.words.proofs.WordAt.{There, NotKind}
 use Rattle.words.proofs.WordLaws.{word_of, header_kind, header_numbers, head_numbers, head_below, no_head, no_action, said}
-use Rattle.written.specs.declared.Ending.{Ending}
-use Rattle.written.specs.Written.{with_heads, ending, ending_of}
+use Rattle.written.specs.Written.{with_heads, ending_of}
 use Rattle.written.proofs.Walking.{Went, went_then, went_made, went_word, went_row, stops, both, then_same, then_then, Whole}
 
 -- ---- it is taken, or refused
@@ -38,16 +38,16 @@ module _ (fits : ℕ → Bool) where
 
   -- a word of one kind
   module _ (k : ℕ) (test : (w : ℕ) → fits w ≡ eqb (kind (word_of w)) k) {ws : List ℕ} {p : ℕ} where
-    pub kind_fits : {x : Word} → There ws p x → eqb (kind x) k ≡ true → read_word ws fits p ≡ ok (record { value = get_or ws p 0; at = suc p })
+    pub kind_fits : {x : Word} → There ws p x → eqb (kind (Some x)) k ≡ true → read_word ws fits p ≡ ok (record { value = get_or ws p 0; at = suc p })
     kind_fits t same = word_fits ws p t.inside (test (get_or ws p 0) ∙ rw t.says same)
 
     pub kind_unfit : NotKind ws p k → read_word ws fits p ≡ refuse unfit p
     kind_unfit n = word_unfit ws p (λ l. test (get_or ws p 0) ∙ n.other l)
 
-    pub kind_taken : {x : Word} → There ws p x → eqb (kind x) k ≡ true → ending 0 (p + 1) ≡ ending_of (read_word ws fits p)
+    pub kind_taken : {x : Word} → There ws p x → eqb (kind (Some x)) k ≡ true → ok (p + 1) ≡ ending_of (read_word ws fits p)
     kind_taken t same = rw (kind_fits t same, add-one p) refl
 
-    pub kind_refused : NotKind ws p k → ending unfit p ≡ ending_of (read_word ws fits p)
+    pub kind_refused : NotKind ws p k → refuse unfit p ≡ ending_of (read_word ws fits p)
     kind_refused n = rw (kind_unfit n) refl
 
 -- ---- a head below H
@@ -66,8 +66,8 @@ with_below H h small = rw (heads_with H) (go (ltb h H) refl)
     go true e = lt-ltb h (min H limit12) (le-min (ltb-true h H e) small)
     go false e = let l = ltb-false h H e in le-ltb h (min H limit12) (omega (arith, min-le_left H limit12))
 
-pub head_with : (H w h n : ℕ) → word_of w ≡ Head h n → is_head_word (heads (with_heads H)) w ≡ ltb h H
-head_with H w h n says = head_below w h n says (heads (with_heads H)) ∙ with_below H h (said w says (lit< tt)).1.0
+pub head_with : (H w h n : ℕ) → word_of w ≡ Some (Head h n) → is_head_word (heads (with_heads H)) w ≡ ltb h H
+head_with H w h n says = head_below w h n says (heads (with_heads H)) ∙ with_below H h (said w says).1.0
 
 abbrev head_read : (H : ℕ) → List ℕ → ℕ → Res (Read ℕ)
 head_read H ws p = read_word ws (is_head_word (heads (with_heads H))) p
@@ -121,10 +121,10 @@ module _ {ws : List ℕ} {p : ℕ} where
       go false e = refl
 
   pub code_there : {n : ℕ} → There ws p (Action n) → code_at ws p ≡ code_of (action_word n)
-  code_there {n} t = rw (lt-ltb p (length ws) t.inside, (said (get_or ws p 0) t.says (lit< tt)).0) refl
+  code_there {n} t = rw (lt-ltb p (length ws) t.inside, (said (get_or ws p 0) t.says).0) refl
 
   -- the walk by the code that the word says is the walk over the action
-  module _ {A : Type 0} (by : Code → Res (Read A)) {n : ℕ} (t : There ws p (Action n)) {z : Ending} where
+  module _ {A : Type 0} (by : Code → Res (Read A)) {n : ℕ} (t : There ws p (Action n)) {z : Res ℕ} where
     pub by_code : z ≡ ending_of (by (code_of (action_word n))) → z ≡ ending_of (by (code_at ws p))
     by_code e = e ∙ ap (λ (k : Code). ending_of (by k)) (sym (code_there t))
 
@@ -172,7 +172,7 @@ module _ {A B C : Type 0} (ws : List ℕ) (f : List A → List B → C) (one : R
   abbrev read : Reader C
   read = read_headed ws f one two
 
-  pub header_other : {p : ℕ} → NotKind ws p 5 → ending unfit p ≡ ending_of (read p)
+  pub header_other : {p : ℕ} → NotKind ws p 5 → refuse unfit p ≡ ending_of (read p)
   header_other n = rw (kind_unfit is_header_word 5 header_kind n) refl
 
   module _ {p a b : ℕ} (t : There ws p (Header a b)) where
@@ -184,13 +184,11 @@ module _ {A B C : Type 0} (ws : List ℕ) (f : List A → List B → C) (one : R
         let n = header_numbers (get_or ws p 0) a b t.says in
         rw (kind_fits is_header_word 5 header_kind t refl, n.0, n.1) refl
 
-    pub first_stops : {w : Ending} → w ≡ ending_of (read_row one a (p + 1)) → ¬ (w.refused ≡ 0) → w ≡ ending_of (read p)
-    first_stops e h = rw header_read (stops (read_row one a (suc p)) rest (rw (add-one p) at e) h)
+    pub first_stops : {m q : ℕ} → refuse m q ≡ ending_of (read_row one a (p + 1)) → refuse m q ≡ ending_of (read p)
+    first_stops e = rw header_read (stops (read_row one a (suc p)) rest (rw (add-one p) at e))
 
-    pub then_second : {w z : Ending} → w ≡ ending_of (read_row one a (p + 1)) → w.refused ≡ 0 → z ≡ ending_of (read_row two b w.at) → z ≡ ending_of (read p)
-    then_second e h g =
-        rw header_read
-        (both ws (suc p) 0 (read_row one a (suc p)) (read_row two b) (λ xs ys. f xs.value ys.value) (went_row ws one went a (suc p)) (rw (add-one p) at e) h g)
+    pub then_second : {q : ℕ} {z : Res ℕ} → ok q ≡ ending_of (read_row one a (p + 1)) → z ≡ ending_of (read_row two b q) → z ≡ ending_of (read p)
+    then_second e g = rw header_read (both (read_row one a (suc p)) (read_row two b) (λ xs ys. f xs.value ys.value) (rw (add-one p) at e) g)
 
   -- where it ends, if each of the second row goes on too
   module _ (went2 : (p : ℕ) → Went ws p 1 (two p)) where

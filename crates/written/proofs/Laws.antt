@@ -6,7 +6,7 @@ use Prim.Native.Nat.{ℕ, zero, suc, ◌+◌, ◌-◌, ◌*◌, ◌/◌, ◌%◌
 use native.Mathlib.Numerals.{add-one}
 use native.Mathlib.Omega.{arith}
 use lib.ListN.{length, get_or}
-use lib.Dec.{ltb, eqb, lit<}
+use lib.Dec.{ltb, eqb}
 use lib.Count.{count_leading_zeros}
 use borrow.Author.Tests.{ltb-true, ltb-false, lt-ltb, le-ltb, ne_eqb, eq-eqb, eqb-true}
 use Rattle.rules.specs.Words.{limit12, limit16, max_depth, name_base, literal_base, head_base, equality_word, action_word, is_name_word, is_literal_word, is_head_word}
@@ -20,10 +20,8 @@ use Rattle.words.specs.declared.Word.TheVariants.{Name, Literal, Head, Equality,
 use Rattle.words.proofs.Ranges.{kind_from, kind_below, true_within, false_below, false_above, heads_below}
 use Rattle.words.proofs.WordLaws.{word_of, name_kind, literal_kind, equality_kind, said}
 use Rattle.meaning.proofs.Lists.{and_left, and_right}
-use Rattle.written.specs.declared.Ending.{Ending}
-use Rattle.written.specs.declared.Start.{Start}
-use Rattle.written.specs.declared.Start.TheVariants.{Takes, Other}
-use Rattle.written.specs.Written.{with_heads, ending, ending_of, leaf_end, start_says, taken, taken_at, Starts}
+use Rattle.std.specs.Prelude.{Option, Some, None}
+use Rattle.written.specs.Written.{with_heads, ending_of, or_unfit, leaf_end, taken, taken_at, Starts}
 use Rattle.written.proofs.Walking.{made, then_made, moved, just_one, last_one, left_start, left_stops, left_next, left_on, none_left}
 use Rattle.written.proofs.Ends.{exprs}
 use Rattle.words.proofs.WordAt.{Here, There, NotKind}
@@ -32,9 +30,9 @@ use Rattle.written.proofs.Expected.{no_code_lem, as_code, change_code, NoneOf, l
 
 -- ---- an expression, by how it begins
 
-pub starts : {s : Sig} {ws : List ℕ} {p n : ℕ} {x : Start} → start_says x p ≡ taken_at s ws p → x ≡ Takes n → Starts s ws p n
+pub starts : {s : Sig} {ws : List ℕ} {p n : ℕ} {x : Option ℕ} → or_unfit (λ n. n) x p ≡ taken_at s ws p → x ≡ Some n → Starts s ws p n
 starts {s} {ws} {p} {n} read is =
-    let h : taken_at s ws p ≡ ok n = sym read ∙ ap (λ (y : Start). start_says y p) is in
+    let h : taken_at s ws p ≡ ok n = sym read ∙ ap (λ (y : Option ℕ). or_unfit (λ n. n) y p) is in
     record { takes = h; inside = go (ltb p (length ws)) refl h }
   where
     go : (b : Bool) → ltb p (length ws) ≡ b → taken (cond b (shape s (get_or ws p 0)) is_bad) (get_or ws p 0) p ≡ ok n → p < length ws
@@ -42,25 +40,25 @@ starts {s} {ws} {p} {n} read is =
     go false e h = let z : ◌≡◌ {A = ℕ} 0 1 = cc in absurd (omega arith)
 
 -- none begins there: 5 comes before 6
-pub no_expression : (s : Sig) (ws : List ℕ) (d p : ℕ) {x : Start} → start_says x p ≡ taken_at s ws p → x ≡ Other → ending unfit p ≡ ending_of (read_expr s ws d p)
-no_expression s ws zero p read is = go (shape_at s ws p) (sym read ∙ ap (λ (y : Start). start_says y p) is)
+pub no_expression : (s : Sig) (ws : List ℕ) (d p : ℕ) {x : Option ℕ} → or_unfit (λ n. n) x p ≡ taken_at s ws p → x ≡ None → refuse unfit p ≡ ending_of (read_expr s ws d p)
+no_expression s ws zero p read is = go (shape_at s ws p) (sym read ∙ ap (λ (y : Option ℕ). or_unfit (λ n. n) y p) is)
   where
-    go : (sh : Shape) → taken sh (get_or ws p 0) p ≡ refuse unfit p → ending unfit p ≡ ending_of (read_shape sh true (λ n q. refuse too_deep q) (get_or ws p 0) p)
+    go : (sh : Shape) → taken sh (get_or ws p 0) p ≡ refuse unfit p → refuse unfit p ≡ ending_of (read_shape sh true (λ n q. refuse too_deep q) (get_or ws p 0) p)
     go is_leaf h = cc
     go is_call h = cc
     go is_bad h = refl
-no_expression s ws (suc d) p read is = go (shape_at s ws p) (sym read ∙ ap (λ (y : Start). start_says y p) is)
+no_expression s ws (suc d) p read is = go (shape_at s ws p) (sym read ∙ ap (λ (y : Option ℕ). or_unfit (λ n. n) y p) is)
   where
-    go : (sh : Shape) → taken sh (get_or ws p 0) p ≡ refuse unfit p → ending unfit p ≡ ending_of (read_shape sh false (λ n q. read_many (λ r. read_expr s ws d r) n q) (get_or ws p 0) p)
+    go : (sh : Shape) → taken sh (get_or ws p 0) p ≡ refuse unfit p → refuse unfit p ≡ ending_of (read_shape sh false (λ n q. read_many (λ r. read_expr s ws d r) n q) (get_or ws p 0) p)
     go is_leaf h = cc
     go is_call h = cc
     go is_bad h = refl
 
 module _ {s : Sig} {ws : List ℕ} {p n : ℕ} (b : Starts s ws p n) where
-  pub too_deep_lem : (d : ℕ) → d ≡ 0 → ending too_deep p ≡ ending_of (read_expr s ws d p)
+  pub too_deep_lem : (d : ℕ) → d ≡ 0 → refuse too_deep p ≡ ending_of (read_expr s ws d p)
   too_deep_lem zero z = go (shape_at s ws p) b.takes
     where
-      go : (sh : Shape) → taken sh (get_or ws p 0) p ≡ ok n → ending too_deep p ≡ ending_of (read_shape sh true (λ n q. refuse too_deep q) (get_or ws p 0) p)
+      go : (sh : Shape) → taken sh (get_or ws p 0) p ≡ ok n → refuse too_deep p ≡ ending_of (read_shape sh true (λ n q. refuse too_deep q) (get_or ws p 0) p)
       go is_leaf h = refl
       go is_call h = refl
       go is_bad h = cc
@@ -97,20 +95,20 @@ last_told left n deep h =
     (eqb-true left 0 (and_left (eqb left 0) (ltb 0 n) both), ltb-true 0 deep (and_right (eqb left 0 && ltb 0 n) (ltb 0 deep) h))
 
 module _ {s : Sig} {ws : List ℕ} {depth count at deep left next : ℕ} (r : Rest s ws depth count at deep left next) where
-  pub rest_end : left ≡ 0 → ending 0 next ≡ ending_of (read_many (read_expr s ws depth) count at)
+  pub rest_end : left ≡ 0 → ok next ≡ ending_of (read_many (read_expr s ws depth) count at)
   rest_end z = none_left (exprs s ws deep) left next z ∙ r.same
 
-  module _ {w : Ending} (e : w ≡ ending_of (read_expr s ws deep next)) where
-    pub rest_stops : 0 < left → ¬ (w.refused ≡ 0) → w ≡ ending_of (read_many (read_expr s ws depth) count at)
-    rest_stops some h = left_stops (left_start {k = exprs s ws deep}) some e h ∙ r.same
+  pub rest_stops : {m p : ℕ} → 0 < left → refuse m p ≡ ending_of (read_expr s ws deep next) → refuse m p ≡ ending_of (read_many (read_expr s ws depth) count at)
+  rest_stops some e = left_stops (left_start {k = exprs s ws deep}) some e ∙ r.same
 
-    pub rest_on : w.refused ≡ 0 → next < w.at
-    rest_on h = left_on (left_start {k = exprs s ws deep} {count = left} {at = next}) e h
+  module _ {q : ℕ} (e : ok q ≡ ending_of (read_expr s ws deep next)) where
+    pub rest_on : next < q
+    rest_on = left_on (left_start {k = exprs s ws deep} {count = left} {at = next}) e
 
-    pub rest_next : 0 < left → w.refused ≡ 0 → Rest s ws depth count at deep (left - 1) w.at
-    rest_next some h =
-        let further = rest_on h in
-        record { same = (left_next (left_start {k = exprs s ws deep}) some e h).same ∙ r.same; on = omega (arith, r.on); down = r.down }
+    pub rest_next : 0 < left → Rest s ws depth count at deep (left - 1) q
+    rest_next some =
+        let further = rest_on in
+        record { same = (left_next (left_start {k = exprs s ws deep}) some e).same ∙ r.same; on = omega (arith, r.on); down = r.down }
 
   -- the last one's arguments stand for it
   pub rest_last : {n : ℕ} → Starts s ws next n → 0 < left → left - 1 ≡ 0 → 0 < deep → Rest s ws depth count at (deep - 1) n (next + 1)
@@ -122,47 +120,47 @@ module _ {s : Sig} {ws : List ℕ} {depth count at deep left next : ℕ} (r : Re
 -- ---- how it begins, by the range that its word lies in
 
 -- no word is there
-pub start_missing : (s : Sig) (ws : List ℕ) (p : ℕ) → length ws ≤ p → start_says Other p ≡ taken_at s ws p
+pub start_missing : (s : Sig) (ws : List ℕ) (p : ℕ) → length ws ≤ p → or_unfit (λ n. n) None p ≡ taken_at s ws p
 start_missing s ws p l = rw (le-ltb p (length ws) l)
 
 -- w is the word there
 module _ (H : ℕ) {ws : List ℕ} {p w : ℕ} (k : Here ws p w) where
   -- what an answer for it is
-  abbrev Begins : Start → Type 0
-  Begins x = start_says x p ≡ taken_at (with_heads H) ws p
+  abbrev Begins : Option ℕ → Type 0
+  Begins x = or_unfit (λ n. n) x p ≡ taken_at (with_heads H) ws p
 
-  begins : (x : Start) (sh : Shape) → shape (with_heads H) w ≡ sh → start_says x p ≡ taken sh w p → Begins x
+  begins : (x : Option ℕ) (sh : Shape) → shape (with_heads H) w ≡ sh → or_unfit (λ n. n) x p ≡ taken sh w p → Begins x
   begins x sh e h = rw (← k.is, lt-ltb p (length ws) k.inside, e) h
 
-  no_start : is_name_word w ≡ false → is_literal_word w ≡ false → is_head_word (heads (with_heads H)) w ≡ false → Begins Other
-  no_start n l h = begins Other is_bad (simp (n, l, h)) refl
+  no_start : is_name_word w ≡ false → is_literal_word w ≡ false → is_head_word (heads (with_heads H)) w ≡ false → Begins None
+  no_start n l h = begins None is_bad (simp (n, l, h)) refl
 
   -- neither the names nor the literals nor the heads reach so far
-  start_high : literal_base + limit16 ≤ w → is_name_word w ≡ false → Begins Other
+  start_high : literal_base + limit16 ≤ w → is_name_word w ≡ false → Begins None
   start_high lo n =
       let most = heads_most H in
       no_start n (false_above literal_base limit16 w lo) (false_above head_base (heads (with_heads H) * limit16) w (omega arith))
 
-  pub start_low : w < head_base → Begins Other
+  pub start_low : w < head_base → Begins None
   start_low low =
       no_start (false_below name_base limit12 w (omega arith)) (false_below literal_base limit16 w (omega arith))
       (false_below head_base (heads (with_heads H) * limit16) w low)
 
   -- from the literals up, the end of its kind tells whether it is a leaf
   module _ (h : w < 2 ^ 32) (leaf : count_leading_zeros 32 w < 3) where
-    pub start_leaf : w < leaf_end (count_leading_zeros 32 w) → Begins (Takes 0)
+    pub start_leaf : w < leaf_end (count_leading_zeros 32 w) → Begins (Some 0)
     start_leaf = go (ltb (count_leading_zeros 32 w) 2) refl
       where
-        go : (b : Bool) → ltb (count_leading_zeros 32 w) 2 ≡ b → w < cond b (name_base + limit12) (literal_base + limit16) → Begins (Takes 0)
-        go true e hi = begins (Takes 0) is_leaf (simp (true_within name_base limit12 w (kind_below 2 30 w refl h (ltb-true _ 2 e)) hi)) refl
+        go : (b : Bool) → ltb (count_leading_zeros 32 w) 2 ≡ b → w < cond b (name_base + limit12) (literal_base + limit16) → Begins (Some 0)
+        go true e hi = begins (Some 0) is_leaf (simp (true_within name_base limit12 w (kind_below 2 30 w refl h (ltb-true _ 2 e)) hi)) refl
         go false e hi =
             let other = false_below name_base limit12 w (kind_from 2 30 w refl h (ltb-false _ 2 e)) in
-            begins (Takes 0) is_leaf (simp (other, true_within literal_base limit16 w (kind_below 3 29 w refl h leaf) hi)) refl
+            begins (Some 0) is_leaf (simp (other, true_within literal_base limit16 w (kind_below 3 29 w refl h leaf) hi)) refl
 
-    pub start_no_leaf : leaf_end (count_leading_zeros 32 w) ≤ w → Begins Other
+    pub start_no_leaf : leaf_end (count_leading_zeros 32 w) ≤ w → Begins None
     start_no_leaf = go (ltb (count_leading_zeros 32 w) 2) refl
       where
-        go : (b : Bool) → ltb (count_leading_zeros 32 w) 2 ≡ b → cond b (name_base + limit12) (literal_base + limit16) ≤ w → Begins Other
+        go : (b : Bool) → ltb (count_leading_zeros 32 w) 2 ≡ b → cond b (name_base + limit12) (literal_base + limit16) ≤ w → Begins None
         go true e lo = start_high (omega arith) (false_above name_base limit12 w lo)
         go false e lo = start_high lo (false_below name_base limit12 w (kind_from 2 30 w refl h (ltb-false _ 2 e)))
 
@@ -177,13 +175,13 @@ module _ (H : ℕ) {ws : List ℕ} {p w : ℕ} (k : Here ws p w) where
     leaf_false : is_name_word w ≡ false
     leaf_false = false_below name_base limit12 w (omega arith)
 
-    pub start_head : w % head_base / limit16 < H → Begins (Takes (w % limit16))
+    pub start_head : w % head_base / limit16 < H → Begins (Some (w % limit16))
     start_head low =
         let same : w % limit16 ≡ (w - head_base) % limit16 = omega arith in
         let is = head_is ∙ lt-ltb _ H low in
-        begins (Takes (w % limit16)) is_call (simp (leaf_false, false_below literal_base limit16 w hi, is)) (rw same refl)
+        begins (Some (w % limit16)) is_call (simp (leaf_false, false_below literal_base limit16 w hi, is)) (rw same refl)
 
-    pub start_no_head : H ≤ w % head_base / limit16 → Begins Other
+    pub start_no_head : H ≤ w % head_base / limit16 → Begins None
     start_no_head high = no_start leaf_false (false_below literal_base limit16 w hi) (head_is ∙ le-ltb _ H high)
 
 -- ---- facts
@@ -222,26 +220,26 @@ module _ (s : Sig) {ws : List ℕ} {p : ℕ} where
 
   pub fact_equal : {n : ℕ} → There ws p (Equality n) → n ≡ 2 → ending_of (read_equal s ws p) ≡ ending_of (read_fact s ws p)
   fact_equal t two =
-      let is : get_or ws p 0 ≡ equality_word = (said (get_or ws p 0) t.says (lit< tt)).0 ∙ rw two refl in
+      let is : get_or ws p 0 ≡ equality_word = (said (get_or ws p 0) t.says).0 ∙ rw two refl in
       sym (fact_by s ws p true (rw (lt-ltb p (length ws) t.inside, eq-eqb (get_or ws p 0) equality_word is)))
 
-pub fact_odd : (H : ℕ) {ws : List ℕ} {p n : ℕ} → There ws p (Equality n) → ¬ (n ≡ 2) → ending unfit p ≡ ending_of (read_fact (with_heads H) ws p)
+pub fact_odd : (H : ℕ) {ws : List ℕ} {p n : ℕ} → There ws p (Equality n) → ¬ (n ≡ 2) → refuse unfit p ≡ ending_of (read_fact (with_heads H) ws p)
 fact_odd H {ws} {p} {n} t odd =
-    let is = (said (get_or ws p 0) t.says (lit< tt)).0 in
+    let is = (said (get_or ws p 0) t.says).0 in
     let other : eqb (get_or ws p 0) equality_word ≡ false = ne_eqb (get_or ws p 0) equality_word (λ e. odd (omega arith)) in
     let here : Here ws p (get_or ws p 0) = record { inside = t.inside; is = refl } in
-    let few = (said (get_or ws p 0) t.says (lit< tt)).1 in
+    let few = (said (get_or ws p 0) t.says).1 in
     let low = start_low H here (omega arith) in
     no_expression (with_heads H) ws max_depth p low refl ∙ sym (fact_by (with_heads H) ws p false (rw (lt-ltb p (length ws) t.inside, other)))
 
 -- ---- the kind 3 word of a set, a delete or a subsume
 
 module _ (H : ℕ) {ws : List ℕ} {p : ℕ} where
-  pub target_other : NotKind ws p 3 → ending unfit p ≡ ending_of (read_target (with_heads H) ws p)
+  pub target_other : NotKind ws p 3 → refuse unfit p ≡ ending_of (read_target (with_heads H) ws p)
   target_other n = rw (head_other H n) refl
 
   module _ {h n : ℕ} (t : There ws p (Head h n)) where
-    pub target_high : H ≤ h → ending unfit p ≡ ending_of (read_target (with_heads H) ws p)
+    pub target_high : H ≤ h → refuse unfit p ≡ ending_of (read_target (with_heads H) ws p)
     target_high high = rw (head_high H t high) refl
 
     pub target_goes : h < H → ending_of (read_many (read_expr (with_heads H) ws max_depth) n (p + 1)) ≡ ending_of (read_target (with_heads H) ws p)
@@ -251,24 +249,24 @@ module _ (H : ℕ) {ws : List ℕ} {p : ℕ} where
 -- ---- actions: q is the place behind the action word at p
 
 module _ (s : Sig) {ws : List ℕ} (p : ℕ) {q : ℕ} where
-  pub let_other : NotKind ws q 1 → ending unfit q ≡ ending_of (read_code s ws p a_let q)
+  pub let_other : NotKind ws q 1 → refuse unfit q ≡ ending_of (read_code s ws p a_let q)
   let_other n = rw (kind_unfit is_name_word 1 name_kind n) refl
 
   pub let_goes : {n : ℕ} → There ws q (Name n) → ending_of (read_expr s ws max_depth (q + 1)) ≡ ending_of (read_code s ws p a_let q)
   let_goes t = rw (kind_fits is_name_word 1 name_kind t refl, add-one q) (sym (made (read_expr s ws max_depth (suc q)) _))
 
-  pub panic_other : NotKind ws q 2 → ending unfit q ≡ ending_of (read_code s ws p a_panic q)
+  pub panic_other : NotKind ws q 2 → refuse unfit q ≡ ending_of (read_code s ws p a_panic q)
   panic_other n = rw (kind_unfit is_literal_word 2 literal_kind n) refl
 
-  pub panic_goes : {n : ℕ} → There ws q (Literal n) → ending 0 (q + 1) ≡ ending_of (read_code s ws p a_panic q)
+  pub panic_goes : {n : ℕ} → There ws q (Literal n) → ok (q + 1) ≡ ending_of (read_code s ws p a_panic q)
   panic_goes t = rw (kind_fits is_literal_word 2 literal_kind t refl, add-one q) refl
 
 module _ (H : ℕ) {ws : List ℕ} (p : ℕ) {q : ℕ} where
-  pub set_other : NotKind ws q 3 → ending unfit q ≡ ending_of (read_code (with_heads H) ws p a_set q)
+  pub set_other : NotKind ws q 3 → refuse unfit q ≡ ending_of (read_code (with_heads H) ws p a_set q)
   set_other n = rw (head_other H n) refl
 
   module _ {h n : ℕ} (t : There ws q (Head h n)) where
-    pub set_high : H ≤ h → ending unfit q ≡ ending_of (read_code (with_heads H) ws p a_set q)
+    pub set_high : H ≤ h → refuse unfit q ≡ ending_of (read_code (with_heads H) ws p a_set q)
     set_high high = rw (head_high H t high) refl
 
     -- a set's arguments and its value, as a row
@@ -286,15 +284,15 @@ abbrev by : Sig → List ℕ → ℕ → Code → Res (Read Act)
 by s ws p k = read_code s ws p k (suc p)
 
 module _ (s : Sig) {ws : List ℕ} {p : ℕ} where
-  pub action_other : NotKind ws p 6 → ending unfit p ≡ ending_of (read_action s ws p)
+  pub action_other : NotKind ws p 6 → refuse unfit p ≡ ending_of (read_action s ws p)
   action_other n = rw (no_code_lem n) refl
 
   module _ {n : ℕ} (t : There ws p (Action n)) where
-    pub action_by : (m : ℕ) → n ≡ m → {z : Ending} → z ≡ ending_of (read_code s ws p (code_of (action_word m)) (p + 1)) → z ≡ ending_of (read_action s ws p)
+    pub action_by : (m : ℕ) → n ≡ m → {z : Res ℕ} → z ≡ ending_of (read_code s ws p (code_of (action_word m)) (p + 1)) → z ≡ ending_of (read_action s ws p)
     action_by m same e = as_code (by s ws p) t m same (rw (add-one p) at e)
 
     -- a union ends where an equality of the same two does
-    pub union_goes : n ≡ 5 → {z : Ending} → z ≡ ending_of (read_equal s ws p) → z ≡ ending_of (read_action s ws p)
+    pub union_goes : n ≡ 5 → {z : Res ℕ} → z ≡ ending_of (read_equal s ws p) → z ≡ ending_of (read_action s ws p)
     union_goes five e = as_code (by s ws p) t 5 five (e ∙ go (read_expr s ws max_depth (suc p)))
       where
         go : (x : Res (Read Expr))
@@ -303,14 +301,14 @@ module _ (s : Sig) {ws : List ℕ} {p : ℕ} where
         go (ok a) = made (read_expr s ws max_depth a.at) _ ∙ sym (made (read_expr s ws max_depth a.at) _)
         go (refuse n p) = refl
 
-    pub expression_goes : n ≡ 8 → {z : Ending} → z ≡ ending_of (read_expr s ws max_depth (p + 1)) → z ≡ ending_of (read_action s ws p)
+    pub expression_goes : n ≡ 8 → {z : Res ℕ} → z ≡ ending_of (read_expr s ws max_depth (p + 1)) → z ≡ ending_of (read_action s ws p)
     expression_goes eight e = action_by 8 eight (e ∙ sym (made (read_expr s ws max_depth (p + 1)) _))
 
-    pub change_goes : 3 ≤ n → n < 5 → {z : Ending} → z ≡ ending_of (read_target s ws (p + 1)) → z ≡ ending_of (read_action s ws p)
+    pub change_goes : 3 ≤ n → n < 5 → {z : Res ℕ} → z ≡ ending_of (read_target s ws (p + 1)) → z ≡ ending_of (read_action s ws p)
     change_goes lo hi {z} e =
         let here : z ≡ ending_of (read_target s ws (suc p)) = rw (add-one p) at e in
         change_code (by s ws p) t lo hi (here ∙ sym (made (read_target s ws (suc p)) _)) (here ∙ sym (made (read_target s ws (suc p)) _))
 
     -- 7 is not written, and the other numbers are no codes
-    pub action_none : NoneOf n 8 → ending unfit p ≡ ending_of (read_action s ws p)
+    pub action_none : NoneOf n 8 → refuse unfit p ≡ ending_of (read_action s ws p)
     action_none k = last_code (by s ws p) t 8 k (λ e. refl) (λ e. absurd (k.last e)) refl

@@ -9,8 +9,7 @@ use lib.Dec.{ltb, lit≤}
 use borrow.Author.Tests.{ltb-true, le-leb, lt-leb}
 use Rattle.rules.specs.Refusals.{Res, ok, refuse, ◌>>=◌, demand, unfit}
 use Rattle.rules.specs.Written.{Expr, Exprs, ◌then◌, Read, Reader, read_word, read_many, read_row, all_read}
-use Rattle.written.specs.declared.Ending.{Ending}
-use Rattle.written.specs.Written.{ending, ending_of, whole_of}
+use Rattle.written.specs.Written.{ending_of, whole_of}
 
 -- ---- where a reading ends
 
@@ -64,21 +63,20 @@ module _ (ws : List ℕ) where
 -- ---- a walk follows the reading
 
 -- a refusal is the whole answer
-pub stops : {A B : Type 0} (x : Res (Read A)) (f : Read A → Res (Read B)) {w : Ending} → w ≡ ending_of x → ¬ (w.refused ≡ 0) → w ≡ ending_of (◌>>=◌ x f)
-stops (ok r) f e h = absurd (h (ap (λ (v : Ending). v.refused) e))
-stops (refuse n p) f e h = e
+pub stops : {A B : Type 0} (x : Res (Read A)) (f : Read A → Res (Read B)) {n p : ℕ} → refuse n p ≡ ending_of x → refuse n p ≡ ending_of (◌>>=◌ x f)
+stops (ok r) f e = cc
+stops (refuse n p) f e = e
 
--- and else the answer is that of the rest
-pub goes : {A B : Type 0} (ws : List ℕ) (p j : ℕ) (x : Res (Read A)) (f : Read A → Res (Read B)) {w z : Ending}
-    → Went ws p j x → w ≡ ending_of x → w.refused ≡ 0 → ((r : Read A) → r.at ≡ w.at → z ≡ ending_of (f r)) → z ≡ ending_of (◌>>=◌ x f)
-goes ws p j (ok r) f l e h g = g r (sym (ap (λ (v : Ending). v.at) e))
-goes ws p j (refuse n q) f l e h g = let z : n ≡ 0 = sym (ap (λ (v : Ending). v.refused) e) ∙ h in absurd (omega arith)
+-- and else the answer is that of the rest, from where it begins
+pub goes : {A B : Type 0} (x : Res (Read A)) (f : Read A → Res (Read B)) {q : ℕ} {z : Res ℕ}
+    → ok q ≡ ending_of x → ((r : Read A) → r.at ≡ q → z ≡ ending_of (f r)) → z ≡ ending_of (◌>>=◌ x f)
+goes (ok r) f {q} e g = let same : r.at ≡ q = cc in g r same
+goes (refuse n p) f e g = cc
 
--- and where it begins again is known
-ending_ends : {A : Type 0} (ws : List ℕ) (p j : ℕ) (x : Res (Read A)) {w : Ending}
-    → Went ws p j x → w ≡ ending_of x → w.refused ≡ 0 → (p + j ≤ w.at) × (w.at - p ≤ length ws - p)
-ending_ends ws p j (ok r) l e h = let same = ap (λ (v : Ending). v.at) e in (omega arith, omega arith)
-ending_ends ws p j (refuse n q) l e h = let z : n ≡ 0 = sym (ap (λ (v : Ending). v.refused) e) ∙ h in absurd (omega arith)
+-- which is known
+ending_ends : {A : Type 0} (ws : List ℕ) (p j : ℕ) (x : Res (Read A)) {q : ℕ} → Went ws p j x → ok q ≡ ending_of x → (p + j ≤ q) × (q - p ≤ length ws - p)
+ending_ends ws p j (ok r) {q} l e = let same : q ≡ r.at = cc in (omega arith, omega arith)
+ending_ends ws p j (refuse n r) l e = cc
 
 -- a value made of what was read ends where the reading did
 pub made : {A B : Type 0} (x : Res (Read A)) (f : Read A → B) → ending_of (◌>>=◌ x (λ r. ok (record { value = f r; at = r.at }))) ≡ ending_of x
@@ -86,18 +84,16 @@ made (ok r) f = refl
 made (refuse n p) f = refl
 
 -- one thing, then another, and a value made of both
-pub both : {A B C : Type 0} (ws : List ℕ) (p j : ℕ) (x : Res (Read A)) (one : Reader B) (f : Read A → Read B → C) {w z : Ending}
-    → Went ws p j x → w ≡ ending_of x → w.refused ≡ 0 → z ≡ ending_of (one w.at)
+pub both : {A B C : Type 0} (x : Res (Read A)) (one : Reader B) (f : Read A → Read B → C) {q : ℕ} {z : Res ℕ} → ok q ≡ ending_of x → z ≡ ending_of (one q)
     → z ≡ ending_of (◌>>=◌ x (λ a. ◌>>=◌ (one a.at) (λ b. ok (record { value = f a b; at = b.at }))))
-both ws p j x one f l e h g =
-    goes ws p j x (λ a. ◌>>=◌ (one a.at) (λ b. ok (record { value = f a b; at = b.at }))) l e h (λ r same. rw (made (one r.at) (f r), same) g)
+both x one f e g = goes x (λ a. ◌>>=◌ (one a.at) (λ b. ok (record { value = f a b; at = b.at }))) e (λ r same. rw (made (one r.at) (f r), same) g)
 
 -- ---- several things, one after the other
 
 -- a reader of n things, taken apart at the first
 pub record Several {A B : Type 0} (ws : List ℕ) (one : Reader A) (several : ℕ → Reader B) : Type 0 where
   pub went : (p : ℕ) → Went ws p 1 (one p)
-  pub none : (p : ℕ) → ending_of (several 0 p) ≡ ending 0 p
+  pub none : (p : ℕ) → ending_of (several 0 p) ≡ ok p
   pub more : (n p : ℕ) → ending_of (several (suc n) p) ≡ ending_of (◌>>=◌ (one p) (λ x. several n x.at))
 
 pub then_made : {A B C : Type 0} (x : Res (Read A)) (one : Reader B) (f : Read A → Read B → C)
@@ -121,31 +117,31 @@ module _ {A B : Type 0} {ws : List ℕ} {one : Reader A} {several : ℕ → Read
 
   -- the walk over the next of them
   module _ {count at left next : ℕ} (l : Left k count at left next) where
-    pub left_stops : {w : Ending} → 0 < left → w ≡ ending_of (one next) → ¬ (w.refused ≡ 0) → w ≡ ending_of (several count at)
-    left_stops {w} some e h = go left some ∙ l.same
+    pub left_stops : {m p : ℕ} → 0 < left → refuse m p ≡ ending_of (one next) → refuse m p ≡ ending_of (several count at)
+    left_stops {m} {p} some e = go left some ∙ l.same
       where
-        go : (n : ℕ) → 0 < n → w ≡ ending_of (several n next)
+        go : (n : ℕ) → 0 < n → refuse m p ≡ ending_of (several n next)
         go zero z = absurd (omega arith)
-        go (suc n) z = stops (one next) (λ x. several n x.at) e h ∙ sym (k.more n next)
+        go (suc n) z = stops (one next) (λ x. several n x.at) e ∙ sym (k.more n next)
 
-    pub left_next : {w : Ending} → 0 < left → w ≡ ending_of (one next) → w.refused ≡ 0 → Left k count at (left - 1) w.at
-    left_next {w} some e h = record { same = go left some ∙ l.same }
+    pub left_next : {q : ℕ} → 0 < left → ok q ≡ ending_of (one next) → Left k count at (left - 1) q
+    left_next {q} some e = record { same = go left some ∙ l.same }
       where
-        go : (n : ℕ) → 0 < n → ending_of (several (n - 1) w.at) ≡ ending_of (several n next)
+        go : (n : ℕ) → 0 < n → ending_of (several (n - 1) q) ≡ ending_of (several n next)
         go zero z = absurd (omega arith)
         go (suc n) z =
             let down : suc n - 1 ≡ n = omega arith in
-            goes ws next 1 (one next) (λ x. several n x.at) (k.went next) e h (λ r same. rw (down, same)) ∙ sym (k.more n next)
+            goes (one next) (λ x. several n x.at) e (λ r same. rw (down, same)) ∙ sym (k.more n next)
 
     -- and the one after it stands behind
-    pub left_on : {w : Ending} → w ≡ ending_of (one next) → w.refused ≡ 0 → next < w.at
-    left_on e h = omega (arith, (ending_ends ws next 1 (one next) (k.went next) e h).0)
+    pub left_on : {q : ℕ} → ok q ≡ ending_of (one next) → next < q
+    left_on e = omega (arith, (ending_ends ws next 1 (one next) (k.went next) e).0)
 
-    pub left_end : left ≡ 0 → ending 0 next ≡ ending_of (several count at)
+    pub left_end : left ≡ 0 → ok next ≡ ending_of (several count at)
     left_end none = sym (k.none next) ∙ ap (λ (n : ℕ). ending_of (several n next)) (sym none) ∙ l.same
 
 -- none is to be read
-pub none_left : {A B : Type 0} {ws : List ℕ} {one : Reader A} {several : ℕ → Reader B} (k : Several ws one several) (n p : ℕ) → n ≡ 0 → ending 0 p ≡ ending_of (several n p)
+pub none_left : {A B : Type 0} {ws : List ℕ} {one : Reader A} {several : ℕ → Reader B} (k : Several ws one several) (n p : ℕ) → n ≡ 0 → ok p ≡ ending_of (several n p)
 none_left k n p z = left_end {k = k} (left_start {k = k}) z
 
 -- ---- a row of expressions, and one more
@@ -191,27 +187,28 @@ pub record Whole {A : Type 0} (ws : List ℕ) (x : Res (Read A)) (y : Res A) : T
   pub went : Went ws 0 1 x
   pub is : y ≡ ◌>>=◌ x (all_read ws)
 
-module _ {A : Type 0} {ws : List ℕ} {x : Res (Read A)} {y : Res A} (k : Whole ws x y) {w : Ending} (e : w ≡ ending_of x) where
-  pub whole_stops : ¬ (w.refused ≡ 0) → w ≡ whole_of ws y
-  whole_stops h = rw k.is (go x e)
+module _ {A : Type 0} {ws : List ℕ} {x : Res (Read A)} {y : Res A} (k : Whole ws x y) where
+  pub whole_stops : {n p : ℕ} → refuse n p ≡ ending_of x → refuse n p ≡ whole_of ws y
+  whole_stops {n} {p} e = rw k.is (go x e)
     where
-      go : (y : Res (Read A)) → w ≡ ending_of y → w ≡ whole_of ws (◌>>=◌ y (all_read ws))
-      go (ok r) k = absurd (h (ap (λ (v : Ending). v.refused) k))
-      go (refuse n p) k = k
+      go : (x : Res (Read A)) → refuse n p ≡ ending_of x → refuse n p ≡ whole_of ws (◌>>=◌ x (all_read ws))
+      go (ok r) e = cc
+      go (refuse m q) e = e
 
-  pub surplus : w.refused ≡ 0 → w.at < length ws → ending unfit w.at ≡ whole_of ws y
-  surplus h l = rw k.is (go x k.went e)
-    where
-      go : (y : Res (Read A)) → Went ws 0 1 y → w ≡ ending_of y → ending unfit w.at ≡ whole_of ws (◌>>=◌ y (all_read ws))
-      go (ok r) g k = let same : w.at ≡ r.at = ap (λ (v : Ending). v.at) k in rw (same, lt-leb (length ws) r.at (omega arith)) refl
-      go (refuse n p) g k = let z : n ≡ 0 = sym (ap (λ (v : Ending). v.refused) k) ∙ h in absurd (omega arith)
+  module _ {q : ℕ} (e : ok q ≡ ending_of x) where
+    pub surplus : q < length ws → refuse unfit q ≡ whole_of ws y
+    surplus l = rw k.is (go x e)
+      where
+        go : (x : Res (Read A)) → ok q ≡ ending_of x → refuse unfit q ≡ whole_of ws (◌>>=◌ x (all_read ws))
+        go (ok r) e = let same : q ≡ r.at = cc in rw (same, lt-leb (length ws) r.at (omega arith)) refl
+        go (refuse n p) e = cc
 
-  pub all_read_lem : w.refused ≡ 0 → length ws ≤ w.at → w ≡ whole_of ws y
-  all_read_lem h l = rw k.is (go x k.went e)
-    where
-      go : (y : Res (Read A)) → Went ws 0 1 y → w ≡ ending_of y → w ≡ whole_of ws (◌>>=◌ y (all_read ws))
-      go (ok r) g k =
-          let same : w.at ≡ r.at = ap (λ (v : Ending). v.at) k in
-          let end : r.at ≡ length ws = omega arith in
-          k ∙ rw (le-leb (length ws) r.at (omega arith), end) refl
-      go (refuse n p) g k = let z : n ≡ 0 = sym (ap (λ (v : Ending). v.refused) k) ∙ h in absurd (omega arith)
+    pub all_read_lem : length ws ≤ q → ok q ≡ whole_of ws y
+    all_read_lem l = rw k.is (go x k.went e)
+      where
+        go : (x : Res (Read A)) → Went ws 0 1 x → ok q ≡ ending_of x → ok q ≡ whole_of ws (◌>>=◌ x (all_read ws))
+        go (ok r) g e =
+            let same : q ≡ r.at = cc in
+            let end : r.at ≡ length ws = omega arith in
+            e ∙ rw (le-leb (length ws) r.at (omega arith), end) refl
+        go (refuse n p) g e = cc

@@ -1,14 +1,11 @@
 -- 01, "Words and records" and "Turned back": what the code answers for a written rule, refusals 5 and 6 included.
 -- The readings themselves are those of `rules`.
 -- Assumes nothing: these are definitions.
-use Rattle.std.specs.Prelude.{ℕ, ◌+◌, ◌<◌, min, ◌≡◌, false, cond, List, length, get_or, replicate, ltb}
+use Rattle.std.specs.Prelude.{ℕ, Option, Some, None, ◌+◌, ◌<◌, min, ◌≡◌, false, cond, List, length, get_or, replicate, ltb}
 use Rattle.rules.specs.Words.{limit12, limit16, name_base, literal_base, count_of}
 use Rattle.rules.specs.Refusals.{Res, ok, refuse, unfit}
 use Rattle.rules.specs.Signature.{Sig}
 use Rattle.rules.specs.Written.{Read, Shape, is_leaf, is_call, is_bad, shape_at}
-use Rattle.written.specs.declared.Ending.{Ending}
-use Rattle.written.specs.declared.Start.{Start}
-use Rattle.written.specs.declared.Start.TheVariants.{Takes, Other}
 
 -- a signature of H heads and G globals; a kind 3 word can tell 4,096 heads apart, and no signature has more. Of a signature, reading a rule asks nothing else
 abbrev pub with_globals : (heads globals : ℕ) → Sig
@@ -20,29 +17,26 @@ with_heads H = with_globals H 0
 
 -- ---- the answers
 
-abbrev pub ending : (refused at : ℕ) → Ending
-ending n p = record { refused = n; at = p }
-
 -- where a reading ends, or its refusal
-abbrev pub ending_of : {A : Type 0} → Res (Read A) → Ending
-ending_of (ok r) = ending 0 r.at
-ending_of (refuse n p) = ending n p
+abbrev pub ending_of : {A : Type 0} → Res (Read A) → Res ℕ
+ending_of (ok r) = ok r.at
+ending_of (refuse n p) = refuse n p
 
 -- a whole record ends with its words
-abbrev pub whole_of : {A : Type 0} → List ℕ → Res A → Ending
-whole_of ws (ok r) = ending 0 (length ws)
-whole_of ws (refuse n p) = ending n p
+abbrev pub whole_of : {A : Type 0} → List ℕ → Res A → Res ℕ
+whole_of ws (ok r) = ok (length ws)
+whole_of ws (refuse n p) = refuse n p
+
+-- what is taken at p, seen as something else; or refusal 5 there
+abbrev pub or_unfit : {A B : Type 0} → (A → B) → Option A → (p : ℕ) → Res B
+or_unfit f (Some x) p = ok (f x)
+or_unfit f None p = refuse unfit p
 
 -- ---- how an expression begins
 
 -- where the leaves of a kind end: names are of kind 1, literals of kind 2
 abbrev pub leaf_end : (kind : ℕ) → ℕ
 leaf_end k = cond (ltb k 2) (name_base + limit12) (literal_base + limit16)
-
--- how an expression begins, for each case at p: with a word that takes so many arguments, or with none, which is refusal 5 there
-abbrev pub start_says : Start → (p : ℕ) → Res ℕ
-start_says (Takes n) p = ok n
-start_says Other p = refuse unfit p
 
 -- how many arguments a word of this shape takes
 abbrev pub taken : Shape → (w p : ℕ) → Res ℕ

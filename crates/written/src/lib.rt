@@ -5,34 +5,16 @@ ghost use Rattle.std.specs.Prelude.{◌≡◌, ◌+◌, ◌<◌, length};
 ghost use Rattle.octets.specs.Words.{words};
 ghost use Rattle.rules.specs.Words.{max_depth, a_let, a_set, a_panic};
 ghost use Rattle.rules.specs.Written.{read_many, read_expr, read_target, read_equal, read_fact, read_code, read_action};
-ghost use Rattle.written.specs.Written.{with_heads, ending_of, leaf_end, start_says, taken_at, Starts};
+ghost use Rattle.refusals.specs.Numbers.{said};
+ghost use Rattle.written.specs.Written.{with_heads, ending_of, or_unfit, leaf_end, taken_at, Starts};
 
+use refusals::{Reason, Refusal};
 use words::{HEAD_BASE, LIMIT_12, LIMIT_16, LITERAL_BASE, MAX_DEPTH, NAME_BASE, Word, word_at};
-
-// The refusals' numbers.
-pub const UNFIT: usize = 5;
-
-const TOO_DEEP: usize = 6;
 
 // The first words that are no name and no literal any more.
 const NAME_END: u32 = NAME_BASE + LIMIT_12;
 
 const LITERAL_END: u32 = LITERAL_BASE + LIMIT_16;
-
-// Where a reading ends: with 0, at the index behind what was read; else a refusal's number and place. The number is as wide as the place, so that there is no gap
-// between them: a processor waits where a struct with a gap is copied soon after it was written.
-#[derive(Clone, Copy)]
-pub struct Ending {
-    pub refused: usize,
-    pub at: usize,
-}
-
-// How an expression begins: with a word that takes so many arguments. Any other word begins none.
-#[derive(Clone, Copy)]
-enum Start {
-    Takes(u32),
-    Other,
-}
 
 // Where the leaves of a kind end: the names are of kind 1, the literals of kind 2. A fresh variable, of kind 0, lies behind the end of the names.
 fn leaf_end(kind: u32) -> u32
@@ -41,217 +23,187 @@ fn leaf_end(kind: u32) -> u32
     if kind < 2 { NAME_END } else { LITERAL_END }
 }
 
-// How the expression at an index begins, if one does. The count of leading zeros tells a leaf from a head. It is asked of nearly every word, and whether a
-// leaf is a name or a literal can't be foreseen: so the ends of both are compared in one way, and no branch depends on which of them it is.
-fn start_at(rule: &[u8], heads: u32, at: usize) -> Start
-    ensures { start_says result at ≡ taken_at (with_heads heads) (words rule.now) at }
-{
-    if octets::count(rule) <= at {
-        return Start::Other;
-    }
-    let w = octets::get(rule, at);
-    let kind = u32::leading_zeros(w);
-    if kind < 3 {
-        if w < leaf_end(kind) {
-            return Start::Takes(0);
+// A written rule's words, and the number of heads that they are read under. What is read ends at the index behind it, or with a refusal.
+#[derive(Clone, Copy)]
+pub struct Record<'a> {
+    pub rule: &'a [u8],
+    pub heads: u32,
+}
+
+impl Record<'_> {
+    // How many arguments the expression at an index takes, if one begins there. The count of leading zeros tells a leaf from a head. It is asked of nearly
+    // every word, and whether a leaf is a name or a literal can't be foreseen: so the ends of both are compared in one way, and no branch depends on which of
+    // them it is.
+    fn start_at(&self, at: usize) -> Option<u32>
+        ensures { or_unfit (λ n. n) result at ≡ taken_at (with_heads self.now.heads) (words self.now.rule.now) at }
+    {
+        if octets::count(self.rule) <= at {
+            return None;
         }
-        return Start::Other;
-    }
-    if 3 < kind {
-        return Start::Other;
-    }
-    if w % HEAD_BASE / LIMIT_16 < heads {
-        Start::Takes(w % LIMIT_16)
-    } else {
-        Start::Other
-    }
-}
-
-// The expression whose word, at an index, takes `count` arguments, if it may hold expressions `depth` deep.
-#[cycle(arguments_expression)]
-fn expression(rule: &[u8], heads: u32, at: usize, count: u32, depth: u32) -> Ending
-    requires { Starts (with_heads heads) (words rule.now) at count }
-    ensures { result ≡ ending_of (read_expr (with_heads heads) (words rule.now) depth at) }
-{
-    if depth == 0 {
-        return Ending {
-            refused: TOO_DEEP,
-            at,
-        };
-    }
-    let next = at + 1;
-    if count == 0 {
-        return Ending {
-            refused: 0,
-            at: next,
-        };
-    }
-    arguments(rule, heads, next, count, depth - 1)
-}
-
-// `count` expressions, one after the other, each of which may hold expressions `depth` deep. Each is taken by its first word, or refused there. Behind the
-// arguments of the last one nothing is left to read, so that they are read in its place, without a call.
-#[cycle(arguments_expression)]
-fn arguments(rule: &[u8], heads: u32, at: usize, count: u32, depth: u32) -> Ending
-    ensures { result ≡ ending_of (read_many (read_expr (with_heads heads) (words rule.now) depth) count at) }
-{
-    let mut next = at;
-    let mut left = count;
-    let mut deep = depth;
-    while 0 < left {
-        let Start::Takes(some) = start_at(rule, heads, next) else {
-            return Ending {
-                refused: UNFIT,
-                at: next,
-            };
-        };
-        left -= 1;
-        if (left == 0) & (0 < some) & (0 < deep) {
-            next += 1;
-            left = some;
-            deep -= 1;
-        } else {
-            let read = expression(rule, heads, next, some, deep);
-            if read.refused != 0 {
-                return read;
+        let w = octets::get(self.rule, at);
+        let kind = u32::leading_zeros(w);
+        if kind < 3 {
+            if w < leaf_end(kind) {
+                return Some(0);
             }
-            next = read.at;
+            return None;
+        }
+        if 3 < kind {
+            return None;
+        }
+        if w % HEAD_BASE / LIMIT_16 < self.heads {
+            Some(w % LIMIT_16)
+        } else {
+            None
         }
     }
-    Ending {
-        refused: 0,
-        at: next,
-    }
-}
 
-// An expression that stands in no other. Most have no arguments or few: what begins here is told at once, and only arguments are walked.
-fn outermost(rule: &[u8], heads: u32, at: usize) -> Ending
-    ensures { result ≡ ending_of (read_expr (with_heads heads) (words rule.now) max_depth at) }
-{
-    let Start::Takes(some) = start_at(rule, heads, at) else {
-        return Ending { refused: UNFIT, at };
-    };
-    let next = at + 1;
-    if some == 0 {
-        return Ending {
-            refused: 0,
-            at: next,
+    // The expression whose word, at an index, takes `count` arguments, if it may hold expressions `depth` deep.
+    #[cycle(arguments_expression)]
+    fn expression(&self, at: usize, count: u32, depth: u32) -> Result<usize, Refusal>
+        requires { Starts (with_heads self.now.heads) (words self.now.rule.now) at count }
+        ensures { said result ≡ ending_of (read_expr (with_heads self.now.heads) (words self.now.rule.now) depth at) }
+    {
+        if depth == 0 {
+            return Err(Reason::TooDeep.at(at));
+        }
+        let next = at + 1;
+        if count == 0 {
+            return Ok(next);
+        }
+        self.arguments(next, count, depth - 1)
+    }
+
+    // `count` expressions, one after the other, each of which may hold expressions `depth` deep. Each is taken by its first word, or refused there. Behind the
+    // arguments of the last one nothing is left to read, so that they are read in its place, without a call.
+    #[cycle(arguments_expression)]
+    fn arguments(&self, at: usize, count: u32, depth: u32) -> Result<usize, Refusal>
+        ensures { said result ≡ ending_of (read_many (read_expr (with_heads self.now.heads) (words self.now.rule.now) depth) count at) }
+    {
+        let mut next = at;
+        let mut left = count;
+        let mut deep = depth;
+        while 0 < left {
+            let Some(some) = self.start_at(next) else {
+                return Err(Reason::Unfit.at(next));
+            };
+            left -= 1;
+            if (left == 0) & (0 < some) & (0 < deep) {
+                next += 1;
+                left = some;
+                deep -= 1;
+            } else {
+                next = self.expression(next, some, deep)?;
+            }
+        }
+        Ok(next)
+    }
+
+    // An expression that stands in no other. Most have no arguments or few: what begins here is told at once, and only arguments are walked.
+    fn outermost(&self, at: usize) -> Result<usize, Refusal>
+        ensures { said result ≡ ending_of (read_expr (with_heads self.now.heads) (words self.now.rule.now) max_depth at) }
+    {
+        let Some(some) = self.start_at(at) else {
+            return Err(Reason::Unfit.at(at));
         };
+        let next = at + 1;
+        if some == 0 {
+            return Ok(next);
+        }
+        self.arguments(next, some, MAX_DEPTH - 1)
     }
-    arguments(rule, heads, next, some, MAX_DEPTH - 1)
-}
 
-// The two expressions behind the word at an index, which is an equality's or a union's.
-fn pair(rule: &[u8], heads: u32, at: usize) -> Ending
-    requires { at < length (words rule.now) }
-    ensures { result ≡ ending_of (read_equal (with_heads heads) (words rule.now) at) }
-{
-    arguments(rule, heads, at + 1, 2, MAX_DEPTH)
-}
-
-// A fact: an expression, or an equality of two.
-pub fn fact(rule: &[u8], heads: u32, at: usize) -> Ending
-    ensures { result ≡ ending_of (read_fact (with_heads heads) (words rule.now) at) }
-{
-    let w = word_at(rule, at);
-    let Word::Equality(count) = w else {
-        return outermost(rule, heads, at);
-    };
-    if count == 2 {
-        pair(rule, heads, at)
-    } else {
-        Ending { refused: UNFIT, at }
+    // The two expressions behind the word at an index, which is an equality's or a union's.
+    fn pair(&self, at: usize) -> Result<usize, Refusal>
+        requires { at < length (words self.now.rule.now) }
+        ensures { said result ≡ ending_of (read_equal (with_heads self.now.heads) (words self.now.rule.now) at) }
+    {
+        self.arguments(at + 1, 2, MAX_DEPTH)
     }
-}
 
-// The kind 3 word of a set, a delete or a subsume, and its arguments.
-fn target(rule: &[u8], heads: u32, at: usize) -> Ending
-    ensures { result ≡ ending_of (read_target (with_heads heads) (words rule.now) at) }
-{
-    let w = word_at(rule, at);
-    let Word::Head(head, count) = w else {
-        return Ending { refused: UNFIT, at };
-    };
-    if head < heads {
-        arguments(rule, heads, at + 1, count, MAX_DEPTH)
-    } else {
-        Ending { refused: UNFIT, at }
-    }
-}
-
-// A let, whose action word is at an index: a name and an expression.
-fn let_action(rule: &[u8], heads: u32, at: usize) -> Ending
-    requires { at < length (words rule.now) }
-    ensures { result ≡ ending_of (read_code (with_heads heads) (words rule.now) at a_let (at + 1)) }
-{
-    let name = at + 1;
-    let w = word_at(rule, name);
-    let Word::Name(_) = w else {
-        return Ending {
-            refused: UNFIT,
-            at: name,
+    // A fact: an expression, or an equality of two.
+    pub fn fact(&self, at: usize) -> Result<usize, Refusal>
+        ensures { said result ≡ ending_of (read_fact (with_heads self.now.heads) (words self.now.rule.now) at) }
+    {
+        let Some(Word::Equality(count)) = word_at(self.rule, at) else {
+            return self.outermost(at);
         };
-    };
-    outermost(rule, heads, name + 1)
-}
-
-// A set: a kind 3 word, its arguments and a value. The value is read with the arguments, as one more of them.
-fn set_action(rule: &[u8], heads: u32, at: usize) -> Ending
-    requires { at < length (words rule.now) }
-    ensures { result ≡ ending_of (read_code (with_heads heads) (words rule.now) at a_set (at + 1)) }
-{
-    let set = at + 1;
-    let w = word_at(rule, set);
-    let Word::Head(head, count) = w else {
-        return Ending {
-            refused: UNFIT,
-            at: set,
-        };
-    };
-    if head < heads {
-        arguments(rule, heads, set + 1, count + 1, MAX_DEPTH)
-    } else {
-        Ending {
-            refused: UNFIT,
-            at: set,
+        if count == 2 {
+            self.pair(at)
+        } else {
+            Err(Reason::Unfit.at(at))
         }
     }
-}
 
-// A panic: a literal.
-fn panic_action(rule: &[u8], heads: u32, at: usize) -> Ending
-    requires { at < length (words rule.now) }
-    ensures { result ≡ ending_of (read_code (with_heads heads) (words rule.now) at a_panic (at + 1)) }
-{
-    let message = at + 1;
-    let w = word_at(rule, message);
-    let Word::Literal(_) = w else {
-        return Ending {
-            refused: UNFIT,
-            at: message,
+    // The kind 3 word of a set, a delete or a subsume, and its arguments.
+    fn target(&self, at: usize) -> Result<usize, Refusal>
+        ensures { said result ≡ ending_of (read_target (with_heads self.now.heads) (words self.now.rule.now) at) }
+    {
+        let Some(Word::Head(head, count)) = word_at(self.rule, at) else {
+            return Err(Reason::Unfit.at(at));
         };
-    };
-    Ending {
-        refused: 0,
-        at: message + 1,
+        if head < self.heads {
+            self.arguments(at + 1, count, MAX_DEPTH)
+        } else {
+            Err(Reason::Unfit.at(at))
+        }
     }
-}
 
-// An action: its code, and what the code asks for. Action 7 is not written.
-pub fn action(rule: &[u8], heads: u32, at: usize) -> Ending
-    ensures { result ≡ ending_of (read_action (with_heads heads) (words rule.now) at) }
-{
-    let w = word_at(rule, at);
-    let Word::Action(code) = w else {
-        return Ending { refused: UNFIT, at };
-    };
-    match code {
-        1 => let_action(rule, heads, at),
-        2 => set_action(rule, heads, at),
-        3..=4 => target(rule, heads, at + 1),
-        5 => pair(rule, heads, at),
-        6 => panic_action(rule, heads, at),
-        8 => outermost(rule, heads, at + 1),
-        _ => Ending { refused: UNFIT, at },
+    // A let, whose action word is at an index: a name and an expression.
+    fn let_action(&self, at: usize) -> Result<usize, Refusal>
+        requires { at < length (words self.now.rule.now) }
+        ensures { said result ≡ ending_of (read_code (with_heads self.now.heads) (words self.now.rule.now) at a_let (at + 1)) }
+    {
+        let name = at + 1;
+        let Some(Word::Name(_)) = word_at(self.rule, name) else {
+            return Err(Reason::Unfit.at(name));
+        };
+        self.outermost(name + 1)
+    }
+
+    // A set: a kind 3 word, its arguments and a value. The value is read with the arguments, as one more of them.
+    fn set_action(&self, at: usize) -> Result<usize, Refusal>
+        requires { at < length (words self.now.rule.now) }
+        ensures { said result ≡ ending_of (read_code (with_heads self.now.heads) (words self.now.rule.now) at a_set (at + 1)) }
+    {
+        let set = at + 1;
+        let Some(Word::Head(head, count)) = word_at(self.rule, set) else {
+            return Err(Reason::Unfit.at(set));
+        };
+        if head < self.heads {
+            self.arguments(set + 1, count + 1, MAX_DEPTH)
+        } else {
+            Err(Reason::Unfit.at(set))
+        }
+    }
+
+    // A panic: a literal.
+    fn panic_action(&self, at: usize) -> Result<usize, Refusal>
+        requires { at < length (words self.now.rule.now) }
+        ensures { said result ≡ ending_of (read_code (with_heads self.now.heads) (words self.now.rule.now) at a_panic (at + 1)) }
+    {
+        let message = at + 1;
+        let Some(Word::Literal(_)) = word_at(self.rule, message) else {
+            return Err(Reason::Unfit.at(message));
+        };
+        Ok(message + 1)
+    }
+
+    // An action: its code, and what the code asks for. Action 7 is not written.
+    pub fn action(&self, at: usize) -> Result<usize, Refusal>
+        ensures { said result ≡ ending_of (read_action (with_heads self.now.heads) (words self.now.rule.now) at) }
+    {
+        let Some(Word::Action(code)) = word_at(self.rule, at) else {
+            return Err(Reason::Unfit.at(at));
+        };
+        match code {
+            1 => self.let_action(at),
+            2 => self.set_action(at),
+            3..=4 => self.target(at + 1),
+            5 => self.pair(at),
+            6 => self.panic_action(at),
+            8 => self.outermost(at + 1),
+            _ => Err(Reason::Unfit.at(at)),
+        }
     }
 }

@@ -4,13 +4,14 @@
 use mathlib.Core.Path.{◌≡◌, ◌∙◌}
 use Prim.Native.Nat.{◌+◌, ◌-◌, ◌<◌}
 use native.Mathlib.Omega.{arith}
+use Rattle.refusals.proofs.Passing.{passed_on}
 use Rattle.octets.specs.Words.{words}
 use Rattle.octets.proofs.Words.{length_words}
 use Rattle.written.specs.Written.{with_heads, Starts}
 use Rattle.written.proofs.Walking.{none_left}
 use Rattle.written.proofs.Ends.{exprs}
 use Rattle.written.proofs.Laws.{starts, no_expression, too_deep_lem, one_deeper, rest_start, last_told, rest_end, rest_stops, rest_on, rest_next, rest_last}
-use Rattle.written.proofs.+arguments_expression.Goals as goal
+use Rattle.written.proofs.Record.+arguments_expression.Goals as goal
 
 pub arguments-loop-left-init : goal.arguments-loop-left-init
 arguments-loop-left-init t c = rest_start
@@ -19,70 +20,72 @@ arguments-loop-left-init t c = rest_start
 pub arguments-returns-in_default : goal.arguments-returns-in_default
 arguments-returns-in_default t c =
     let a = c.args in
-    let none = no_expression (with_heads a.heads) (words a.rule.now) c.loop-left.deep c.loop-left.next c.start_at.ensures c.in_default.is in
-    rest_stops c.loop-left.invariant none (omega arith) (λ z. omega arith)
+    let at = c.at.ensures in
+    let none = no_expression (with_heads a.self.now.heads) (words a.self.now.rule.now) c.loop-left.deep c.loop-left.next c.start_at.ensures c.in_default.is in
+    rw (at.0, at.1) (rest_stops c.loop-left.invariant (omega arith) none)
 
 pub arguments-overflow_add-next : goal.arguments-overflow_add-next
 arguments-overflow_add-next t c =
-    let at_some : (let a = c.args in Starts (with_heads a.heads) (words a.rule.now) c.loop-left.next c.in-Takes.some) =
-    starts c.start_at.ensures c.in-Takes.is in
-    omega (arith, at_some.inside, length_words c.args.rule.now)
+    let at_some : (let a = c.args in Starts (with_heads a.self.now.heads) (words a.self.now.rule.now) c.loop-left.next c.in-Some.some) =
+    starts c.start_at.ensures c.in-Some.is in
+    omega (arith, at_some.inside, length_words c.args.self.now.rule.now)
 
 pub arguments-overflow_sub-deep : goal.arguments-overflow_sub-deep
 arguments-overflow_sub-deep t c =
     let at_last : (let l = c.loop-left in (l.left - 1 ≡ 0) × (0 < l.deep)) =
     let l = c.loop-left in
-    last_told (l.left - 1) c.in-Takes.some l.deep c.if-left-some.true in
+    last_told (l.left - 1) c.in-Some.some l.deep c.if-left-some.true in
     at_last.1
 
 pub arguments-loop-left-smaller-then-left-some : goal.arguments-loop-left-smaller-then-left-some
 arguments-loop-left-smaller-then-left-some t c =
-    let at_some : (let a = c.args in Starts (with_heads a.heads) (words a.rule.now) c.loop-left.next c.in-Takes.some) =
-    starts c.start_at.ensures c.in-Takes.is in
+    let at_some : (let a = c.args in Starts (with_heads a.self.now.heads) (words a.self.now.rule.now) c.loop-left.next c.in-Some.some) =
+    starts c.start_at.ensures c.in-Some.is in
     omega (arith, at_some.inside)
 
 pub arguments-loop-left-preserved-then-left-some : goal.arguments-loop-left-preserved-then-left-some
 arguments-loop-left-preserved-then-left-some t c =
-    let at_some : (let a = c.args in Starts (with_heads a.heads) (words a.rule.now) c.loop-left.next c.in-Takes.some) =
-    starts c.start_at.ensures c.in-Takes.is in
+    let at_some : (let a = c.args in Starts (with_heads a.self.now.heads) (words a.self.now.rule.now) c.loop-left.next c.in-Some.some) =
+    starts c.start_at.ensures c.in-Some.is in
     let at_last : (let l = c.loop-left in (l.left - 1 ≡ 0) × (0 < l.deep)) =
     let l = c.loop-left in
-    last_told (l.left - 1) c.in-Takes.some l.deep c.if-left-some.true in
+    last_told (l.left - 1) c.in-Some.some l.deep c.if-left-some.true in
     rest_last c.loop-left.invariant at_some (omega arith) at_last.0 at_last.1
 
 -- it is read by itself
-pub arguments-expression-read-requires : goal.arguments-expression-read-requires
-arguments-expression-read-requires t c =
-    let at_some : (let a = c.args in Starts (with_heads a.heads) (words a.rule.now) c.loop-left.next c.in-Takes.some) =
-    starts c.start_at.ensures c.in-Takes.is in
+pub arguments-expression-requires : goal.arguments-expression-requires
+arguments-expression-requires t c =
+    let at_some : (let a = c.args in Starts (with_heads a.self.now.heads) (words a.self.now.rule.now) c.loop-left.next c.in-Some.some) =
+    starts c.start_at.ensures c.in-Some.is in
     (omega (arith, c.decreases, c.loop-left.invariant.on, c.loop-left.invariant.down), at_some)
 
-pub arguments-returns-then-read-ne0 : goal.arguments-returns-then-read-ne0
-arguments-returns-then-read-ne0 t c = rest_stops c.loop-left.invariant c.expression-read.ensures (omega arith) c.if-read-ne0.true
+pub arguments-returns-in_err-next : goal.arguments-returns-in_err-next
+arguments-returns-in_err-next t c =
+    passed_on _ _ c.from_residual.ensures.1 (rest_stops c.loop-left.invariant (omega arith) c.in_err-next.ensures)
 
 -- what was read ends behind its first word
 pub arguments-loop-left-smaller : goal.arguments-loop-left-smaller
 arguments-loop-left-smaller t c =
-    let at_some : (let a = c.args in Starts (with_heads a.heads) (words a.rule.now) c.loop-left.next c.in-Takes.some) =
-    starts c.start_at.ensures c.in-Takes.is in
-    omega (arith, at_some.inside, rest_on c.loop-left.invariant c.expression-read.ensures c.if-read-ne0.false)
+    let at_some : (let a = c.args in Starts (with_heads a.self.now.heads) (words a.self.now.rule.now) c.loop-left.next c.in-Some.some) =
+    starts c.start_at.ensures c.in-Some.is in
+    omega (arith, at_some.inside, rest_on c.loop-left.invariant c.in_ok-next.ensures)
 
 pub arguments-loop-left-preserved : goal.arguments-loop-left-preserved
-arguments-loop-left-preserved t c = rest_next c.loop-left.invariant c.expression-read.ensures (omega arith) c.if-read-ne0.false
+arguments-loop-left-preserved t c = rest_next c.loop-left.invariant c.in_ok-next.ensures (omega arith)
 
 pub arguments-returns : goal.arguments-returns
 arguments-returns t c = rest_end c.loop-left.invariant (omega arith)
 
 pub expression-returns-then-depth-eq0 : goal.expression-returns-then-depth-eq0
-expression-returns-then-depth-eq0 t c = too_deep_lem c.requires c.args.depth c.if-depth-eq0.true
+expression-returns-then-depth-eq0 t c = rw (c.at.ensures.0, c.at.ensures.1) (too_deep_lem c.requires c.args.depth c.if-depth-eq0.true)
 
 pub expression-overflow_add-next : goal.expression-overflow_add-next
-expression-overflow_add-next t c = omega (arith, c.requires.inside, length_words c.args.rule.now)
+expression-overflow_add-next t c = omega (arith, c.requires.inside, length_words c.args.self.now.rule.now)
 
 pub expression-returns-then-count-eq0 : goal.expression-returns-then-count-eq0
 expression-returns-then-count-eq0 t c =
     let a = c.args in
-    none_left (exprs (with_heads a.heads) (words a.rule.now) (a.depth - 1)) _ (a.at + 1) c.if-count-eq0.true ∙ one_deeper c.requires a.depth c.if-depth-eq0.false
+    none_left (exprs (with_heads a.self.now.heads) (words a.self.now.rule.now) (a.depth - 1)) _ (a.at + 1) c.if-count-eq0.true ∙ one_deeper c.requires a.depth c.if-depth-eq0.false
 
 pub expression-arguments-requires : goal.expression-arguments-requires
 expression-arguments-requires t c = (omega (arith, c.requires.inside, c.decreases), tt)

@@ -1,0 +1,2 @@
+-- What proofs about refusals share.
+pub mod Passing
