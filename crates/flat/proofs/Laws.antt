@@ -18,23 +18,21 @@ use Rattle.rules.specs.Flat.{CoreAction, is_none, is_target, is_term, atom_shape
 use Rattle.words.proofs.Ranges.{within_true, true_within, false_below, false_above, heads_below}
 use Rattle.words.proofs.WordLaws.{word_of, is_head, name_kind, fresh_below, no_fresh}
 use Rattle.words.specs.Atom.{term_number_of, TermSays, head_kind, AtomSays}
+use Rattle.std.specs.Prelude.{Option, Some, None}
 use Rattle.words.specs.declared.Term.{Term}
 use Rattle.words.specs.declared.HeadOrEq.TheVariants.{Head, Eq}
 use Rattle.words.specs.declared.Atom.{Atom as Begun}
 use Rattle.words.proofs.AtomLaws.{atom_head, atom_equality}
 use Rattle.meaning.proofs.Lists.{and_left}
 use Rattle.meaning.proofs.Results.{ok_inj}
-use Rattle.flat.specs.Flat.{AtomNumbers, atom_numbers, numbers_from, taken_says, is_term_at, term_at, first_says, first_at, read_behind}
-use Rattle.written.specs.declared.Ending.{Ending}
-use Rattle.written.specs.Written.{with_heads, with_globals, ending, ending_of}
+use Rattle.flat.specs.Flat.{AtomNumbers, term_numbers, atom_numbers, numbers_from, is_term_at, term_at, first_at, read_behind}
+use Rattle.written.specs.Written.{with_heads, with_globals, ending_of, or_unfit}
 use Rattle.written.proofs.Walking.{Went, stops, made, both, row, then_then}
 use Rattle.words.proofs.WordAt.{Here, There, NotKind}
 use Rattle.written.proofs.Expected.{word_fits, word_unfit, heads_with, heads_most, head_with, head_other, head_high, head_fits_lem, head_count}
 use Rattle.written.proofs.Expected.{no_code_lem, as_code, change_code, NoneOf, last_code}
-use Rattle.flat.proofs.Ends.{went_term, went_target, went_terms}
+use Rattle.flat.proofs.Ends.{went_term}
 use Rattle.words.specs.declared.Word.TheVariants as Said
-use Rattle.flat.specs.declared.First.TheVariants as First
-use Rattle.flat.specs.declared.Taken.TheVariants as Taken
 
 -- ---- what an action may bind
 
@@ -52,12 +50,12 @@ module _ (H : ℕ) {ws : List ℕ} {p : ℕ} where
     below : ltb h (min H limit12) ≡ is_fresh_word (heads (with_heads H)) (get_or ws p 0)
     below = sym (fresh_below (get_or ws p 0) h n t.says (heads (with_heads H)) ∙ rw (heads_with H) refl)
 
-    pub target_fresh : h < H → h < limit12 → ending 0 (p + 1) ≡ ending_of (read_word ws (is_target (with_heads H)) p)
-    target_fresh low small =
-        let fresh = sym below ∙ lt-ltb h (min H limit12) (le-min low small) in
+    pub target_fresh : h < min H limit12 → ok (p + 1) ≡ ending_of (read_word ws (is_target (with_heads H)) p)
+    target_fresh low =
+        let fresh = sym below ∙ lt-ltb h (min H limit12) low in
         rw (word_fits (is_target (with_heads H)) ws p t.inside (rw fresh refl), add-one p) refl
 
-    pub target_high : min H limit12 ≤ h → ending unfit p ≡ ending_of (read_word ws (is_target (with_heads H)) p)
+    pub target_high : min H limit12 ≤ h → refuse unfit p ≡ ending_of (read_word ws (is_target (with_heads H)) p)
     target_high high =
         let none = sym below ∙ le-ltb h (min H limit12) high in
         rw (word_unfit (is_target (with_heads H)) ws p (λ l. rw none (name_kind (get_or ws p 0) ∙ rw t.says refl))) refl
@@ -97,36 +95,36 @@ module _ (H w : ℕ) where
           go false ea b eb = let l = ltb-false h H ea in sym (le-ltb h (min H limit12) (omega (arith, min-le_left H limit12)))
 
 -- what is taken for it
-pub no_word : (s : Sig) (ws : List ℕ) (p : ℕ) → length ws ≤ p → taken_says Taken.Nothing p ≡ term_at s ws p
+pub no_word : (s : Sig) (ws : List ℕ) (p : ℕ) → length ws ≤ p → or_unfit term_numbers None p ≡ term_at s ws p
 no_word s ws p l = rw (le-ltb p (length ws) l)
 
 module _ (H G : ℕ) {ws : List ℕ} {p w : ℕ} (k : Here ws p w) where
-  pub term_fits : {t : Term} → is_term (with_heads H) w ≡ true → TermSays t G w → taken_says (Taken.Term t) p ≡ term_at (with_globals H G) ws p
+  pub term_fits : {t : Term} → is_term (with_heads H) w ≡ true → TermSays t G w → or_unfit term_numbers (Some t) p ≡ term_at (with_globals H G) ws p
   term_fits fits says = rw (← k.is, lt-ltb p (length ws) k.inside, fits) (λ i. ok (record { number_is = says.number_is i; word_is = says.word_is i }))
 
-  pub term_none : is_term (with_heads H) w ≡ false → taken_says Taken.Nothing p ≡ term_at (with_globals H G) ws p
+  pub term_none : is_term (with_heads H) w ≡ false → or_unfit term_numbers None p ≡ term_at (with_globals H G) ws p
   term_none none = rw (← k.is, lt-ltb p (length ws) k.inside, none)
 
 -- and what that tells
-module _ (s : Sig) (ws : List ℕ) (p : ℕ) {x : Taken.the_data} (read : taken_says x p ≡ term_at s ws p) where
-  is_there : {t : Term} → x ≡ Taken.Term t → is_term_at s ws p ≡ true
-  is_there {t} is = go (is_term_at s ws p) (ap (λ (y : Taken.the_data). taken_says y p) (sym is) ∙ read)
+module _ (s : Sig) (ws : List ℕ) (p : ℕ) {x : Option Term} (read : or_unfit term_numbers x p ≡ term_at s ws p) where
+  is_there : {t : Term} → x ≡ Some t → is_term_at s ws p ≡ true
+  is_there {t} is = go (is_term_at s ws p) (ap (λ (y : Option Term). or_unfit term_numbers y p) (sym is) ∙ read)
     where
-      go : (b : Bool) → taken_says (Taken.Term t) p ≡ demand b unfit p (record { number_is = term_number_of s.globals (get_or ws p 0); word_is = get_or ws p 0 }) → b ≡ true
+      go : (b : Bool) → or_unfit term_numbers (Some t) p ≡ demand b unfit p (record { number_is = term_number_of s.globals (get_or ws p 0); word_is = get_or ws p 0 }) → b ≡ true
       go true e = refl
       go false e = let z : ◌≡◌ {A = ℕ} 0 1 = cc in absurd (omega arith)
 
-  pub term_inside : {t : Term} → x ≡ Taken.Term t → p < length ws
+  pub term_inside : {t : Term} → x ≡ Some t → p < length ws
   term_inside is = ltb-true p (length ws) (and_left (ltb p (length ws)) (is_term s (get_or ws p 0)) (is_there is))
 
-  pub term_taken : {t : Term} → x ≡ Taken.Term t → ending 0 (p + 1) ≡ ending_of (read_term s ws p)
+  pub term_taken : {t : Term} → x ≡ Some t → ok (p + 1) ≡ ending_of (read_term s ws p)
   term_taken is = rw (add-one p, is_there is) refl
 
-  pub term_refused : x ≡ Taken.Nothing → ending unfit p ≡ ending_of (read_term s ws p)
-  term_refused is = go (is_term_at s ws p) (ap (λ (y : Taken.the_data). taken_says y p) (sym is) ∙ read)
+  pub term_refused : x ≡ None → refuse unfit p ≡ ending_of (read_term s ws p)
+  term_refused is = go (is_term_at s ws p) (ap (λ (y : Option Term). or_unfit term_numbers y p) (sym is) ∙ read)
     where
-      go : (b : Bool) → taken_says Taken.Nothing p ≡ demand b unfit p (record { number_is = term_number_of s.globals (get_or ws p 0); word_is = get_or ws p 0 })
-          → ending unfit p ≡ ending_of (demand {A = Read ℕ} b unfit p (record { value = get_or ws p 0; at = suc p }))
+      go : (b : Bool) → or_unfit term_numbers None p ≡ demand b unfit p (record { number_is = term_number_of s.globals (get_or ws p 0); word_is = get_or ws p 0 })
+          → refuse unfit p ≡ ending_of (demand {A = Read ℕ} b unfit p (record { value = get_or ws p 0; at = suc p }))
       go true e = let z : ◌≡◌ {A = ℕ} 0 1 = cc in absurd (omega arith)
       go false e = refl
 
@@ -171,24 +169,24 @@ module _ {A : Type 0} (ws : List ℕ) (one : Reader A) (went : (p : ℕ) → Wen
 
 module _ (ws : List ℕ) (p : ℕ) where
   -- what an answer for the word at p is
-  abbrev Begins : First.the_data → Type 0
-  Begins x = first_says x p ≡ first_at ws p
+  abbrev Begins : Option Begun → Type 0
+  Begins x = or_unfit atom_numbers x p ≡ first_at ws p
 
-  pub first_missing : length ws ≤ p → Begins First.Other
+  pub first_missing : length ws ≤ p → Begins None
   unfolding first_at
   first_missing l = rw (le-ltb p (length ws) l)
 
   -- w is the word there
   module _ {w : ℕ} (i : p < length ws) (is : w ≡ get_or ws p 0) where
-    pub first_low : w < equality_base → Begins First.Other
+    pub first_low : w < equality_base → Begins None
     unfolding first_at
     first_low l = rw (lt-ltb p (length ws) i, lt-leb equality_base (get_or ws p 0) (omega arith))
 
-    pub first_high : literal_base ≤ w → Begins First.Other
+    pub first_high : literal_base ≤ w → Begins None
     unfolding first_at
     first_high l = rw (lt-ltb p (length ws) i, le-leb equality_base (get_or ws p 0) (omega arith), le-ltb (get_or ws p 0) literal_base (omega arith))
 
-    pub first_here : {a : Begun} → AtomSays a w p → equality_base ≤ w → w < literal_base → Begins (First.Atom a)
+    pub first_here : {a : Begun} → AtomSays a w p → equality_base ≤ w → w < literal_base → Begins (Some a)
     unfolding first_at
     first_here {a} s lo hi =
         ap ok (numbered ∙ ap (λ (u : ℕ). numbers_from u p) is)
@@ -211,11 +209,11 @@ pub record AtomAt (ws : List ℕ) (p : ℕ) (a : Begun) : Type 0 where
   pub high : get_or ws p 0 < literal_base
   pub says : AtomSays a (get_or ws p 0) p
 
-module _ {ws : List ℕ} {p : ℕ} {x : First.the_data} (read : first_says x p ≡ first_at ws p) where
-  pub atom_there : {a : Begun} → x ≡ First.Atom a → AtomAt ws p a
+module _ {ws : List ℕ} {p : ℕ} {x : Option Begun} (read : or_unfit atom_numbers x p ≡ first_at ws p) where
+  pub atom_there : {a : Begun} → x ≡ Some a → AtomAt ws p a
   unfolding first_at
   atom_there {a} is =
-      go (ltb p (length ws)) refl (leb equality_base (get_or ws p 0)) refl (ltb (get_or ws p 0) literal_base) refl (ap (λ (y : First.the_data). first_says y p) (sym is) ∙ read)
+      go (ltb p (length ws)) refl (leb equality_base (get_or ws p 0)) refl (ltb (get_or ws p 0) literal_base) refl (ap (λ (y : Option Begun). or_unfit atom_numbers y p) (sym is) ∙ read)
     where
       says : atom_numbers a ≡ numbers_from (get_or ws p 0) p → AtomSays a (get_or ws p 0) p
       says e =
@@ -243,12 +241,12 @@ module _ {ws : List ℕ} {p : ℕ} {x : First.the_data} (read : first_says x p �
       go false ei l el h eh e = let z : ◌≡◌ {A = ℕ} 0 1 = cc in absurd (omega arith)
 
 -- no word that begins one stands there
-none_there : (ws : List ℕ) (p : ℕ) {x : First.the_data} → first_says x p ≡ first_at ws p → x ≡ First.Other
+none_there : (ws : List ℕ) (p : ℕ) {x : Option Begun} → or_unfit atom_numbers x p ≡ first_at ws p → x ≡ None
     → p < length ws → equality_base ≤ get_or ws p 0 → get_or ws p 0 < literal_base → ⊥
 unfolding first_at
 none_there ws p read is i lo hi =
     let e : refuse unfit p ≡ ok (numbers_from (get_or ws p 0) p) =
-    ap (λ (y : First.the_data). first_says y p) (sym is) ∙ read
+    ap (λ (y : Option Begun). or_unfit atom_numbers y p) (sym is) ∙ read
     ∙ rw (lt-ltb p (length ws) i, le-leb equality_base (get_or ws p 0) lo, lt-ltb (get_or ws p 0) literal_base hi) refl in
     let z : ◌≡◌ {A = ℕ} 0 1 = cc in
     omega arith
@@ -262,7 +260,7 @@ module _ (H : ℕ) (ws : List ℕ) (p : ℕ) where
   abbrev w : ℕ
   w = get_or ws p 0
 
-  pub atom_other : {x : First.the_data} → first_says x p ≡ first_at ws p → x ≡ First.Other → ending unfit p ≡ ending_of (read_atom s ws p)
+  pub atom_other : {x : Option Begun} → or_unfit atom_numbers x p ≡ first_at ws p → x ≡ None → refuse unfit p ≡ ending_of (read_atom s ws p)
   atom_other read is = go (ltb p (length ws)) refl
     where
       out : p < length ws → equality_base ≤ w → w < literal_base → ⊥
@@ -279,7 +277,7 @@ module _ (H : ℕ) (ws : List ℕ) (p : ℕ) where
           absurd (out i (omega arith) (omega arith))
       no_table i false e = refl
 
-      go : (b : Bool) → ltb p (length ws) ≡ b → ending unfit p ≡ ending_of (read_atom_shape s ws (cond b (atom_shape s w) is_none) w p)
+      go : (b : Bool) → ltb p (length ws) ≡ b → refuse unfit p ≡ ending_of (read_atom_shape s ws (cond b (atom_shape s w) is_none) w p)
       go true e =
           let i = ltb-true p (length ws) e in
           rw (no_equality i (is_equality_word w) refl, no_table i (is_head_word (heads s) w) refl)
@@ -320,7 +318,7 @@ module _ (H : ℕ) {ws : List ℕ} {p : ℕ} {a : Begun} (t : AtomAt ws p a) (is
       rw (two, t.says.terms_at, add-one p, lt-ltb p (length ws) t.inside, e.0, eq-eqb (get_or ws p 0) equality_word (omega arith))
       (row_pair ws (read_term (with_heads H) ws) (went_term (with_heads H) ws) (suc p) _)
 
-  pub odd_refused : ¬ (a.count ≡ 2) → ending not_two p ≡ ending_of (read_atom (with_heads H) ws p)
+  pub odd_refused : ¬ (a.count ≡ 2) → refuse not_two p ≡ ending_of (read_atom (with_heads H) ws p)
   odd_refused odd =
       let e = equality_is_word in
       rw (lt-ltb p (length ws) t.inside, e.0, ne_eqb (get_or ws p 0) equality_word (λ same. odd (omega arith)))
@@ -335,15 +333,15 @@ module _ (H : ℕ) {ws : List ℕ} {p h : ℕ} {a : Begun} (t : AtomAt ws p a) (
       let head : Head (head_of w) ≡ Head h = sym same.0 ∙ is in
       let number : head_of w ≡ h = cc in
       let inside = true_within head_base head_base w above (omega (arith, t.high)) in
-      let says : word_of w ≡ Said.Head h (count_of w) = is_head w inside ∙ ap (λ n. Said.Head n (count_of w)) number in
+      let says : word_of w ≡ Some (Said.Head h (count_of w)) = is_head w inside ∙ ap (λ n. Some (Said.Head n (count_of w))) number in
       (false_above equality_base equality_base w (omega arith), head_with H w h (count_of w) says, sym same.1)
 
-  pub head_refused : H ≤ h → ending unfit p ≡ ending_of (read_atom (with_heads H) ws p)
+  pub head_refused : H ≤ h → refuse unfit p ≡ ending_of (read_atom (with_heads H) ws p)
   head_refused high =
       let e = table_word in
       rw (lt-ltb p (length ws) t.inside, e.0, e.1, le-ltb h H high)
 
-  pub empty_refused : h < H → a.count ≡ 0 → ending no_terms p ≡ ending_of (read_atom (with_heads H) ws p)
+  pub empty_refused : h < H → a.count ≡ 0 → refuse no_terms p ≡ ending_of (read_atom (with_heads H) ws p)
   empty_refused low none =
       let e = table_word in
       rw (lt-ltb p (length ws) t.inside, e.0, e.1, lt-ltb h H low, eq-eqb (count_of (get_or ws p 0)) 0 (omega arith))
@@ -359,11 +357,11 @@ module _ (H : ℕ) {ws : List ℕ} {p h : ℕ} {a : Begun} (t : AtomAt ws p a) (
 -- ---- a kind 3 word and its terms
 
 module _ (H : ℕ) {ws : List ℕ} {p : ℕ} where
-  pub terms_other : NotKind ws p 3 → ending unfit p ≡ ending_of (read_terms (with_heads H) ws p)
+  pub terms_other : NotKind ws p 3 → refuse unfit p ≡ ending_of (read_terms (with_heads H) ws p)
   terms_other n = rw (head_other H n) refl
 
   module _ {h n : ℕ} (t : There ws p (Said.Head h n)) where
-    pub terms_high : H ≤ h → ending unfit p ≡ ending_of (read_terms (with_heads H) ws p)
+    pub terms_high : H ≤ h → refuse unfit p ≡ ending_of (read_terms (with_heads H) ws p)
     terms_high high = rw (head_high H t high) refl
 
     pub terms_go : h < H → ending_of (read_row (read_term (with_heads H) ws) n (p + 1)) ≡ ending_of (read_terms (with_heads H) ws p)
@@ -372,23 +370,23 @@ module _ (H : ℕ) {ws : List ℕ} {p : ℕ} where
 -- ---- what stands behind an action word: one thing, then another
 
 module _ (s : Sig) (ws : List ℕ) (q : ℕ) where
-  pub let_stops : {w : Ending} → w ≡ ending_of (read_word ws (is_target s) q) → ¬ (w.refused ≡ 0) → w ≡ ending_of (read_behind s ws a_let q)
-  let_stops e h = stops (read_word ws (is_target s) q) _ e h
+  pub let_stops : {n p : ℕ} → refuse n p ≡ ending_of (read_word ws (is_target s) q) → refuse n p ≡ ending_of (read_behind s ws a_let q)
+  let_stops e = stops (read_word ws (is_target s) q) _ e
 
-  pub let_goes : {w z : Ending} → w ≡ ending_of (read_word ws (is_target s) q) → w.refused ≡ 0 → z ≡ ending_of (read_term s ws w.at) → z ≡ ending_of (read_behind s ws a_let q)
-  let_goes e h g = both ws q 1 (read_word ws (is_target s) q) (read_term s ws) _ (went_target s ws q) e h g
+  pub let_goes : {r : ℕ} {z : Res ℕ} → ok r ≡ ending_of (read_word ws (is_target s) q) → z ≡ ending_of (read_term s ws r) → z ≡ ending_of (read_behind s ws a_let q)
+  let_goes e g = both (read_word ws (is_target s) q) (read_term s ws) _ e g
 
-  pub set_stops : {w : Ending} → w ≡ ending_of (read_terms s ws q) → ¬ (w.refused ≡ 0) → w ≡ ending_of (read_behind s ws a_set q)
-  set_stops e h = stops (read_terms s ws q) _ e h
+  pub set_stops : {n p : ℕ} → refuse n p ≡ ending_of (read_terms s ws q) → refuse n p ≡ ending_of (read_behind s ws a_set q)
+  set_stops e = stops (read_terms s ws q) _ e
 
-  pub set_goes : {w z : Ending} → w ≡ ending_of (read_terms s ws q) → w.refused ≡ 0 → z ≡ ending_of (read_term s ws w.at) → z ≡ ending_of (read_behind s ws a_set q)
-  set_goes e h g = both ws q 1 (read_terms s ws q) (read_term s ws) _ (went_terms s ws q) e h g
+  pub set_goes : {r : ℕ} {z : Res ℕ} → ok r ≡ ending_of (read_terms s ws q) → z ≡ ending_of (read_term s ws r) → z ≡ ending_of (read_behind s ws a_set q)
+  set_goes e g = both (read_terms s ws q) (read_term s ws) _ e g
 
-  pub call_stops : {w : Ending} → w ≡ ending_of (read_word ws (is_target s) q) → ¬ (w.refused ≡ 0) → w ≡ ending_of (read_behind s ws a_call q)
-  call_stops e h = stops (read_word ws (is_target s) q) _ e h
+  pub call_stops : {n p : ℕ} → refuse n p ≡ ending_of (read_word ws (is_target s) q) → refuse n p ≡ ending_of (read_behind s ws a_call q)
+  call_stops e = stops (read_word ws (is_target s) q) _ e
 
-  pub call_goes : {w z : Ending} → w ≡ ending_of (read_word ws (is_target s) q) → w.refused ≡ 0 → z ≡ ending_of (read_terms s ws w.at) → z ≡ ending_of (read_behind s ws a_call q)
-  call_goes e h g = both ws q 1 (read_word ws (is_target s) q) (read_terms s ws) _ (went_target s ws q) e h g
+  pub call_goes : {r : ℕ} {z : Res ℕ} → ok r ≡ ending_of (read_word ws (is_target s) q) → z ≡ ending_of (read_terms s ws r) → z ≡ ending_of (read_behind s ws a_call q)
+  call_goes e g = both (read_word ws (is_target s) q) (read_terms s ws) _ e g
 
 -- ---- an action, by its code
 
@@ -397,10 +395,10 @@ abbrev by : Sig → List ℕ → ℕ → Code → Res (Read CoreAction)
 by s ws p k = read_core_code s ws p k (suc p)
 
 module _ (s : Sig) {ws : List ℕ} {p : ℕ} where
-  pub action_other : NotKind ws p 6 → ending unfit p ≡ ending_of (read_core_action s ws p)
+  pub action_other : NotKind ws p 6 → refuse unfit p ≡ ending_of (read_core_action s ws p)
   action_other n = rw (no_code_lem n) refl
 
-  module _ {n : ℕ} (t : There ws p (Said.Action n)) {z : Ending} where
+  module _ {n : ℕ} (t : There ws p (Said.Action n)) {z : Res ℕ} where
     pub action_by : (m : ℕ) → n ≡ m → z ≡ ending_of (read_core_code s ws p (code_of (action_word m)) (p + 1)) → z ≡ ending_of (read_core_action s ws p)
     action_by m same e = as_code (by s ws p) t m same (rw (add-one p) at e)
 
@@ -416,5 +414,5 @@ module _ (s : Sig) {ws : List ℕ} {p : ℕ} where
     panic_goes six e = action_by 6 six (e ∙ sym (made (read_word ws is_literal_word (p + 1)) _))
 
   -- 8 is not flat, and the other numbers are no codes
-  pub action_none : {n : ℕ} → There ws p (Said.Action n) → NoneOf n 7 → ending unfit p ≡ ending_of (read_core_action s ws p)
+  pub action_none : {n : ℕ} → There ws p (Said.Action n) → NoneOf n 7 → refuse unfit p ≡ ending_of (read_core_action s ws p)
   action_none t k = last_code (by s ws p) t 7 k (λ e. absurd (k.last e)) (λ e. refl) refl

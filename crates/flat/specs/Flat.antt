@@ -8,26 +8,22 @@ use Rattle.rules.specs.Signature.{Sig}
 use Rattle.rules.specs.Written.{Reader}
 use Rattle.rules.specs.Flat.{CoreAction, is_term, read_core_code}
 use Rattle.words.specs.Atom.{term_number, term_number_of, term_word, head_kind, head_number, count_in}
+use Rattle.words.specs.declared.Term.{Term}
 use Rattle.words.specs.declared.Atom.{Atom as Begun}
-use Rattle.flat.specs.declared.Taken.{Taken}
-use Rattle.flat.specs.declared.Taken.TheVariants.{Term, Nothing}
-use Rattle.flat.specs.declared.First.{First}
-use Rattle.flat.specs.declared.First.TheVariants.{Atom, Other}
 
 -- a term by its numbers: 0 a variable, 1 a global, 2 a literal, and its word
 pub record TermNumbers : Type 0 where
   pub number_is : ℕ
   pub word_is : ℕ
 
--- what is taken where a term is expected, for each case at p: the term's numbers, or refusal 5 there
-abbrev pub taken_says : Taken → (p : ℕ) → Res TermNumbers
-taken_says (Term t) p = ok (record { number_is = term_number t; word_is = term_word t })
-taken_says Nothing p = refuse unfit p
+abbrev pub term_numbers : Term → TermNumbers
+term_numbers t = record { number_is = term_number t; word_is = term_word t }
 
 -- a term stands at an index
 abbrev pub is_term_at : Sig → List ℕ → ℕ → Bool
 is_term_at s ws p = ltb p (length ws) && is_term s (get_or ws p 0)
 
+-- what is taken there
 abbrev pub term_at : Sig → List ℕ → ℕ → Res TermNumbers
 term_at s ws p = demand (is_term_at s ws p) unfit p (record { number_is = term_number_of s.globals (get_or ws p 0); word_is = get_or ws p 0 })
 
@@ -41,11 +37,6 @@ pub record AtomNumbers : Type 0 where
 
 abbrev pub atom_numbers : Begun → AtomNumbers
 atom_numbers a = record { kind_is = head_kind a.head; number_is = head_number a.head; count_is = a.count; terms_at = a.terms; next_at = a.next }
-
--- how an atom begins, for each case at p: the atom's numbers, or refusal 5 there
-abbrev pub first_says : First → (p : ℕ) → Res AtomNumbers
-first_says (Atom a) p = ok (atom_numbers a)
-first_says Other p = refuse unfit p
 
 -- the word at an index begins an atom, if it is of kind 3 or 4
 abbrev pub begins_at : List ℕ → ℕ → Bool
@@ -61,6 +52,7 @@ numbers_from w p =
       next_at = p + 1 + count_in w;
     }
 
+-- how the atom there begins
 unfoldable pub first_at : List ℕ → ℕ → Res AtomNumbers
 first_at ws p = cond (begins_at ws p) (ok (numbers_from (get_or ws p 0) p)) (refuse unfit p)
 
