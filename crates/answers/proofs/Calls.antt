@@ -12,11 +12,13 @@ use Rattle.octets.proofs.Words.{length_words_kept}
 use Rattle.rules.specs.Refusals.{Res, ok, refuse, ◌>>=◌, demand, short_output, ragged}
 use Rattle.rules.specs.Signature.{Sig}
 use Rattle.rules.specs.Calls.{Result, output_fits, whole_words, Outcome, outcome_of}
+use Rattle.refusals.specs.Numbers.{told}
 use Rattle.signature.specs.Signature.{sign_of}
 use Rattle.signature.specs.declared.Signature.{Signature}
 use Rattle.free_vars.specs.Head.{WroteIfRoom}
 use Rattle.answers.specs.declared.Answer.{Answer}
 use Rattle.answers.specs.Answers.{refused_with, answer_of, GivesBoth}
+use Rattle.meaning.proofs.Results.{ok_inj}
 use Rattle.answers.proofs.Tests.{Front, tested, front, Passed, Fate, fate}
 use Rattle.answers.proofs.Ends.{ends_short, ends_written}
 
@@ -78,31 +80,29 @@ pub record Whole {R : Type 0} (k : Call R) : Type 0 where
 pub record Ready {R : Type 0} (k : Call R) (g : Signature) : Type 0 where
   pub whole : Whole k
   pub sig : Sig
-  pub told : g ≡ sign_of (ok sig)
+  pub told_of : g ≡ sign_of sig
   pub passed : Passed k.tests (work k) (behind k) sig
 
 module _ {R : Type 0} {k : Call R} (w : Whole k) where
   whole_is : ending k ≡ behind k
   whole_is = ap (λ (c : Bool). ◌>>=◌ (demand c ragged 0 k.lengths) (λ ns. behind k)) w.all
 
-  module _ {g : Signature} (told : g ≡ sign_of (front k.tests)) where
-    by_tests : (x : Res Sig) → front k.tests ≡ x → g.refused ≡ (sign_of x).refused
-    by_tests x e = ap (λ (y : Signature). y.refused) (told ∙ ap sign_of e)
+  pub front_refuses : {n p : ℕ} → refuse n p ≡ told sign_of (front k.tests) → {r : Answer} → r ≡ refused_with n p → Answers k r k.output k.counters
+  front_refuses {n} {p} is {r} a = go (front k.tests) is (fate k.tests (work k) (words k.counters))
+    where
+      go : (x : Res Sig) → refuse n p ≡ told sign_of x → Fate k.tests (work k) (behind k) x → Answers k r k.output k.counters
+      go (ok s) e z = cc
+      go (refuse m q) e z = comes_to k (refuse n p) (whole_is ∙ z ∙ sym e') a refl refl
+        where
+          e' : ◌≡◌ {A = Res Result} (refuse n p) (refuse m q)
+          e' = cc
 
-    pub front_refuses : (g.refused ≡ 0 → ⊥) → {r : Answer} → r ≡ refused_with g.refused g.place → Answers k r k.output k.counters
-    front_refuses bad {r} a = go (front k.tests) refl (fate k.tests (work k) (words k.counters))
-      where
-        go : (x : Res Sig) → front k.tests ≡ x → Fate k.tests (work k) (behind k) x → Answers k r k.output k.counters
-        go (ok s) e z = absurd (bad (by_tests (ok s) e))
-        go (refuse n p) e z =
-            comes_to k (refuse n p) (whole_is ∙ z.1) (a ∙ ap (λ (y : Signature). refused_with y.refused y.place) (told ∙ ap sign_of e)) refl refl
-
-    pub ready : g.refused ≡ 0 → Ready k g
-    ready fine = go (front k.tests) refl (fate k.tests (work k) (words k.counters))
-      where
-        go : (x : Res Sig) → front k.tests ≡ x → Fate k.tests (work k) (behind k) x → Ready k g
-        go (ok s) e z = record { whole = w; sig = s; told = told ∙ ap sign_of e; passed = z }
-        go (refuse n p) e z = absurd (z.0 (sym (by_tests (refuse n p) e) ∙ fine))
+  pub ready : {g : Signature} → ok g ≡ told sign_of (front k.tests) → Ready k g
+  ready {g} is = go (front k.tests) is (fate k.tests (work k) (words k.counters))
+    where
+      go : (x : Res Sig) → ok g ≡ told sign_of x → Fate k.tests (work k) (behind k) x → Ready k g
+      go (ok s) e z = record { whole = w; sig = s; told_of = ok_inj _ _ e; passed = z }
+      go (refuse m q) e z = cc
 
 module _ {R : Type 0} {k : Call R} {g : Signature} (y : Ready k g) where
   -- what is made of the rule that was read

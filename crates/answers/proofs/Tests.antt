@@ -1,14 +1,14 @@
 -- The tests before the work, in the order of 01: signature, counters, scratch, length, record. They are one definition for the three calls, over how a
 -- rule is read and which signatures have counters enough. `Reached` says what is left of them at a place of the code, `Passed` what is known behind all
 -- of them. Assumes nothing.
-use Prim.Native.Nat.{ℕ, ◌≤◌, ◌<◌}
+use Prim.Native.Nat.{ℕ, ◌≤◌}
 use mathlib.Core.Path.{◌≡◌, refl, sym, ◌∙◌, ap}
 use mathlib.Core.Bool.{Bool, true, false, ◌&&◌}
 use mathlib.Core.List.{List}
 use lib.ListN.{length}
 use native.Mathlib.Omega.{arith}
 use lib.Dec.{leb}
-use borrow.Author.Tests.{le-leb, lt-leb, leb-true}
+use borrow.Author.Tests.{le-leb, leb-true}
 use Rattle.rules.specs.Words.{limit12, max_flat, max_written, scratch_words}
 use Rattle.rules.specs.Refusals.{Res, ok, refuse, ◌>>=◌, demand, few_counters, small_scratch, bad_length}
 use Rattle.rules.specs.Signature.{Sig, heads, read_signature}
@@ -16,26 +16,14 @@ use Rattle.rules.specs.Written.{Rule, read_written}
 use Rattle.rules.specs.Flat.{FlatRule, read_flat}
 use Rattle.signature.specs.Signature.{sign_of}
 use Rattle.signature.specs.declared.Signature.{Signature}
-use Rattle.written.specs.declared.Ending.{Ending}
+use Rattle.refusals.specs.Numbers.{told}
+use Rattle.answers.specs.Fronts.{sizes_fit}
 use Rattle.written.specs.Written.{with_heads, whole_of}
 use Rattle.records.proofs.WrittenWhole.{written_with}
 use Rattle.records.proofs.FlatWhole.{flat_with}
 use Rattle.meaning.proofs.Lists.{and_right}
-use Rattle.meaning.proofs.Numbers.{Among, signature_among, flat_among, written_among}
+use Rattle.meaning.proofs.Results.{ok_inj}
 use Rattle.meaning.proofs.SignatureLaws.{signature_sound}
-
--- no refusal has number 0
-abbrev pub Some : ℕ → Type 0
-Some n = n ≡ 0 → ⊥
-
-signature_some : (ws : List ℕ) → Among Some (read_signature ws)
-signature_some ws = signature_among Some (λ e. let z : ◌≡◌ {A = ℕ} 1 0 = e in omega arith) ws
-
-pub flat_some : (s : Sig) (ws : List ℕ) → Among Some (read_flat s ws)
-flat_some s ws = flat_among Some (λ e. omega arith) (λ e. omega arith) (λ e. omega arith) s ws
-
-pub written_some : (s : Sig) (ws : List ℕ) → Among Some (read_written s ws)
-written_some s ws = written_among Some (λ e. omega arith) (λ e. omega arith) s ws
 
 -- ---- the tests
 
@@ -43,7 +31,6 @@ written_some s ws = written_among Some (λ e. omega arith) (λ e. omega arith) s
 pub record Front (R : Type 0) : Type 0 where
   pub read : Sig → List ℕ → Res R
   pub by_heads : (s : Sig) (ws : List ℕ) → heads s ≤ limit12 → read (with_heads (heads s)) ws ≡ read s ws
-  pub some : (s : Sig) (ws : List ℕ) → Among Some (read s ws)
   pub most : ℕ
   pub counted : Sig → Bool
   pub signature : List ℕ
@@ -57,7 +44,6 @@ flat sw rw n =
     record {
       read = read_flat;
       by_heads = flat_with;
-      some = flat_some;
       most = max_flat;
       counted = λ s. true;
       signature = sw;
@@ -71,7 +57,6 @@ written sw rw m n =
     record {
       read = read_written;
       by_heads = written_with;
-      some = written_some;
       most = max_written;
       counted = λ s. leb (heads s) m;
       signature = sw;
@@ -121,16 +106,16 @@ pub record Passed {R A : Type 0} (f : Front R) (k : Sig → R → Res A) (y : Re
 -- where the tests refuse, so does all that comes behind them
 abbrev pub Fate : {R A : Type 0} → Front R → (Sig → R → Res A) → Res A → Res Sig → Type 0
 Fate f k y (ok s) = Passed f k y s
-Fate f k y (refuse n p) = Some n × (y ≡ refuse n p)
+Fate f k y (refuse n p) = y ≡ refuse n p
 
 module _ {R A C : Type 0} (f : Front R) (k : Sig → R → Res A) (c : C) where
   fate_after : (s : Sig) → read_signature f.signature ≡ ok s → (a b l : Bool) → f.counted s ≡ a → roomy f ≡ b → fits f ≡ l
-      → (x : Res R) → f.read s f.rule ≡ x → Among Some x → Fate f k (after f k c s a b l x) (after f (signed f) f.counters s a b l x)
-  fate_after s e false b l ea eb el x r some = ((λ z. omega arith), refl)
-  fate_after s e true false l ea eb el x r some = ((λ z. omega arith), refl)
-  fate_after s e true true false ea eb el x r some = ((λ z. omega arith), refl)
-  fate_after s e true true true ea eb el (refuse n p) r some = (some, refl)
-  fate_after s e true true true ea eb el (ok v) r some =
+      → (x : Res R) → f.read s f.rule ≡ x → Fate f k (after f k c s a b l x) (after f (signed f) f.counters s a b l x)
+  fate_after s e false b l ea eb el x r = refl
+  fate_after s e true false l ea eb el x r = refl
+  fate_after s e true true false ea eb el x r = refl
+  fate_after s e true true true ea eb el (refuse n p) r = refl
+  fate_after s e true true true ea eb el (ok v) r =
       record {
         rule = v;
         signature = e;
@@ -142,108 +127,85 @@ module _ {R A C : Type 0} (f : Front R) (k : Sig → R → Res A) (c : C) where
       }
 
   pub fate : Fate f k (tested f k c) (front f)
-  fate = go (read_signature f.signature) refl (signature_some f.signature)
+  fate = go (read_signature f.signature) refl
     where
-      go : (x : Res Sig) → read_signature f.signature ≡ x → Among Some x
+      go : (x : Res Sig) → read_signature f.signature ≡ x
           → Fate f k (◌>>=◌ x (λ s. after f k c s (f.counted s) (roomy f) (fits f) (f.read s f.rule))) (◌>>=◌ x (λ s. left f (f.counted s) (roomy f) (fits f) s))
-      go (refuse n p) e some = (some, refl)
-      go (ok s) e some =
-          fate_after s e (f.counted s) (roomy f) (fits f) refl refl refl (f.read s f.rule) refl (f.some s f.rule)
+      go (refuse n p) e = refl
+      go (ok s) e = fate_after s e (f.counted s) (roomy f) (fits f) refl refl refl (f.read s f.rule) refl
 
 -- ---- at a place of the code: r tells of the signature, and these tests are left
 
 pub record Reached {R : Type 0} (f : Front R) (r : Signature) (rest : Sig → Res Sig) : Type 0 where
   pub sig : Sig
   pub signature : read_signature f.signature ≡ ok sig
-  pub told : r ≡ sign_of (ok sig)
+  pub told_of : r ≡ sign_of sig
   pub is : front f ≡ rest sig
 
 module _ {R : Type 0} (f : Front R) where
+  -- what the code answers
+  abbrev pub Told : Res Signature → Type 0
+  Told x = x ≡ told sign_of (front f)
+
   abbrev pub from_counters : Sig → Res Sig
   from_counters s = left f (f.counted s) (roomy f) (fits f) s
 
-  abbrev pub from_scratch : Sig → Res Sig
-  from_scratch = left f true (roomy f) (fits f)
-
-  abbrev pub from_length : Sig → Res Sig
-  from_length = left f true true (fits f)
+  abbrev pub from_sizes : Sig → Res Sig
+  from_sizes = left f true (roomy f) (fits f)
 
   abbrev pub from_record : Sig → Res Sig
   from_record = left f true true true
 
-  module _ {r : Signature} (read : r ≡ sign_of (read_signature f.signature)) where
-    pub bad_signature_lem : (r.refused ≡ 0 → ⊥) → r ≡ sign_of (front f)
-    bad_signature_lem bad = read ∙ go (read_signature f.signature) (λ z. bad (ap (λ (x : Signature). x.refused) read ∙ z))
-      where
-        go : (x : Res Sig) → ((sign_of x).refused ≡ 0 → ⊥) → sign_of x ≡ sign_of (◌>>=◌ x from_counters)
-        go (ok s) h = absurd (h refl)
-        go (refuse n p) h = refl
-
-    pub good_signature : r.refused ≡ 0 → Reached f r from_counters
-    good_signature good = go (read_signature f.signature) refl (signature_some f.signature)
-      where
-        go : (x : Res Sig) → read_signature f.signature ≡ x → Among Some x → Reached f r from_counters
-        go (ok s) e some = record { sig = s; signature = e; told = read ∙ ap sign_of e; is = ap (λ (x : Res Sig). ◌>>=◌ x from_counters) e }
-        go (refuse n p) e some = absurd (some (sym (ap (λ (x : Signature). x.refused) (read ∙ ap sign_of e)) ∙ good))
+  pub good_signature : {r : Signature} → ok r ≡ told sign_of (read_signature f.signature) → Reached f r from_counters
+  good_signature {r} e = go (read_signature f.signature) refl e
+    where
+      go : (x : Res Sig) → read_signature f.signature ≡ x → ok r ≡ told sign_of x → Reached f r from_counters
+      go (ok s) is e = record { sig = s; signature = is; told_of = ok_inj _ _ e; is = ap (λ (x : Res Sig). ◌>>=◌ x from_counters) is }
+      go (refuse m q) is e = cc
 
 module _ {R : Type 0} {f : Front R} {r : Signature} where
-  -- a test refuses, and that is what is given back
-  stop : {rest : Sig → Res Sig} (h : Reached f r rest) {n p : ℕ} → rest h.sig ≡ refuse n p → {t : Signature} → t ≡ sign_of (refuse n p)
-      → t ≡ sign_of (front f)
-  stop h e t = t ∙ ap sign_of (sym (h.is ∙ e))
-
   -- a test passes
   pass : {rest : Sig → Res Sig} (h : Reached f r rest) {next : Sig → Res Sig} → rest h.sig ≡ next h.sig → Reached f r next
-  pass h e = record { sig = h.sig; signature = h.signature; told = h.told; is = h.is ∙ e }
+  pass h e = record { sig = h.sig; signature = h.signature; told_of = h.told_of; is = h.is ∙ e }
 
   module _ (h : Reached f r (from_counters f)) where
-    few_counters_lem : f.counted h.sig ≡ false → {t : Signature} → t ≡ sign_of (refuse few_counters 0) → t ≡ sign_of (front f)
-    few_counters_lem e = stop h (ap (λ (b : Bool). left f b (roomy f) (fits f) h.sig) e)
-
-    many_counters : f.counted h.sig ≡ true → Reached f r (from_scratch f)
+    pub many_counters : f.counted h.sig ≡ true → Reached f r (from_sizes f)
     many_counters e = pass h (ap (λ (b : Bool). left f b (roomy f) (fits f) h.sig) e)
 
-  module _ (h : Reached f r (from_scratch f)) where
-    pub little_scratch : f.scratch < scratch_words → {t : Signature} → t ≡ sign_of (refuse small_scratch 0) → t ≡ sign_of (front f)
-    little_scratch l = stop h (ap (λ (b : Bool). left f true b (fits f) h.sig) (lt-leb scratch_words f.scratch l))
+  module _ (h : Reached f r (from_sizes f)) where
+    pub good_sizes : ok (tt {0}) ≡ sizes_fit f.most f.rule f.scratch → Reached f r (from_record f)
+    good_sizes e = pass h (go (roomy f) (fits f) e)
+      where
+        go : (b l : Bool) → ok (tt {0}) ≡ ◌>>=◌ (demand b small_scratch 0 f.scratch) (λ m. ◌>>=◌ (demand l bad_length 0 (length f.rule)) (λ k. ok (tt {0})))
+            → left f true b l h.sig ≡ left f true true true h.sig
+        go true true e = refl
+        go true false e = cc
+        go false l e = cc
 
-    pub enough_scratch : scratch_words ≤ f.scratch → Reached f r (from_length f)
-    enough_scratch l = pass h (ap (λ (b : Bool). left f true b (fits f) h.sig) (le-leb scratch_words f.scratch l))
-
-  module _ (h : Reached f r (from_length f)) {b : Bool} (test : b ≡ fits f) where
-    pub wrong_length : b ≡ false → {t : Signature} → t ≡ sign_of (refuse bad_length 0) → t ≡ sign_of (front f)
-    wrong_length e = stop h (ap (λ (b : Bool). left f true true b h.sig) (sym test ∙ e))
-
-    pub right_length : b ≡ true → Reached f r (from_record f)
-    right_length e = pass h (ap (λ (b : Bool). left f true true b h.sig) (sym test ∙ e))
-
-  module _ (h : Reached f r (from_record f)) {w : Ending} (ending : w ≡ whole_of f.rule (f.read (with_heads r.heads) f.rule)) where
-    ending_is : w ≡ whole_of f.rule (f.read h.sig f.rule)
-    ending_is =
-        ending ∙ ap (λ (k : ℕ). whole_of f.rule (f.read (with_heads k) f.rule)) (ap (λ (x : Signature). x.heads) h.told)
+  module _ (h : Reached f r (from_record f)) where
+    by_heads_lem : whole_of f.rule (f.read (with_heads r.heads) f.rule) ≡ whole_of f.rule (f.read h.sig f.rule)
+    by_heads_lem =
+        ap (λ (k : ℕ). whole_of f.rule (f.read (with_heads k) f.rule)) (ap (λ (x : Signature). x.heads) h.told_of)
         ∙ ap (whole_of f.rule) (f.by_heads h.sig f.rule (signature_sound f.signature h.sig h.signature).few_heads)
 
-    pub bad_record : (w.refused ≡ 0 → ⊥) → {t : Signature} → t ≡ sign_of (refuse w.refused w.at) → t ≡ sign_of (front f)
-    bad_record bad {t} e = go (f.read h.sig f.rule) ending_is h.is
+    pub bad_record : {n p : ℕ} → refuse n p ≡ whole_of f.rule (f.read (with_heads r.heads) f.rule) → Told f (refuse n p)
+    bad_record {n} {p} e = go (f.read h.sig f.rule) (e ∙ by_heads_lem) ∙ ap (told sign_of) (sym h.is)
       where
-        go : (x : Res R) → w ≡ whole_of f.rule x → front f ≡ after f (signed f) f.counters h.sig true true true x → t ≡ sign_of (front f)
-        go (ok v) z i = absurd (bad (ap (λ (y : Ending). y.refused) z))
-        go (refuse n p) z i = e ∙ ap (λ (y : Ending). sign_of (refuse y.refused y.at)) z ∙ ap sign_of (sym i)
+        go : (x : Res R) → refuse n p ≡ whole_of f.rule x → refuse n p ≡ told sign_of (after f (signed f) f.counters h.sig true true true x)
+        go (ok v) e = cc
+        go (refuse m q) e = let number : n ≡ m = cc in let place : p ≡ q = cc in rw (number, place) refl
 
-    pub good_record : w.refused ≡ 0 → r ≡ sign_of (front f)
-    good_record good = go (f.read h.sig f.rule) ending_is (f.some h.sig f.rule) h.is
+    pub good_record : {q : ℕ} → ok q ≡ whole_of f.rule (f.read (with_heads r.heads) f.rule) → Told f (ok r)
+    good_record {q} e = ap ok h.told_of ∙ ap (told sign_of) (sym (h.is ∙ go (f.read h.sig f.rule) (e ∙ by_heads_lem)))
       where
-        go : (x : Res R) → w ≡ whole_of f.rule x → Among Some x → front f ≡ after f (signed f) f.counters h.sig true true true x → r ≡ sign_of (front f)
-        go (ok v) z some i = h.told ∙ ap sign_of (sym i)
-        go (refuse n p) z some i = absurd (some (sym (ap (λ (y : Ending). y.refused) z) ∙ good))
+        go : (x : Res R) → ok q ≡ whole_of f.rule x → after f (signed f) f.counters h.sig true true true x ≡ ok h.sig
+        go (ok v) e = refl
+        go (refuse m p) e = cc
 
 -- lowering has a counter for each head
 module _ {sw rw : List ℕ} {m n : ℕ} {r : Signature} (h : Reached (written sw rw m n) r (from_counters (written sw rw m n))) where
   heads_are : r.heads ≡ heads h.sig
-  heads_are = ap (λ (x : Signature). x.heads) h.told
+  heads_are = ap (λ (x : Signature). x.heads) h.told_of
 
-  pub counters_short : m < r.heads → {t : Signature} → t ≡ sign_of (refuse few_counters 0) → t ≡ sign_of (front (written sw rw m n))
-  counters_short l = few_counters_lem h (lt-leb (heads h.sig) m (omega (arith, heads_are)))
-
-  pub counters_there : r.heads ≤ m → Reached (written sw rw m n) r (from_scratch (written sw rw m n))
+  pub counters_there : r.heads ≤ m → Reached (written sw rw m n) r (from_sizes (written sw rw m n))
   counters_there l = many_counters h (le-leb (heads h.sig) m (omega (arith, heads_are)))

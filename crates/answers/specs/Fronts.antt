@@ -1,12 +1,19 @@
 -- 01, "Turned back": the tests that come before any work, in their order, and the signature that they leave.
 -- Assumes nothing: these are definitions.
-use Rattle.std.specs.Prelude.{ℕ, List, leb}
+use Rattle.std.specs.Prelude.{ℕ, ⊤, List, leb}
 use Rattle.rules.specs.Words.{max_written, max_flat}
 use Rattle.rules.specs.Refusals.{Res, ok, ◌>>=◌, demand, few_counters}
 use Rattle.rules.specs.Signature.{Sig, heads, read_signature}
 use Rattle.rules.specs.Written.{read_written}
 use Rattle.rules.specs.Flat.{read_flat}
 use Rattle.rules.specs.Calls.{scratch_fits, length_fits}
+
+-- of the sizes: 3, 4
+abbrev pub sizes_fit : (most : ℕ) → (rule : List ℕ) → (scratch : ℕ) → Res ⊤
+sizes_fit most rule scratch = do
+  n ← scratch_fits scratch
+  l ← length_fits most rule
+  ok tt
 
 -- of settling: 1, 3, 4, then 5, 11 and 12. Free variables ask for no scratch: as if there were enough
 abbrev pub flat_front : (signature rule : List ℕ) → (scratch : ℕ) → Res Sig

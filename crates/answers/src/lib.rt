@@ -4,12 +4,10 @@
 pub mod fronts;
 
 ghost use Rattle.std.specs.Prelude.{◌≡◌, ◌%◌, length, eqb};
+ghost use Rattle.refusals.specs.Numbers.{number_of};
 ghost use Rattle.answers.specs.Answers.{refused_with, whole_three};
 
-// The refusals' numbers that the calls give themselves.
-pub const SHORT_OUTPUT: usize = 10;
-
-pub const RAGGED: usize = 14;
+use refusals::Refusal;
 
 // What a call answers. Number 0 is acceptance, with place 0 and the three counts; a refusal has all counts 0.
 #[repr(C)]
@@ -22,15 +20,17 @@ pub struct Answer {
     pub passes: u64,
 }
 
-pub fn refused(number: usize, place: usize) -> Answer
-    ensures { result ≡ refused_with number place }
-{
-    Answer {
-        number: number as u64,
-        place: place as u64,
-        words: 0,
-        replacements: 0,
-        passes: 0,
+impl From<Refusal> for Answer {
+    ghost from_gives = { λ r a. a ≡ refused_with (number_of r.reason) r.place };
+
+    fn from(refusal: Refusal) -> Answer {
+        Answer {
+            number: refusal.reason.number(),
+            place: refusal.place as u64,
+            words: 0,
+            replacements: 0,
+            passes: 0,
+        }
     }
 }
 
@@ -38,21 +38,12 @@ pub fn refused(number: usize, place: usize) -> Answer
 pub fn whole(slice: &[u8]) -> bool
     ensures { result ≡ eqb (length slice.now % 4) 0 }
 {
-    slice.len() % 4 == 0
+    slice.len().is_multiple_of(4)
 }
 
 // Three slices are whole words, and so is the rest.
 pub fn all_whole(a: &[u8], b: &[u8], c: &[u8], rest: bool) -> bool
     ensures { result ≡ whole_three (length a.now) (length b.now) (length c.now) rest }
 {
-    if !whole(a) {
-        return false;
-    }
-    if !whole(b) {
-        return false;
-    }
-    if !whole(c) {
-        return false;
-    }
-    rest
+    whole(a) && whole(b) && whole(c) && rest
 }

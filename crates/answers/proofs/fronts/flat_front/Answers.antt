@@ -1,45 +1,20 @@
--- The tests are the definition's, in its order: where one refuses, that refusal is given back, and behind all of them the signature. Assumes nothing.
+-- The tests are the definition's, in its order. A rule is read by the number of heads alone, and so as under the signature. Assumes nothing.
 use Rattle.octets.specs.Words.{words}
 use Rattle.rules.specs.Flat.{FlatRule}
-use Rattle.answers.proofs.Tests.{Front, flat, Reached, from_scratch, from_length, from_record, bad_signature_lem, good_signature}
-use Rattle.answers.proofs.Tests.{little_scratch, enough_scratch, wrong_length, right_length, bad_record, good_record}
+use Rattle.refusals.proofs.Passing.{passed_on}
+use Rattle.answers.proofs.Tests.{Front, flat, Reached, from_record, good_signature, good_sizes, bad_record, good_record}
 use Rattle.answers.proofs.fronts.flat_front.Goals as goal
 
-pub returns-then-sign-ne0 : goal.returns-then-sign-ne0
-returns-then-sign-ne0 c =
+pub returns-in_err-_end : goal.returns-in_err-_end
+returns-in_err-_end c =
     let tests : Front FlatRule =
     let a = c.args in flat (words a.signature.now) (words a.rule.now) a.scratch in
-    bad_signature_lem tests c.read-sign.ensures c.if-sign-ne0.true
-
-pub returns-then-scratch-lt-SCRATCH_WORDS : goal.returns-then-scratch-lt-SCRATCH_WORDS
-returns-then-scratch-lt-SCRATCH_WORDS c =
-    let tests : Front FlatRule =
-    let a = c.args in flat (words a.signature.now) (words a.rule.now) a.scratch in
-    let at_signature : Reached tests c.read-sign.result (from_scratch tests) = good_signature tests c.read-sign.ensures c.if-sign-ne0.false in
-    little_scratch at_signature c.if-scratch-lt-SCRATCH_WORDS.true c.turned_back.ensures
-
-pub returns-then-not-length_fits : goal.returns-then-not-length_fits
-returns-then-not-length_fits c =
-    let tests : Front FlatRule =
-    let a = c.args in flat (words a.signature.now) (words a.rule.now) a.scratch in
-    let at_signature : Reached tests c.read-sign.result (from_scratch tests) = good_signature tests c.read-sign.ensures c.if-sign-ne0.false in
-    let at_scratch : Reached tests c.read-sign.result (from_length tests) = enough_scratch at_signature c.if-scratch-lt-SCRATCH_WORDS.false in
-    wrong_length at_scratch c.length_fits.ensures c.if-not-length_fits.true c.turned_back-then-not-length_fits.ensures
-
-pub returns-then-read-ne0 : goal.returns-then-read-ne0
-returns-then-read-ne0 c =
-    let tests : Front FlatRule =
-    let a = c.args in flat (words a.signature.now) (words a.rule.now) a.scratch in
-    let at_signature : Reached tests c.read-sign.result (from_scratch tests) = good_signature tests c.read-sign.ensures c.if-sign-ne0.false in
-    let at_scratch : Reached tests c.read-sign.result (from_length tests) = enough_scratch at_signature c.if-scratch-lt-SCRATCH_WORDS.false in
-    let at_length : Reached tests c.read-sign.result (from_record tests) = right_length at_scratch c.length_fits.ensures c.if-not-length_fits.false in
-    bad_record at_length c.flat-read.ensures c.if-read-ne0.true c.turned_back-then-read-ne0.ensures
+    let at_record : Reached tests c.in_ok-sign.sign (from_record tests) = good_sizes (good_signature tests c.in_ok-sign.ensures) c.in_ok-sizes.ensures in
+    passed_on _ _ c.from_residual-in_err-_end.ensures.1 (bad_record at_record c.in_err-_end.ensures)
 
 pub returns : goal.returns
 returns c =
     let tests : Front FlatRule =
     let a = c.args in flat (words a.signature.now) (words a.rule.now) a.scratch in
-    let at_signature : Reached tests c.read-sign.result (from_scratch tests) = good_signature tests c.read-sign.ensures c.if-sign-ne0.false in
-    let at_scratch : Reached tests c.read-sign.result (from_length tests) = enough_scratch at_signature c.if-scratch-lt-SCRATCH_WORDS.false in
-    let at_length : Reached tests c.read-sign.result (from_record tests) = right_length at_scratch c.length_fits.ensures c.if-not-length_fits.false in
-    good_record at_length c.flat-read.ensures c.if-read-ne0.false
+    let at_record : Reached tests c.in_ok-sign.sign (from_record tests) = good_sizes (good_signature tests c.in_ok-sign.ensures) c.in_ok-sizes.ensures in
+    good_record at_record c.in_ok-_end.ensures
