@@ -1,6 +1,5 @@
 -- The part of a signature that settling is given. Assumes nothing: these are definitions.
-use Rattle.std.specs.Prelude.{◌≡◌, ◌≤◌, ◌<◌}
-use Rattle.rules.specs.Words.{limit12}
+use Rattle.std.specs.Prelude.{◌≡◌}
 use Rattle.rules.specs.Signature.{Sig}
 use Rattle.meaning.specs.Signatures.{sig_of}
 use Rattle.bodies.specs.declared.terms.Sign.{Sign}
@@ -8,10 +7,6 @@ use Rattle.bodies.specs.declared.terms.Sign.{Sign}
 -- a signature with these two numbers
 abbrev pub sig : Sign → Sig
 sig q = sig_of q.globals q.equals
-
-pub record GoodSign (q : Sign) : Type 0 where
-  pub globals : q.globals ≤ limit12
-  pub equals : q.equals < limit12
 
 -- the two numbers are those of a signature
 pub record Agrees (q : Sign) (s : Sig) : Type 0 where

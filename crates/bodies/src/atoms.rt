@@ -33,12 +33,10 @@ fn same_terms(s: &[u8], p: usize, q: usize, n: usize) -> bool
     requires { (p + n ≤ length (words s.now)) × (q + n ≤ length (words s.now)) }
     ensures { result ≡ same_terms (part (words s.now) p n) (part (words s.now) q n) }
 {
-    let mut i = 0;
-    while i < n {
+    for i in 0..n {
         if !same_term(octets::get(s, p + i), octets::get(s, q + i)) {
             return false;
         }
-        i += 1;
     }
     true
 }

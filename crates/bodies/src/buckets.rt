@@ -8,7 +8,7 @@ ghost use Rattle.bodies.specs.Buckets.{mix, mix_all, key_of, bucket_of};
 fn mixed(k: u32, w: u32) -> u32
     ensures { result ≡ mix k w }
 {
-    ((k as u64 * 0x9e37_79b1 + w as u64) % 0x1_0000_0000) as u32
+    k.wrapping_mul(0x9e37_79b1).wrapping_add(w)
 }
 
 // A key with the n words at p mixed into it, in their order.
@@ -17,10 +17,8 @@ fn mix_all(s: &[u8], p: usize, n: usize, start: u32) -> u32
     ensures { result ≡ mix_all start (part (words s.now) p n) }
 {
     let mut k = start;
-    let mut i = 0;
-    while i < n {
+    for i in 0..n {
         k = mixed(k, octets::get(s, p + i));
-        i += 1;
     }
     k
 }
@@ -58,9 +56,7 @@ pub fn fill(s: &mut [u8], p: usize, n: usize, w: u32)
     requires { p + n ≤ length (words s.old) }
     ensures { words s.new ≡ splice (words s.old) p (replicate n w) }
 {
-    let mut i = 0;
-    while i < n {
+    for i in 0..n {
         octets::put(s, p + i, w);
-        i += 1;
     }
 }

@@ -14,11 +14,6 @@ returns-then-get c =
     let k = c.requires in
     sym (heads_differ k.tab_at k.tab_at_2 (λ e. c.if-get.true (c.get.ensures.is ∙ e ∙ sym c.get-2.ensures.is)))
 
-pub overflow_sub-first : goal.overflow_sub-first
-overflow_sub-first c =
-    let at_first : (let a = c.args in Read (words a.s.now) a.p c.good_atom_at-first.result) = read c.requires.tab_at c.good_atom_at-first.ensures in
-    omega (arith, at_first)
-
 pub same_terms-requires : goal.same_terms-requires
 same_terms-requires c =
     let at_first : (let a = c.args in Read (words a.s.now) a.p c.good_atom_at-first.result) = read c.requires.tab_at c.good_atom_at-first.ensures in

@@ -1,14 +1,8 @@
 -- An atom's output is the last of its terms: it stands right before the place where the next atom may begin. Assumes nothing.
 use mathlib.Core.Path.{◌∙◌}
-use native.Mathlib.Omega.{arith}
 use Rattle.octets.specs.Words.{words}
 use Rattle.bodies.proofs.Alike.{Read, out_at, read}
 use Rattle.bodies.proofs.atoms.output.Goals as goal
-
-pub get-requires : goal.get-requires
-get-requires c =
-    let at_atom : (let a = c.args in Read (words a.s.now) a.p c.good_atom_at-atom.result) = read c.requires c.good_atom_at-atom.ensures in
-    omega (arith, at_atom)
 
 pub returns : goal.returns
 returns c =

@@ -1,7 +1,6 @@
 -- Terms are compared in pairs: where a pair differs the rows do, and where none is left they agree. Assumes nothing.
 use mathlib.Core.Path.{◌∙◌, refl, sym}
 use native.Mathlib.Omega.{arith}
-use Rattle.octets.proofs.Words.{length_words}
 use Rattle.bodies.proofs.Alike.{agreeing_end, agreeing_next, agreeing_not}
 use Rattle.bodies.proofs.atoms.same_terms.Goals as goal
 
@@ -9,18 +8,6 @@ pub loop-i-init : goal.loop-i-init
 loop-i-init c = record { most = omega arith; same = refl }
 
 -- ---- a pair is read
-
-pub overflow_add-p : goal.overflow_add-p
-overflow_add-p c = omega (arith, c.requires.0, length_words c.args.s.now)
-
-pub get-requires : goal.get-requires
-get-requires c = omega (arith, c.requires.0)
-
-pub overflow_add-q : goal.overflow_add-q
-overflow_add-q c = omega (arith, c.requires.1, length_words c.args.s.now)
-
-pub get-requires-in-loop-i : goal.get-requires-in-loop-i
-get-requires-in-loop-i c = omega (arith, c.requires.1)
 
 -- ---- it differs
 

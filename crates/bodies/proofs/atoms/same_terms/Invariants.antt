@@ -1,10 +1,6 @@
-use Prim.Native.Nat.{◌-◌}
 use Rattle.octets.specs.Words.{words}
 use Rattle.bodies.proofs.Alike.{Agreeing}
 use Rattle.bodies.proofs.atoms.same_terms.Given as goal
 
 abbrev pub invariant-loop-i : goal.invariant-loop-i
 invariant-loop-i l = Agreeing (words l.s) l.p l.q l.n l.i
-
-abbrev pub decreases-loop-i : goal.decreases-loop-i
-decreases-loop-i l = l.n - l.i

@@ -1,17 +1,9 @@
 -- A word's bucket is the upper half of the product of its key and the count: a key is below 2^32, so that half is below the count. Assumes nothing.
 use mathlib.Core.Path.{◌∙◌, ◌≡◌, ap, refl, subst, sym}
 use Prim.Native.Nat.{ℕ, ◌*◌, ◌/◌, ◌<◌}
-use native.Mathlib.Nat.{mul-lt-mul_of_pos_right}
-use native.Mathlib.Omega.{arith}
 use Rattle.bodies.specs.Buckets.{bucket_of, mix}
-use Rattle.bodies.proofs.BucketLaws.{bucket_in_lem, mix_word}
+use Rattle.bodies.proofs.BucketLaws.{bucket_in_lem}
 use Rattle.bodies.proofs.buckets.bucket.Goals as goal
-
-pub overflow_mul-result : goal.overflow_mul-result
-overflow_mul-result c =
-    let a = c.args in
-    let e = ap (λ (k : ℕ). k * a.count) c.mixed.ensures in
-    record { fits = omega (arith, e, mul-lt-mul_of_pos_right (mix_word a.w 0) c.requires.0) }
 
 unfolded : (count w : ℕ) → bucket_of count w ≡ mix w 0 * count / 0x1_0000_0000
 unfolding bucket_of

@@ -1,19 +1,12 @@
 -- Filling a row with one word: after i turns the first i words are that word, and the others are as they were. Assumes nothing.
 use mathlib.Core.Path.{refl}
 use native.Mathlib.Omega.{arith}
-use Rattle.octets.proofs.Words.{length_words}
-use Rattle.octets.proofs.Filling.{filled_start, filled_next, filled_end, filled_count}
+use Rattle.octets.proofs.Filling.{filled_start, filled_next, filled_end}
 use Rattle.bodies.proofs.BucketLaws.{replicate_more}
 use Rattle.bodies.proofs.buckets.fill.Goals as goal
 
 pub loop-i-init : goal.loop-i-init
 loop-i-init c = filled_start _ _ _ _ refl
-
-pub overflow_add-p : goal.overflow_add-p
-overflow_add-p c = omega (arith, length_words c.args.s.now)
-
-pub put-requires : goal.put-requires
-put-requires c = omega (arith, filled_count c.loop-i.invariant)
 
 pub loop-i-preserved : goal.loop-i-preserved
 loop-i-preserved c =

@@ -1,6 +1,5 @@
 -- The key of a row of words, two and three of them without a loop: where it returns, the words read are all there are, and the key is theirs. Assumes nothing.
 use native.Mathlib.Omega.{arith}
-use Rattle.octets.proofs.Words.{length_words}
 use Rattle.octets.specs.Words.{words}
 use Rattle.bodies.proofs.BucketLaws.{Keyed, key_all, key_done, key_more, key_one}
 use Rattle.bodies.proofs.buckets.key.Goals as goal
@@ -10,17 +9,11 @@ returns-then-n-lt2 c =
     let at_one : (let a = c.args in Keyed (words a.s.now) a.p 1 c.get.result) = key_one (omega arith) c.get.ensures.is in
     key_done at_one c.args.n (omega arith)
 
-pub overflow_add-p : goal.overflow_add-p
-overflow_add-p c = omega (arith, c.requires, length_words c.args.s.now)
-
 pub returns-then-n-lt3 : goal.returns-then-n-lt3
 returns-then-n-lt3 c =
     let at_two : (let a = c.args in Keyed (words a.s.now) a.p 2 c.mixed-two.result) =
     key_more (key_one (omega arith) c.get-2.ensures.is) (omega arith) c.get-3.ensures.is c.mixed-two.ensures in
     key_done at_two c.args.n (omega arith)
-
-pub overflow_add-p-2 : goal.overflow_add-p-2
-overflow_add-p-2 c = omega (arith, c.requires, length_words c.args.s.now)
 
 pub returns-then-n-lt4 : goal.returns-then-n-lt4
 returns-then-n-lt4 c =
@@ -31,9 +24,6 @@ returns-then-n-lt4 c =
     key_done at_three c.args.n (omega arith)
 
 -- ---- more
-
-pub overflow_add-p-3 : goal.overflow_add-p-3
-overflow_add-p-3 c = omega (arith, c.requires, length_words c.args.s.now)
 
 pub returns : goal.returns
 returns c =

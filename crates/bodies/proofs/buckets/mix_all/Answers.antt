@@ -3,7 +3,6 @@ use mathlib.Core.Path.{◌∙◌, ◌≡◌, ap, sym}
 use Prim.Native.Nat.{ℕ}
 use native.Mathlib.Omega.{arith}
 use borrow.Author.Rules.{rules}
-use Rattle.octets.proofs.Words.{length_words}
 use Rattle.octets.specs.Regions.{part}
 use Rattle.octets.specs.Words.{words}
 use Rattle.bodies.specs.Buckets.{mix, mix_all}
@@ -12,9 +11,6 @@ use Rattle.bodies.proofs.buckets.mix_all.Goals as goal
 
 pub loop-i-init : goal.loop-i-init
 loop-i-init c = let a = c.args in (search rules, sym (mix_none a.start (words a.s.now) a.p))
-
-pub overflow_add-p : goal.overflow_add-p
-overflow_add-p c = omega (arith, length_words c.args.s.now)
 
 pub loop-i-preserved : goal.loop-i-preserved
 loop-i-preserved c =

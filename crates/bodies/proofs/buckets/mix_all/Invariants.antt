@@ -1,5 +1,5 @@
 use mathlib.Core.Path.{◌≡◌}
-use Prim.Native.Nat.{◌-◌, ◌≤◌}
+use Prim.Native.Nat.{◌≤◌}
 use Rattle.octets.specs.Regions.{part}
 use Rattle.octets.specs.Words.{words}
 use Rattle.bodies.specs.Buckets.{mix_all}
@@ -7,6 +7,3 @@ use Rattle.bodies.proofs.buckets.mix_all.Given as goal
 
 abbrev pub invariant-loop-i : goal.invariant-loop-i
 invariant-loop-i l = (l.i ≤ l.n) × (l.k ≡ mix_all l.start (part (words l.s) l.p l.i))
-
-abbrev pub decreases-loop-i : goal.decreases-loop-i
-decreases-loop-i l = l.n - l.i
