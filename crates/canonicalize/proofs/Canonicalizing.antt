@@ -106,22 +106,22 @@ pub record Tabled (l : List ℕ) (at n to d table buckets : ℕ) : Type 0 where
   pub room : to + weight (atoms_in l at n) + binding_size * length (atoms_in l at n) + binding_size ≤ d
   pub top : d ≤ length l
 
-module _ {l : List ℕ} {at n to d : ℕ} (c : CanonicalizeAsks l at n to d) {m : List ℕ} {buckets : ℕ} (b : Built l m at n (at + n) buckets) where
-  made_table : Only l m (at + n) (at + n + 2 * buckets)
-  made_table = built_only b (omega (arith, c.clear, c.room, c.top, b.few))
+module _ {l : List ℕ} {at n to d : ℕ} (c : CanonicalizeAsks l at n to d) {m : List ℕ} {table buckets : ℕ} (place : table ≡ at + n) (b : Built l m at n table buckets) where
+  made_table : Only l m table (table + 2 * buckets)
+  made_table = built_only b (omega (arith, place, c.clear, c.room, c.top, b.few))
 
   same_atoms : AtomsAt (atoms_in l at n) m at n
-  same_atoms = atoms_before made_table c.atoms (omega arith)
+  same_atoms = atoms_before made_table c.atoms (omega (arith, place))
 
   same : atoms_in m at n ≡ atoms_in l at n
   same = atoms_is m at n (atoms_in l at n) same_atoms
 
-  pub tabled : Tabled m at n to d (at + n) buckets
+  pub tabled : Tabled m at n to d table buckets
   tabled =
       record {
         atoms = atoms_read m at n (atoms_in l at n) same_atoms;
         spanned = b.spanned;
-        clear = omega (arith, c.clear, b.few);
+        clear = omega (arith, place, c.clear, b.few);
         room = subst (λ (us : List Atom). to + weight us + binding_size * length us + binding_size ≤ d) (sym same) c.room;
         top = omega (arith, c.top, made_table.size);
       }
@@ -129,7 +129,7 @@ module _ {l : List ℕ} {at n to d : ℕ} (c : CanonicalizeAsks l at n to d) {m 
   -- as if there were no table
   pub untabled : {s : Sig} {m₂ : List ℕ} {r : Canonical} → CanonicalAt s (atoms_in m at n) m m₂ at to d r → CanonicalAt s (atoms_in l at n) l m₂ at to d r
   untabled {s} {m₂} {r} k =
-      let o : Only l m at d = only_wide at d made_table (omega arith) (omega (arith, c.clear, c.room, b.few)) in
+      let o : Only l m at d = only_wide at d made_table (omega (arith, place)) (omega (arith, place, c.clear, c.room, b.few)) in
       subst (λ (us : List Atom). CanonicalAt s us l m₂ at to d r) same
       (record { tabs = k.tabs; binds = k.binds; count = k.count; only = only_then o k.only })
 
@@ -138,6 +138,10 @@ pub record Led (l : List ℕ) (at n to d table buckets e : ℕ) : Type 0 where
   pub tabled : Tabled l at n to d table buckets
   pub leads : Leads l at n e
   pub fits : length l < 2 ^ 64
+
+pub led : {l m : List ℕ} {at n to d table buckets e : ℕ} → CanonicalizeAsks l at n to d → table ≡ at + n → Built l m at n table buckets
+    → Leads m at n e → length m ≡ length l → length l < 2 ^ 64 → Led m at n to d table buckets e
+led c place b leads same fits = record { tabled = tabled c place b; leads = leads; fits = omega arith }
 
 module _ {l : List ℕ} {at n to d table buckets e : ℕ} (g : Led l at n to d table buckets e) where
   abbrev c : Tabled l at n to d table buckets

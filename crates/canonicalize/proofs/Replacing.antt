@@ -1,5 +1,5 @@
 -- Replacing in words, atom by atom, is the sweep over atoms, which is `replace_all`. Assumes nothing.
-use mathlib.Core.Bool.{Bool, false, false≢true, true}
+use mathlib.Core.Bool.{Bool, false, true}
 use mathlib.Core.List.{List, [], ◌++◌, ◌∷◌, append_assoc, append-nil, map}
 use mathlib.Core.Option.{Option, none, some}
 use mathlib.Core.Path.{◌∙◌, ◌≡◌, ap, refl, subst, sym}
@@ -22,16 +22,18 @@ use Rattle.meaning.proofs.WordLaws.{bindings_words, length_replaced, replace_wor
 use Rattle.meaning.specs.Meaning.{All}
 use Rattle.meaning.specs.ReadBack.{Encodable}
 use Rattle.meaning.proofs.Sweep.{asks}
-use Rattle.words.proofs.AtomLaws.{atom_equality, is_var_term, term_var, termed}
+use Rattle.words.proofs.AtomLaws.{atom_equality, is_var_term, sign_word, term_var, termed}
 use Rattle.words.specs.Atom.{AtomSays, BeginsGood, TermSays, equality_size, lead_size, right_from, term_word, terms_from}
 use Rattle.words.specs.declared.Atom as word
 use Rattle.words.specs.declared.Term.{Term}
-use Rattle.words.specs.declared.Term.TheVariants.{Var}
+use Rattle.words.specs.declared.Term.TheVariants.{Var, Global, Literal}
+use Rattle.words.specs.declared.HeadOrEq.TheVariants.{Eq}
 use Rattle.bodies.specs.Standing.{AtomsAt, atoms_in, left_at, right_at, size_at}
 use Rattle.bodies.specs.Terms.{sig}
 use Rattle.bodies.specs.declared.terms.Sign.{Sign}
 use Rattle.bodies.proofs.Standing.{bare_replaced, begins_atom, next_at_lem, size_atom}
-use Rattle.canonicalize.specs.declared.Asked.{Asked}
+use Rattle.canonicalize.specs.declared.Replacement as code
+use Rattle.std.specs.Prelude as prelude
 use Rattle.canonicalize.specs.Canonicalize.{ReplaceAsks, Replaced, StepAsks, Stepped, Swept}
 use Rattle.canonicalize.specs.Canonicalize.{ask_at, ask_for, asked_of, binding_size, binding_words, place_after}
 use Rattle.canonicalize.specs.Spans.{Spanned}
@@ -40,13 +42,15 @@ use Rattle.canonicalize.proofs.SpanLaws.{spanned_before}
 
 -- ---- what an answer says
 
-pub asked_some : (o : Option Replacement) (t : Asked) → t ≡ asked_of o → t.yes ≡ true → o ≡ some (record { old = t.old; new = t.new })
-asked_some none t e y = absurd (false≢true (ap (λ (u : Asked). u.yes) (sym e) ∙ y))
-asked_some (some r) t e y = ap (λ (u : Asked). some (record { old = u.old; new = u.new })) (sym e)
+pub asked_some : (o : Option Replacement) (t : code.Replacement) → prelude.Some t ≡ asked_of o → o ≡ some (record { old = t.old; new = t.new })
+asked_some none t e = cc
+asked_some (some r) t e =
+    let is : t ≡ record { old = r.old; new = r.new } = cc in
+    ap (λ (u : code.Replacement). some (record { old = u.old; new = u.new })) (sym is)
 
-pub asked_none : (o : Option Replacement) (t : Asked) → t ≡ asked_of o → t.yes ≡ false → o ≡ none
-asked_none none t e y = refl
-asked_none (some r) t e y = absurd (false≢true (sym y ∙ ap (λ (u : Asked). u.yes) e))
+pub asked_none : (o : Option Replacement) → prelude.None ≡ asked_of o → o ≡ none
+asked_none none e = refl
+asked_none (some r) e = cc
 
 -- ---- an atom at a place
 
@@ -91,14 +95,24 @@ equality_read {l} {p} {r} e a =
     let n = (atom_equality a (omega (arith, e))).1 in
     record { word = e; left = a.terms_at; right = omega (arith, a.terms_at); next = omega (arith, a.next_at, n, e) }
 
+-- the atom at p was read as an equality
+pub met : {l : List ℕ} {at n p d table buckets : ℕ} {r : word.Atom} → StepAsks l at n p d table buckets → AtomSays r (get_or l p 0) p → r.head ≡ Eq → Equality l p r
+met asks says is = equality_read (sign_word asks.begins.first says is) says
+
 -- ---- what two terms ask for
 
 -- what the definition says of them
-abbrev pub Asks : Sign → (a b : ℕ) → Asked → Type 0
+abbrev pub Asks : Sign → (a b : ℕ) → prelude.Option code.Replacement → Type 0
 Asks q a b r = r ≡ asked_of (replacement_of (same_term a b) (is_var (sig q) a) (is_var (sig q) b) a b)
 
-pub asks_same : (q : Sign) (a b : ℕ) → true ≡ same_term a b → Asks q a b (record { yes = false; old = 0; new = 0 })
+pub asks_same : (q : Sign) (a b : ℕ) → true ≡ same_term a b → Asks q a b prelude.None
 asks_same q a b e = ap (λ (x : Bool). asked_of (replacement_of x (is_var (sig q) a) (is_var (sig q) b) a b)) e
+
+-- what is no `Var` is no variable
+pub no_var : (t : Term) → ((v : ℕ) → t ≡ Var v → ⊥) → is_var_term t ≡ false
+no_var (Var v) other = absurd (other v refl)
+no_var (Global v) other = refl
+no_var (Literal v) other = refl
 
 -- they are two, and the left one is read as the case t
 pub record Two (q : Sign) (a b : ℕ) (t : Term) : Type 0 where
@@ -113,22 +127,22 @@ module _ {q : Sign} {a b : ℕ} {t : Term} (k : Two q a b t) where
   by_left x e = let ea = sym e ∙ told q k.left in λ i. asked_of (replacement_of (k.apart i) (ea i) (is_var (sig q) b) a b)
 
   -- it is a variable
-  pub asks_left : {v : ℕ} → t ≡ Var v → Asks q a b (record { yes = true; old = v; new = b })
+  pub asks_left : {v : ℕ} → t ≡ Var v → Asks q a b (prelude.Some (record { old = v; new = b }))
   asks_left {v} e =
       let is : v ≡ a = ap term_word (sym e) ∙ k.left.word_is in
-      subst (λ (x : ℕ). Asks q a b (record { yes = true; old = x; new = b })) (sym is) (by_left true (ap is_var_term e))
+      subst (λ (x : ℕ). Asks q a b (prelude.Some (record { old = x; new = b }))) (sym is) (by_left true (ap is_var_term e))
 
   -- it is none, and the right one is read as the case u
   module _ (n : is_var_term t ≡ false) {u : Term} (right : TermSays u q.globals b) where
     by_right : (x : Bool) → is_var_term u ≡ x → Asks q a b (asked_of (replacement_of false false x a b))
     by_right x e = ap (λ (y : Bool). asked_of (replacement_of false false y a b)) (sym e ∙ told q right) ∙ by_left false n
 
-    pub asks_right : {v : ℕ} → u ≡ Var v → Asks q a b (record { yes = true; old = v; new = a })
+    pub asks_right : {v : ℕ} → u ≡ Var v → Asks q a b (prelude.Some (record { old = v; new = a }))
     asks_right {v} e =
         let is : v ≡ b = ap term_word (sym e) ∙ right.word_is in
-        subst (λ (x : ℕ). Asks q a b (record { yes = true; old = x; new = a })) (sym is) (by_right true (ap is_var_term e))
+        subst (λ (x : ℕ). Asks q a b (prelude.Some (record { old = x; new = a }))) (sym is) (by_right true (ap is_var_term e))
 
-    pub asks_none : is_var_term u ≡ false → Asks q a b (record { yes = false; old = 0; new = 0 })
+    pub asks_none : is_var_term u ≡ false → Asks q a b prelude.None
     asks_none e = by_right false e
 
 -- ---- one replacement
@@ -226,7 +240,7 @@ abbrev pub StepAnswers : Sig → (l m : List ℕ) (at n p d table buckets r : �
 StepAnswers s l m at n p d table buckets r = (r ≡ place_after (ask_at s l p) d) × Stepped (ask_at s l p) l m at n d table buckets
 
 -- its terms are a and b, and t says what they ask for
-pub asks_terms : (s : Sig) {l : List ℕ} {p a b : ℕ} {r : word.Atom} {t : Asked} → Equality l p r → a ≡ get_or l r.terms 0 → b ≡ get_or l (r.terms + 1) 0
+pub asks_terms : (s : Sig) {l : List ℕ} {p a b : ℕ} {r : word.Atom} {t : prelude.Option code.Replacement} → Equality l p r → a ≡ get_or l r.terms 0 → b ≡ get_or l (r.terms + 1) 0
     → t ≡ asked_of (replacement_of (same_term a b) (is_var s a) (is_var s b) a b) → t ≡ asked_of (ask_at s l p)
 unfolding ask_at
 asks_terms s {l} {p} q ea eb et =
@@ -246,17 +260,17 @@ module _ (s : Sig) {l : List ℕ} {at n p d table buckets : ℕ} (c : StepAsks l
   step_other h = asked_nothing (ap (λ (b : Bool). ask_for b s (left_at l p) (right_at l p)) (ne_eqb (get_or l p 0) equality_word h))
 
   -- one that asks for nothing
-  pub step_none : {t : Asked} → t ≡ asked_of (ask_at s l p) → t.yes ≡ false → StepAnswers s l l at n p d table buckets d
-  step_none {t} e y = asked_nothing (asked_none (ask_at s l p) t e y)
+  pub step_none : prelude.None ≡ asked_of (ask_at s l p) → StepAnswers s l l at n p d table buckets d
+  step_none e = asked_nothing (asked_none (ask_at s l p) e)
 
   -- one whose replacement is made, which leaves m₁, and bound
-  pub step_some : {t : Asked} {m₁ m : List ℕ} → t ≡ asked_of (ask_at s l p) → t.yes ≡ true → span.Replacing l m₁ at n t.old t.new table buckets
+  pub step_some : {t : code.Replacement} {m₁ m : List ℕ} → prelude.Some t ≡ asked_of (ask_at s l p) → span.Replacing l m₁ at n t.old t.new table buckets
       → length m₁ ≡ length l → m ≡ splice m₁ (d - binding_size) (binding_words (record { old = t.old; new = t.new } ∷ []))
       → StepAnswers s l m at n p d table buckets (d - binding_size)
   unfolding swap
-  step_some {t} {m₁} {m} e y k size em =
+  step_some {t} {m₁} {m} e k size em =
       let r : Replacement = record { old = t.old; new = t.new } in
-      let is : some r ≡ ask_at s l p = sym (asked_some (ask_at s l p) t e y) in
+      let is : some r ≡ ask_at s l p = sym (asked_some (ask_at s l p) t e) in
       let bind : List ℕ = binding_words (r ∷ []) in
       let o : Only m₁ (splice m₁ (d - binding_size) bind) (d - binding_size) d = only_splice m₁ (d - binding_size) bind d (omega (arith, c.room)) (omega (arith, c.top)) in
       let o₂ : Only m₁ m (d - binding_size) d = subst (λ (x : List ℕ). Only m₁ x (d - binding_size) d) (sym em) o in

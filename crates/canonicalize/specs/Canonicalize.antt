@@ -1,5 +1,6 @@
 -- What the functions of `canonicalize` ask and give, in the definitions' words. Assumes nothing: these are definitions.
 use Rattle.std.specs.Prelude.{Bool, false, true, List, [], ◌++◌, ◌∷◌, map, ◌≡◌, ◌*◌, ◌+◌, ◌-◌, ◌<◌, ◌≤◌, ℕ, eqb, get_or, length}
+use Rattle.std.specs.Prelude as prelude
 use Rattle.std.proofs.Math.Option.{Option, none, some}
 use Rattle.octets.specs.Regions.{At, Only, part, splice}
 use Rattle.rules.specs.Canonicalize.{Replacement, bindings, canonicalize, replace_all, replace_term, replacement_of, resolve}
@@ -11,7 +12,7 @@ use Rattle.meaning.specs.Meaning.{All}
 use Rattle.meaning.specs.Weight.{weight}
 use Rattle.words.specs.Atom.{BeginsGood}
 use Rattle.bodies.specs.Standing.{AtomsAt, TabsAt, atoms_in}
-use Rattle.canonicalize.specs.declared.Asked.{Asked}
+use Rattle.canonicalize.specs.declared.Replacement as code
 use Rattle.canonicalize.specs.declared.Canonical.{Canonical}
 use Rattle.canonicalize.specs.Spans.{Spanned}
 
@@ -25,9 +26,10 @@ binding_size = 3
 
 -- ---- one replacement
 
-abbrev pub asked_of : Option Replacement → Asked
-asked_of none = record { yes = false; old = 0; new = 0 }
-asked_of (some r) = record { yes = true; old = r.old; new = r.new }
+-- it, as the code says it
+abbrev pub asked_of : Option Replacement → prelude.Option code.Replacement
+asked_of none = prelude.None
+asked_of (some r) = prelude.Some (record { old = r.old; new = r.new })
 
 -- what the atom at p asks for
 abbrev pub ask_for : (isEqn : Bool) → Sig → ℕ → ℕ → Option Replacement

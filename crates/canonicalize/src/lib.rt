@@ -3,14 +3,14 @@
 //
 // One sweep over the equalities is enough, since none that was passed ever asks again. Those in front of all other atoms are done with as they
 // are met, so that their replacements run only over what lies behind them; and a table of spans tells where a term may stand.
-#![tactic(auto)]
+#![tactic(auto, using(octets::proofs::Words::length_words))]
 
 ghost use Rattle.std.specs.Prelude.{◌≡◌, ◌+◌, ◌≤◌, length};
 ghost use Rattle.octets.specs.Words.{words};
 ghost use Rattle.octets.specs.Regions.{splice};
 ghost use Rattle.rules.specs.Signature.{is_var, same_term};
 ghost use Rattle.rules.specs.Canonicalize.{replacement_of};
-ghost use Rattle.bodies.specs.Terms.{sig, GoodSign};
+ghost use Rattle.bodies.specs.Terms.{sig};
 ghost use Rattle.bodies.specs.Standing.{atoms_in, AtomsAt};
 ghost use Rattle.canonicalize.specs.Canonicalize.{asked_of, ask_at, place_after, StepAsks, Stepped, ReplaceAsks, Replaced};
 ghost use Rattle.canonicalize.specs.Canonicalize.{resolve_terms, resolve_at, ResolveOneAsks, others_in, ResolveAsks, Resolved};
@@ -19,86 +19,51 @@ ghost use Rattle.canonicalize.specs.Canonicalize.{FrontOneAsks, FrontOne, FrontA
 pub mod spans; // spans.rt: where in a body a term may stand
 
 use bodies::terms::{Sign, same_term};
+use spans::Table;
 use words::{
     HEAD_BASE, HeadOrEq, LET, LIMIT_16, Term, UNIT, good_atom_at, good_term_of, past_equality,
 };
 
-// Where a table of spans stands, and how many buckets it has.
+// One term, which another replaces throughout a body.
 #[derive(Clone, Copy)]
-struct Table {
-    at: usize,
-    count: usize,
-}
-
-// Whether an equality asks for a replacement, and of which term by which.
-#[derive(Clone, Copy)]
-pub struct Asked {
-    pub yes: bool,
+pub struct Replacement {
     pub old: u32,
     pub new: u32,
 }
 
-// The left term if it is a variable, else the right one, is replaced by the other.
-pub fn replacement_of(q: Sign, a: u32, b: u32) -> Asked
-    requires { GoodSign q }
+// What an equality of two terms asks for: the left one if it is a variable, else the right one, is replaced by the other.
+pub fn replacement_of(q: Sign, a: u32, b: u32) -> Option<Replacement>
     ensures { result ≡ asked_of (replacement_of (same_term a b) (is_var (sig q) a) (is_var (sig q) b) a b) }
 {
     if same_term(a, b) {
-        return Asked {
-            yes: false,
-            old: 0,
-            new: 0,
-        };
+        return None;
     }
-    let left = good_term_of(a, q.globals);
-    match left {
-        Term::Var(old) => {
-            return Asked {
-                yes: true,
-                old,
-                new: b,
-            };
-        }
-        _ => {}
+    if let Term::Var(old) = good_term_of(a, q.globals) {
+        return Some(Replacement { old, new: b });
     }
-    let right = good_term_of(b, q.globals);
-    match right {
-        Term::Var(old) => {
-            return Asked {
-                yes: true,
-                old,
-                new: a,
-            };
-        }
-        _ => {}
+    if let Term::Var(old) = good_term_of(b, q.globals) {
+        return Some(Replacement { old, new: a });
     }
-    Asked {
-        yes: false,
-        old: 0,
-        new: 0,
-    }
+    None
 }
 
 // If the atom at p asks for a replacement, it is made in the n words at `at`, and its binding is put before those at d. Returns where the
 // bindings begin.
 fn replace_step(s: &mut [u8], at: usize, n: usize, p: usize, d: usize, t: Table, q: Sign) -> usize
-    requires good_sign { GoodSign q }
-    requires step_asks { StepAsks (words s.old) at n p d t.at t.count }
+    requires { StepAsks (words s.old) at n p d t.at t.count }
     ensures { (result ≡ place_after (ask_at (sig q) (words s.old) p) d)
         × Stepped (ask_at (sig q) (words s.old) p) (words s.old) (words s.new) at n d t.at t.count }
 {
     let atom = good_atom_at(s, p);
-    let head = atom.head;
-    let HeadOrEq::Eq = head else {
+    let HeadOrEq::Eq = atom.head else {
         return d;
     };
     let a = octets::get(s, atom.terms);
     let b = octets::get(s, atom.terms + 1);
-    let asked = replacement_of(q, a, b);
-    if !asked.yes {
+    let Some(asked) = replacement_of(q, a, b) else {
         return d;
-    }
-    spans::replace(s, at, n, asked.old, asked.new, t.at, t.count);
+    };
+    t.replace(s, at, n, asked);
     octets::rows::put_three(s, d - 3, LET, asked.old, asked.new);
     d - 3
 }
@@ -106,8 +71,7 @@ fn replace_step(s: &mut [u8], at: usize, n: usize, p: usize, d: usize, t: Table,
 // Makes all replacements that the atoms in the n words at `at` ask for. The bindings go before d, the last one first. Returns where they
 // begin.
 fn replace_all(s: &mut [u8], at: usize, n: usize, d: usize, t: Table, q: Sign) -> usize
-    requires good_sign { GoodSign q }
-    requires replace_asks { ReplaceAsks (words s.old) at n d t.at t.count }
+    requires { ReplaceAsks (words s.old) at n d t.at t.count }
     ensures { Replaced (sig q) (words s.old) (words s.new) at n d t.at t.count result }
 {
     let end = at + n;
@@ -124,8 +88,7 @@ fn replace_all(s: &mut [u8], at: usize, n: usize, d: usize, t: Table, q: Sign) -
 // Writes at `to` what becomes of an equality of a and b that asks for nothing: value-eq of both and Unit, or nothing if they are equal. Returns
 // how many words that are.
 pub fn resolve_terms(s: &mut [u8], to: usize, a: u32, b: u32, q: Sign) -> usize
-    requires good_sign { GoodSign q }
-    requires b_in_bounds { to + length (resolve_terms (same_term a b) (sig q) a b) ≤ length (words s.old) }
+    requires { to + length (resolve_terms (same_term a b) (sig q) a b) ≤ length (words s.old) }
     ensures { (result ≡ length (resolve_terms (same_term a b) (sig q) a b))
         × (words s.new ≡ splice (words s.old) to (resolve_terms (same_term a b) (sig q) a b)) }
 {
@@ -138,8 +101,7 @@ pub fn resolve_terms(s: &mut [u8], to: usize, a: u32, b: u32, q: Sign) -> usize
 
 // Writes at `to` what becomes of the equality at p. Returns how many words that are.
 fn resolve_one(s: &mut [u8], p: usize, to: usize, q: Sign) -> usize
-    requires good_sign { GoodSign q }
-    requires resolve_one_asks { ResolveOneAsks (sig q) (words s.old) p to }
+    requires { ResolveOneAsks (sig q) (words s.old) p to }
     ensures { (result ≡ length (resolve_at (sig q) (words s.old) p))
         × (words s.new ≡ splice (words s.old) to (resolve_at (sig q) (words s.old) p)) }
 {
@@ -157,8 +119,7 @@ fn others(s: &[u8], from: usize, n: usize) -> usize
     let mut i = 0;
     while i < n {
         let atom = good_atom_at(s, from + i);
-        let head = atom.head;
-        let HeadOrEq::Head(_) = head else {
+        let HeadOrEq::Head(_) = atom.head else {
             return i;
         };
         i = atom.next - from;
@@ -169,8 +130,7 @@ fn others(s: &[u8], from: usize, n: usize) -> usize
 // Resolves the atoms in the n words at `from`, writing at `to`, which lies beyond them. Those that are no equalities stay as they are, so they
 // are carried in runs. Returns how many words are written.
 fn resolve(s: &mut [u8], from: usize, n: usize, to: usize, q: Sign) -> usize
-    requires good_sign { GoodSign q }
-    requires resolve_asks { ResolveAsks (sig q) (words s.old) from n to }
+    requires { ResolveAsks (sig q) (words s.old) from n to }
     ensures { Resolved (sig q) (words s.old) (words s.new) from n to result }
 {
     let mut i = 0;
@@ -199,8 +159,7 @@ pub struct Canonical {
 // An equality at p, in front of what is left of a body, with n words from it to the end. If it asks for a replacement, that is made behind
 // it, and it goes; else what becomes of it is written at `to`.
 fn front_one(s: &mut [u8], p: usize, n: usize, to: usize, d: usize, t: Table, q: Sign) -> Canonical
-    requires good_sign { GoodSign q }
-    requires front_one_asks { FrontOneAsks (sig q) (words s.old) p n to d t.at t.count }
+    requires { FrontOneAsks (sig q) (words s.old) p n to d t.at t.count }
     ensures { FrontOne (sig q) (words s.old) (words s.new) p n to d t.at t.count result }
 {
     let next = past_equality(p);
@@ -224,8 +183,7 @@ fn canonicalize_front(
     spans: Table,
     q: Sign,
 ) -> Canonical
-    requires good_sign { GoodSign q }
-    requires front_asks { FrontAsks (words s.old) at e k to d spans.at spans.count }
+    requires { FrontAsks (words s.old) at e k to d spans.at spans.count }
     ensures { Fronted (sig q) (atoms_in (words s.old) at e) (atoms_in (words s.old) (at + e) k)
         (words s.old) (words s.new) at e k to d spans.at spans.count result }
 {
@@ -235,7 +193,7 @@ fn canonicalize_front(
         let one = front_one(s, at + i, e - i + k, to + t.words, t.binds, spans, q);
         t = Canonical {
             words: t.words + one.words,
-            binds: one.binds,
+            ..one
         };
         i = past_equality(at + i) - at;
     }
@@ -250,8 +208,7 @@ fn leading(s: &[u8], at: usize, n: usize) -> usize
     let mut i = 0;
     while i < n {
         let atom = good_atom_at(s, at + i);
-        let head = atom.head;
-        let HeadOrEq::Eq = head else {
+        let HeadOrEq::Eq = atom.head else {
             return i;
         };
         i = past_equality(at + i) - at;
@@ -262,12 +219,10 @@ fn leading(s: &[u8], at: usize, n: usize) -> usize
 // Canonicalizes the atoms in the n words at `at`, with a table of spans in the 2 n words behind them. Those that it leaves are written at `to`,
 // the bindings before d.
 pub fn canonicalize(s: &mut [u8], at: usize, n: usize, to: usize, d: usize, q: Sign) -> Canonical
-    requires good_sign { GoodSign q }
-    requires canonicalize_asks { CanonicalizeAsks (words s.old) at n to d }
+    requires { CanonicalizeAsks (words s.old) at n to d }
     ensures { CanonicalAt (sig q) (atoms_in (words s.old) at n) (words s.old) (words s.new) at to d result }
 {
-    let count = spans::build(s, at, n, at + n);
-    let spans = Table { at: at + n, count };
+    let spans = Table::build(s, at, n, at + n);
     let e = leading(s, at, n);
     let t = canonicalize_front(s, at, e, n - e, to, d, spans, q);
     let binds = replace_all(s, at + e, n - e, t.binds, spans, q);

@@ -9,8 +9,8 @@ ghost use Rattle.octets.specs.Regions.{part, splice, swap};
 ghost use Rattle.bodies.specs.Standing.{atoms_in, AtomsAt};
 ghost use Rattle.canonicalize.specs.Spans.{equations_in, Spanned, SpanAsks, Built, WidenAsks, widened, Replacing};
 
+use crate::Replacement;
 use bodies::buckets::{bucket, fill};
-use octets::order::{greatest, greatest_word, least_word};
 use words::{HeadOrEq, good_atom_at};
 
 // A body has more words than this, and more equalities, before a table pays.
@@ -28,13 +28,18 @@ fn equalities(s: &[u8], at: usize, n: usize) -> usize
     while i < n {
         let atom = good_atom_at(s, at + i);
         i = atom.next - at;
-        let head = atom.head;
-        match head {
-            HeadOrEq::Eq => k += 1,
-            HeadOrEq::Head(_) => {}
+        if let HeadOrEq::Eq = atom.head {
+            k += 1;
         }
     }
     k
+}
+
+// Where a table of spans stands, and how many buckets it has.
+#[derive(Clone, Copy)]
+pub struct Table {
+    pub at: usize,
+    pub count: usize,
 }
 
 // One bucket, whose span is the n words at `at`.
@@ -46,17 +51,6 @@ fn one_bucket(s: &mut [u8], at: usize, n: usize, table: usize) -> usize
     1
 }
 
-// Widens the span of the bucket of the word at p, behind which none was met.
-fn widen(s: &mut [u8], p: usize, table: usize, count: usize)
-    requires { WidenAsks (words s.old) p table count }
-    ensures { words s.new ≡ widened (words s.old) p table count }
-{
-    let low = table + bucket(octets::get(s, p), count);
-    let first = octets::get(s, low);
-    octets::put(s, low, least_word(first, p as u32));
-    octets::put(s, low + count, (p + 1) as u32);
-}
-
 // As many buckets as words: spans that no word stands in, widened word by word.
 fn narrow(s: &mut [u8], at: usize, n: usize, table: usize) -> usize
     requires { SpanAsks (words s.old) at n table }
@@ -64,27 +58,14 @@ fn narrow(s: &mut [u8], at: usize, n: usize, table: usize) -> usize
 {
     fill(s, table, n, (at + n) as u32);
     fill(s, table + n, n, 0);
-    let mut p = at;
-    while p < at + n {
-        widen(s, p, table, n);
-        p += 1;
+    let spans = Table {
+        at: table,
+        count: n,
+    };
+    for p in at..at + n {
+        spans.widen(s, p);
     }
     n
-}
-
-// Builds the table of the n words at `at`. Returns how many buckets it has.
-pub fn build(s: &mut [u8], at: usize, n: usize, table: usize) -> usize
-    requires atoms_at { AtomsAt (atoms_in (words s.old) at n) (words s.old) at n }
-    requires span_asks { SpanAsks (words s.old) at n table }
-    ensures { Built (words s.old) (words s.new) at n table result }
-{
-    if n < LONG {
-        return one_bucket(s, at, n, table);
-    }
-    if equalities(s, at, n) < MANY {
-        return one_bucket(s, at, n, table);
-    }
-    narrow(s, at, n, table)
 }
 
 // Replaces x by y from `start` to `end`, if there is anything between.
@@ -98,23 +79,51 @@ fn replace_between(s: &mut [u8], start: usize, end: usize, x: u32, y: u32)
     octets::regions::replace(s, start, end - start, x, y);
 }
 
-// Replaces x by y among the n words at `at`, by running over the span of x. Then y may stand where x did. One bucket has all words in its span
-// already, so there the table is neither asked nor changed.
-pub fn replace(s: &mut [u8], at: usize, n: usize, x: u32, y: u32, table: usize, count: usize)
-    requires { Spanned (words s.old) at n table count }
-    ensures { Replacing (words s.old) (words s.new) at n x y table count }
-{
-    if count == 1 {
-        octets::regions::replace(s, at, n, x, y);
-        return;
+impl Table {
+    // Builds the table of the n words at `at` at another place.
+    pub fn build(s: &mut [u8], at: usize, n: usize, table: usize) -> Table
+        requires atoms_at { AtomsAt (atoms_in (words s.old) at n) (words s.old) at n }
+        requires span_asks { SpanAsks (words s.old) at n table }
+        ensures place { result.at ≡ table }
+        ensures built { Built (words s.old) (words s.new) at n result.at result.count }
+    {
+        let count = if n < LONG || equalities(s, at, n) < MANY {
+            one_bucket(s, at, n, table)
+        } else {
+            narrow(s, at, n, table)
+        };
+        Table { at: table, count }
     }
-    let from = table + bucket(x, count);
-    let to = table + bucket(y, count);
-    let low = octets::get(s, from);
-    let high = octets::get(s, from + count);
-    replace_between(s, greatest(at, low as usize), high as usize, x, y);
-    let first = octets::get(s, to);
-    let end = octets::get(s, to + count);
-    octets::put(s, to, least_word(first, low));
-    octets::put(s, to + count, greatest_word(end, high));
+
+    // Widens the span of the bucket of the word at p, behind which none was met.
+    fn widen(self, s: &mut [u8], p: usize)
+        requires { WidenAsks (words s.old) p self.at self.count }
+        ensures { words s.new ≡ widened (words s.old) p self.at self.count }
+    {
+        let low = self.at + bucket(octets::get(s, p), self.count);
+        let first = octets::get(s, low);
+        octets::put(s, low, first.min(p as u32));
+        octets::put(s, low + self.count, (p + 1) as u32);
+    }
+
+    // Makes a replacement among the n words at `at`, by running over the span of the old term. Then the new one may stand where that did. One bucket has
+    // all words in its span already, so there the table is neither asked nor changed.
+    pub fn replace(self, s: &mut [u8], at: usize, n: usize, r: Replacement)
+        requires { Spanned (words s.old) at n self.at self.count }
+        ensures { Replacing (words s.old) (words s.new) at n r.old r.new self.at self.count }
+    {
+        if self.count == 1 {
+            octets::regions::replace(s, at, n, r.old, r.new);
+            return;
+        }
+        let from = self.at + bucket(r.old, self.count);
+        let to = self.at + bucket(r.new, self.count);
+        let low = octets::get(s, from);
+        let high = octets::get(s, from + self.count);
+        replace_between(s, at.max(low as usize), high as usize, r.old, r.new);
+        let first = octets::get(s, to);
+        let end = octets::get(s, to + self.count);
+        octets::put(s, to, first.min(low));
+        octets::put(s, to + self.count, end.max(high));
+    }
 }

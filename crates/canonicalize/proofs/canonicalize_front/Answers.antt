@@ -7,22 +7,22 @@ use Rattle.canonicalize.proofs.Fronting.{front_one_asks, fronting_end, fronting_
 use Rattle.canonicalize.proofs.canonicalize_front.Goals as goal
 
 pub loop-i-init : goal.loop-i-init
-loop-i-init c = (refl, fronting_start c.requires.front_asks)
+loop-i-init c = (refl, fronting_start c.requires)
 
-pub front_one-one-requires-clause-front_one_asks : goal.front_one-one-requires-clause-front_one_asks
-front_one-one-requires-clause-front_one_asks c = front_one_asks c.requires.front_asks c.loop-i.invariant.1 c.loop-i-test.true
+pub front_one-one-requires : goal.front_one-one-requires
+front_one-one-requires c = front_one_asks c.requires c.loop-i.invariant.1 c.loop-i-test.true
 
 pub overflow_add-t : goal.overflow_add-t
 overflow_add-t c =
-    let next = fronting_next c.requires.front_asks c.loop-i.invariant.1 c.loop-i-test.true c.requires.good_sign.equals c.front_one-one.ensures refl in
+    let next = fronting_next c.requires c.loop-i.invariant.1 c.loop-i-test.true c.args.q.known_equals c.front_one-one.ensures refl in
     omega (arith, next.tabs.within, next.only.size, length_words, c.well_formed)
 
 pub past_equality-requires : goal.past_equality-requires
-past_equality-requires c = omega (arith, c.loop-i-test.true, c.requires.front_asks.eqs.within, length_words, c.well_formed)
+past_equality-requires c = omega (arith, c.loop-i-test.true, c.requires.eqs.within, length_words, c.well_formed)
 
 pub loop-i-preserved : goal.loop-i-preserved
 loop-i-preserved c =
-    let next = fronting_next c.requires.front_asks c.loop-i.invariant.1 c.loop-i-test.true c.requires.good_sign.equals c.front_one-one.ensures in
+    let next = fronting_next c.requires c.loop-i.invariant.1 c.loop-i-test.true c.args.q.known_equals c.front_one-one.ensures in
     (c.front_one-one.auto.s ∙ c.loop-i.invariant.0, next (omega (arith, c.past_equality.ensures)))
 
 pub returns : goal.returns

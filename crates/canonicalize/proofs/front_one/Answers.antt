@@ -8,34 +8,28 @@ use Rattle.canonicalize.proofs.front_one.Goals as goal
 
 pub past_equality-next-requires : goal.past_equality-next-requires
 past_equality-next-requires c =
-    omega (arith, equality_within c.requires.front_one_asks, length_words c.args.s.now, c.well_formed)
-
-pub overflow_sub-next : goal.overflow_sub-next
-overflow_sub-next c = omega (arith, c.past_equality-next.ensures)
-
-pub overflow_sub-n : goal.overflow_sub-n
-overflow_sub-n c = omega (arith, c.past_equality-next.ensures, c.requires.front_one_asks.whole)
+    omega (arith, equality_within c.requires, length_words c.args.s.now, c.well_formed)
 
 pub replace_step-e-requires : goal.replace_step-e-requires
-replace_step-e-requires c = record { good_sign = c.requires.good_sign; step_asks = step_asks c.requires.front_one_asks c.past_equality-next.ensures }
+replace_step-e-requires c = step_asks c.requires c.past_equality-next.ensures
 
 pub returns-then-e-d : goal.returns-then-e-d
 returns-then-e-d c =
-    let at_step : Tried c.requires.front_one_asks (words c.replace_step-e.new.s) c.replace_step-e.result =
-    tried c.requires.front_one_asks c.past_equality-next.ensures c.replace_step-e.ensures.0 c.replace_step-e.ensures.1 in
+    let at_step : Tried c.requires (words c.replace_step-e.new.s) c.replace_step-e.result =
+    tried c.requires c.past_equality-next.ensures c.replace_step-e.ensures.0 c.replace_step-e.ensures.1 in
     front_asked at_step c.if-e-d.true
 
 -- ---- it was not
 
 pub resolve_one-k-requires : goal.resolve_one-k-requires
 resolve_one-k-requires c =
-    let at_step : Tried c.requires.front_one_asks (words c.replace_step-e.new.s) c.replace_step-e.result =
-    tried c.requires.front_one_asks c.past_equality-next.ensures c.replace_step-e.ensures.0 c.replace_step-e.ensures.1 in
-    record { good_sign = c.requires.good_sign; resolve_one_asks = resolve_asks at_step c.if-e-d.false }
+    let at_step : Tried c.requires (words c.replace_step-e.new.s) c.replace_step-e.result =
+    tried c.requires c.past_equality-next.ensures c.replace_step-e.ensures.0 c.replace_step-e.ensures.1 in
+    resolve_asks at_step c.if-e-d.false
 
 pub returns : goal.returns
 returns c =
-    let at_step : Tried c.requires.front_one_asks (words c.replace_step-e.new.s) c.replace_step-e.result =
-    tried c.requires.front_one_asks c.past_equality-next.ensures c.replace_step-e.ensures.0 c.replace_step-e.ensures.1 in
+    let at_step : Tried c.requires (words c.replace_step-e.new.s) c.replace_step-e.result =
+    tried c.requires c.past_equality-next.ensures c.replace_step-e.ensures.0 c.replace_step-e.ensures.1 in
     let k = c.resolve_one-k.ensures in
     front_still at_step c.if-e-d.false k.0 k.1

@@ -15,9 +15,6 @@ use Rattle.canonicalize.proofs.leading.Goals as goal
 pub loop-i-init : goal.loop-i-init
 loop-i-init c = leading_start c.requires
 
-pub overflow_add-at : goal.overflow_add-at
-overflow_add-at c = omega (arith, c.requires.within, length_words c.args.s.now)
-
 pub good_atom_at-atom-requires : goal.good_atom_at-atom-requires
 good_atom_at-atom-requires c =
     let at_atom : (let a = c.args in First c.loop-i.invariant.todo (words a.s.now) (a.at + c.loop-i.i) (a.n - c.loop-i.i)) =
@@ -32,14 +29,8 @@ returns-in_default c =
     leading_here c.requires c.loop-i.invariant c.loop-i-test.true in
     leads c.requires c.loop-i.invariant (λ h. head_other at_atom.begins.first c.good_atom_at-atom.ensures c.in_default.is)
 
-pub overflow_add-at-in-loop-i : goal.overflow_add-at-in-loop-i
-overflow_add-at-in-loop-i c = omega (arith, c.requires.within, length_words c.args.s.now)
-
 pub past_equality-requires : goal.past_equality-requires
 past_equality-requires c = omega (arith, c.loop-i-test.true, c.requires.within, length_words c.args.s.now, c.well_formed)
-
-pub overflow_sub-i : goal.overflow_sub-i
-overflow_sub-i c = omega (arith, c.past_equality.ensures)
 
 pub loop-i-smaller : goal.loop-i-smaller
 loop-i-smaller c = omega (arith, c.past_equality.ensures, c.loop-i-test.true)

@@ -3,7 +3,6 @@
 use mathlib.Core.Path.{◌≡◌}
 use Prim.Native.Nat.{◌+◌, ◌-◌}
 use native.Mathlib.Omega.{arith}
-use Rattle.octets.proofs.Words.{length_words}
 use Rattle.octets.specs.Words.{words}
 use Rattle.words.proofs.AtomLaws.{head_other, sign_word}
 use Rattle.bodies.specs.Standing.{size_at}
@@ -13,9 +12,6 @@ use Rattle.canonicalize.proofs.others.Goals as goal
 
 pub loop-i-init : goal.loop-i-init
 loop-i-init c = passing_start c.requires
-
-pub overflow_add-from : goal.overflow_add-from
-overflow_add-from c = omega (arith, c.requires.within, length_words c.args.s.now)
 
 pub good_atom_at-atom-requires : goal.good_atom_at-atom-requires
 good_atom_at-atom-requires c =
@@ -33,14 +29,6 @@ returns-in_default c =
     (sign_word at_atom.begins.first c.good_atom_at-atom.ensures c.in_default.is)
 
 -- ---- it is another atom
-
-pub overflow_sub-i : goal.overflow_sub-i
-overflow_sub-i c =
-    let at_atom : (let a = c.args in First c.loop-i.invariant.todo (words a.s.now) (a.from + c.loop-i.i) (a.n - c.loop-i.i)) =
-    passing_here c.requires c.loop-i.invariant c.loop-i-test.true in
-    let at_next : (let a = c.args in let p = a.from + c.loop-i.i in c.good_atom_at-atom.result.next ≡ p + size_at (words a.s.now) p) =
-    next_at_lem at_atom.begins c.good_atom_at-atom.ensures in
-    omega (arith, at_next)
 
 pub loop-i-smaller : goal.loop-i-smaller
 loop-i-smaller c =

@@ -3,17 +3,13 @@
 use mathlib.Core.Path.{◌∙◌, ◌≡◌, refl}
 use Prim.Native.Nat.{◌+◌}
 use native.Mathlib.Omega.{arith}
-use Rattle.octets.proofs.Words.{length_words}
 use Rattle.octets.specs.Words.{words}
 use Rattle.bodies.specs.Standing.{size_at}
 use Rattle.canonicalize.proofs.Replacing.{Next, next_atom, replacing_end, replacing_next, replacing_start}
 use Rattle.canonicalize.proofs.replace_all.Goals as goal
 
-pub overflow_add-end : goal.overflow_add-end
-overflow_add-end c = omega (arith, length_words c.args.s.now, c.requires.replace_asks.atoms.within)
-
 pub loop-p-init : goal.loop-p-init
-loop-p-init c = (refl, replacing_start c.requires.replace_asks)
+loop-p-init c = (refl, replacing_start c.requires)
 
 pub good_atom_at-atom-requires : goal.good_atom_at-atom-requires
 good_atom_at-atom-requires c =
@@ -23,7 +19,7 @@ good_atom_at-atom-requires c =
 pub replace_step-e-requires : goal.replace_step-e-requires
 replace_step-e-requires c =
     let at_next : Next c.loop-p.invariant.1 = next_atom c.loop-p.invariant.1 c.loop-p-test.true in
-    record { good_sign = c.requires.good_sign; step_asks = at_next.asks }
+    at_next.asks
 
 pub loop-p-smaller : goal.loop-p-smaller
 loop-p-smaller c =

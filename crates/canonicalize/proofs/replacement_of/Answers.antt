@@ -1,11 +1,7 @@
 -- The definition asks first whether the terms are one, then whether the left one is a variable, then the right one: the test and the cases of the two terms
 -- tell the same. Assumes nothing.
-use mathlib.Core.Bool.{false}
-use mathlib.Core.Path.{◌∙◌, ◌≡◌, sym}
-use Rattle.words.proofs.AtomLaws.{is_var_term}
-use Rattle.words.proofs.Tags.{no_variable}
-use Rattle.canonicalize.proofs.Replacing.{Two, asks_left, asks_none, asks_right, asks_same}
-use borrow.Enum.Refused.{opened}
+use mathlib.Core.Path.{◌∙◌, sym}
+use Rattle.canonicalize.proofs.Replacing.{Two, asks_left, asks_none, asks_right, asks_same, no_var}
 use Rattle.canonicalize.proofs.replacement_of.Goals as goal
 
 pub returns-then-same_term : goal.returns-then-same_term
@@ -16,23 +12,19 @@ returns-then-same_term c =
 -- it is a variable
 pub returns-in-Var : goal.returns-in-Var
 returns-in-Var c =
-    let at_two : (let a = c.args in Two a.q a.a a.b c.good_term_of-left.result) =
-    record { apart = sym c.if-same_term.false ∙ c.same_term.ensures; left = c.good_term_of-left.ensures } in
-    asks_left at_two c.in-Var.is
+    let two : Two c.args.q c.args.a c.args.b c.good_term_of.result =
+    record { apart = sym c.if-same_term.false ∙ c.same_term.ensures; left = c.good_term_of.ensures } in
+    asks_left two c.in-Var.is
 
 -- it is a variable, or none either
-pub returns-in-Var-right : goal.returns-in-Var-right
-returns-in-Var-right c =
-    let at_two : (let a = c.args in Two a.q a.a a.b c.good_term_of-left.result) =
-    record { apart = sym c.if-same_term.false ∙ c.same_term.ensures; left = c.good_term_of-left.ensures } in
-    let at_fixed : is_var_term c.good_term_of-left.result ≡ false =
-    no_variable c.good_term_of-left.result (opened c.in_default.in_default-own.keys2) in
-    asks_right at_two at_fixed c.good_term_of-right.ensures c.in-Var-right.is
+pub returns-in-Var-good_term_of : goal.returns-in-Var-good_term_of
+returns-in-Var-good_term_of c =
+    let two : Two c.args.q c.args.a c.args.b c.good_term_of.result =
+    record { apart = sym c.if-same_term.false ∙ c.same_term.ensures; left = c.good_term_of.ensures } in
+    asks_right two (no_var _ c.in_default.not-Var) c.good_term_of-2.ensures c.in-Var-good_term_of.is
 
 pub returns : goal.returns
 returns c =
-    let at_two : (let a = c.args in Two a.q a.a a.b c.good_term_of-left.result) =
-    record { apart = sym c.if-same_term.false ∙ c.same_term.ensures; left = c.good_term_of-left.ensures } in
-    let at_fixed : is_var_term c.good_term_of-left.result ≡ false =
-    no_variable c.good_term_of-left.result (opened c.in_default.in_default-own.keys2) in
-    asks_none at_two at_fixed c.good_term_of-right.ensures (no_variable c.good_term_of-right.result (opened c.in_default-right.in_default-right-own.keys2))
+    let two : Two c.args.q c.args.a c.args.b c.good_term_of.result =
+    record { apart = sym c.if-same_term.false ∙ c.same_term.ensures; left = c.good_term_of.ensures } in
+    asks_none two (no_var _ c.in_default.not-Var) c.good_term_of-2.ensures (no_var _ c.in_default-good_term_of.not-Var)

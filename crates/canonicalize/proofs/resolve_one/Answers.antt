@@ -2,7 +2,6 @@
 use mathlib.Core.Path.{◌∙◌, ◌≡◌, ap}
 use native.Mathlib.Omega.{arith}
 use lib.ListN.{length}
-use Rattle.octets.proofs.Words.{length_words}
 use Rattle.octets.specs.Regions.{splice}
 use Rattle.octets.specs.Words.{words}
 use Rattle.rules.specs.Signature.{same_term}
@@ -14,38 +13,32 @@ use Rattle.canonicalize.proofs.Resolving.{resolve_read}
 use Rattle.canonicalize.proofs.resolve_one.Goals as goal
 
 pub good_atom_at-atom-requires : goal.good_atom_at-atom-requires
-good_atom_at-atom-requires c = let k = c.requires.resolve_one_asks in equality_begins (omega (arith, k.whole)) k.equality
+good_atom_at-atom-requires c = let k = c.requires in equality_begins (omega (arith, k.whole)) k.equality
 
 pub get-a-requires : goal.get-a-requires
 get-a-requires c =
     let at_atom : (let a = c.args in Equality (words a.s.now) a.p c.good_atom_at-atom.result) =
-    equality_read c.requires.resolve_one_asks.equality c.good_atom_at-atom.ensures in
-    omega (arith, at_atom, c.requires.resolve_one_asks.whole)
-
-pub overflow_add-atom : goal.overflow_add-atom
-overflow_add-atom c =
-    let at_atom : (let a = c.args in Equality (words a.s.now) a.p c.good_atom_at-atom.result) =
-    equality_read c.requires.resolve_one_asks.equality c.good_atom_at-atom.ensures in
-    omega (arith, at_atom, c.requires.resolve_one_asks.whole, length_words c.args.s.now)
+    equality_read c.requires.equality c.good_atom_at-atom.ensures in
+    omega (arith, at_atom, c.requires.whole)
 
 pub get-b-requires : goal.get-b-requires
 get-b-requires c =
     let at_atom : (let a = c.args in Equality (words a.s.now) a.p c.good_atom_at-atom.result) =
-    equality_read c.requires.resolve_one_asks.equality c.good_atom_at-atom.ensures in
-    omega (arith, at_atom, c.requires.resolve_one_asks.whole)
+    equality_read c.requires.equality c.good_atom_at-atom.ensures in
+    omega (arith, at_atom, c.requires.whole)
 
 pub resolve_terms-requires : goal.resolve_terms-requires
 resolve_terms-requires c =
     let at_atom : (let a = c.args in Equality (words a.s.now) a.p c.good_atom_at-atom.result) =
-    equality_read c.requires.resolve_one_asks.equality c.good_atom_at-atom.ensures in
+    equality_read c.requires.equality c.good_atom_at-atom.ensures in
     let at_terms : (let a = c.args in let x = c.get-a.result in let y = c.get-b.result in resolve_terms (same_term x y) (sig a.q) x y ≡ resolve_at (sig a.q) (words a.s.now) a.p) =
     resolve_read (sig c.args.q) at_atom c.get-a.ensures.is c.get-b.ensures.is in
-    record { good_sign = c.requires.good_sign; b_in_bounds = omega (arith, c.requires.resolve_one_asks.room, ap length at_terms) }
+    omega (arith, c.requires.room, ap length at_terms)
 
 pub returns : goal.returns
 returns c =
     let at_atom : (let a = c.args in Equality (words a.s.now) a.p c.good_atom_at-atom.result) =
-    equality_read c.requires.resolve_one_asks.equality c.good_atom_at-atom.ensures in
+    equality_read c.requires.equality c.good_atom_at-atom.ensures in
     let at_terms : (let a = c.args in let x = c.get-a.result in let y = c.get-b.result in resolve_terms (same_term x y) (sig a.q) x y ≡ resolve_at (sig a.q) (words a.s.now) a.p) =
     resolve_read (sig c.args.q) at_atom c.get-a.ensures.is c.get-b.ensures.is in
     let a = c.args in

@@ -24,20 +24,11 @@ returns-then-same_term c =
 
 -- ---- they are two
 
-pub overflow_mul-q : goal.overflow_mul-q
-overflow_mul-q c = omega (arith, c.requires.good_sign.equals)
-
-pub overflow_add-q : goal.overflow_add-q
-overflow_add-q c = omega (arith, c.requires.good_sign.equals)
-
-pub overflow_add-q-2 : goal.overflow_add-q-2
-overflow_add-q-2 c = omega (arith, c.requires.good_sign.equals)
-
 pub put_four-requires : goal.put_four-requires
 put_four-requires c =
     let at_same : (x : Bool) → c.same_term.result ≡ x → let a = c.args in resolve_terms x (sig a.q) a.a a.b ≡ resolve_terms (same_term a.a a.b) (sig a.q) a.a a.b =
     λ x e. let a = c.args in ap (λ (y : Bool). resolve_terms y (sig a.q) a.a a.b) (sym e ∙ c.same_term.ensures) in
-    omega (arith, c.requires.b_in_bounds, ap length (at_same _ c.if-same_term.false))
+    omega (arith, c.requires, ap length (at_same _ c.if-same_term.false))
 
 pub returns : goal.returns
 returns c =

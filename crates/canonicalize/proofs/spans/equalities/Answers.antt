@@ -2,7 +2,6 @@
 use mathlib.Core.Path.{◌≡◌}
 use Prim.Native.Nat.{◌+◌, ◌-◌}
 use native.Mathlib.Omega.{arith}
-use Rattle.octets.proofs.Words.{length_words}
 use Rattle.octets.specs.Words.{words}
 use Rattle.words.proofs.AtomLaws.{head_other, sign_word}
 use Rattle.bodies.specs.Standing.{size_at}
@@ -13,26 +12,11 @@ use Rattle.canonicalize.proofs.spans.equalities.Goals as goal
 pub loop-i-init : goal.loop-i-init
 loop-i-init c = counting_start c.requires
 
-pub overflow_add-at : goal.overflow_add-at
-overflow_add-at c = omega (arith, c.requires.within, length_words c.args.s.now)
-
 pub good_atom_at-atom-requires : goal.good_atom_at-atom-requires
 good_atom_at-atom-requires c =
     let at_atom : (let a = c.args in First c.loop-i.invariant.todo (words a.s.now) (a.at + c.loop-i.i) (a.n - c.loop-i.i)) =
     counting_here c.requires c.loop-i.invariant c.loop-i-test.true in
     at_atom.begins
-
-pub overflow_sub-i : goal.overflow_sub-i
-overflow_sub-i c =
-    let at_atom : (let a = c.args in First c.loop-i.invariant.todo (words a.s.now) (a.at + c.loop-i.i) (a.n - c.loop-i.i)) =
-    counting_here c.requires c.loop-i.invariant c.loop-i-test.true in
-    let at_next : (let a = c.args in let p = a.at + c.loop-i.i in c.good_atom_at-atom.result.next ≡ p + size_at (words a.s.now) p) =
-    next_at_lem at_atom.begins c.good_atom_at-atom.ensures in
-    omega (arith, at_next)
-
-pub overflow_add-k : goal.overflow_add-k
-overflow_add-k c =
-    omega (arith, c.loop-i.invariant.few, c.loop-i.invariant.inside, c.requires.within, length_words c.args.s.now)
 
 pub loop-i-smaller-in-Eq : goal.loop-i-smaller-in-Eq
 loop-i-smaller-in-Eq c =
@@ -66,7 +50,7 @@ loop-i-preserved c =
     let at_next : (let a = c.args in let p = a.at + c.loop-i.i in c.good_atom_at-atom.result.next ≡ p + size_at (words a.s.now) p) =
     next_at_lem at_atom.begins c.good_atom_at-atom.ensures in
     counting_next c.requires c.loop-i.invariant c.loop-i-test.true
-    (head_other at_atom.begins.first c.good_atom_at-atom.ensures c.in-Head.is) (omega (arith, at_next))
+    (head_other at_atom.begins.first c.good_atom_at-atom.ensures c.in_default.is) (omega (arith, at_next))
 
 -- ---- none is left
 

@@ -2,16 +2,13 @@
 use mathlib.Core.Path.{◌∙◌, refl}
 use Prim.Native.Nat.{◌+◌}
 use native.Mathlib.Omega.{arith}
-use Rattle.octets.proofs.Words.{length_words, length_words_kept}
+use Rattle.octets.proofs.Words.{length_words_kept}
 use Rattle.octets.specs.Words.{words}
 use Rattle.canonicalize.proofs.SpansBuilt.{Narrowing, narrow_end, narrow_next, narrow_start, widen_asks}
 use Rattle.canonicalize.proofs.spans.narrow.Goals as goal
 
 pub fill-requires : goal.fill-requires
 fill-requires c = omega (arith, c.requires.room)
-
-pub overflow_add-table : goal.overflow_add-table
-overflow_add-table c = omega (arith, c.requires.room, length_words c.args.s.now)
 
 pub fill-requires-2 : goal.fill-requires-2
 fill-requires-2 c =
@@ -21,9 +18,6 @@ fill-requires-2 c =
 
 pub loop-p-init : goal.loop-p-init
 loop-p-init c = (refl, λ l k w. w)
-
-pub overflow_add-at-in-loop-p : goal.overflow_add-at-in-loop-p
-overflow_add-at-in-loop-p c = omega (arith, c.requires.small)
 
 pub widen-requires : goal.widen-requires
 widen-requires c =

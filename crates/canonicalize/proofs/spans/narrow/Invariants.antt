@@ -1,6 +1,6 @@
 use mathlib.Core.List.{List}
 use mathlib.Core.Path.{◌≡◌}
-use Prim.Native.Nat.{ℕ, ◌+◌, ◌-◌}
+use Prim.Native.Nat.{ℕ}
 use lib.ListN.{length}
 use Rattle.octets.specs.Words.{words}
 use Rattle.canonicalize.specs.Spans.{SpanAsks}
@@ -11,6 +11,3 @@ use Rattle.canonicalize.proofs.spans.narrow.Given as goal
 abbrev pub invariant-loop-p : goal.invariant-loop-p
 invariant-loop-p v =
     (length v.s ≡ length v.initial.s) × ((l : List ℕ) → SpanAsks l v.at v.n v.table → Narrowing l (words v.initial.s) v.at v.n v.table v.initial.p → Narrowing l (words v.s) v.at v.n v.table v.p)
-
-abbrev pub decreases-loop-p : goal.decreases-loop-p
-decreases-loop-p l = l.at + l.n - l.p
