@@ -113,29 +113,30 @@ module _ {l m : List ℕ} {from n i links to next k : ℕ} (w : Following l m fr
   room_left : to + k ≤ links
   room_left = omega (arith, w.begun.room, w.size, ap length rights_are ∙ length-append (rights_of a w.done) (rights_of a w.left))
 
-  -- ---- a link leads to one more
+  -- ---- a link leads to one more, at offset j
 
-  pub record Met : Type 0 where
+  pub record Met (j : ℕ) : Type 0 where
+    pub link : next ≡ j + 1
     pub to_it : Found w.buckets (bucket_in w.buckets a) w.left w.off next
-    pub there : TabsAt (to_it.atom ∷ to_it.rest) l (from + (next - 1)) (n - (next - 1))
-    pub is : tab_at m (from + next - 1) ≡ to_it.atom
-    pub offset : next - 1 ≡ w.off + length (words_of tab_words to_it.skip)
-    pub end : next - 1 + length (tab_words to_it.atom) ≤ n
-    pub inside : next < n
-    pub low : 2 ≤ next - 1
+    pub there : TabsAt (to_it.atom ∷ to_it.rest) l (from + j) (n - j)
+    pub is : tab_at m (from + j) ≡ to_it.atom
+    pub offset : j ≡ w.off + length (words_of tab_words to_it.skip)
+    pub end : j + length (tab_words to_it.atom) ≤ n
+    pub inside : j + 1 < n
+    pub low : 2 ≤ j
     pub room : to + k ≤ links
     pub below : links + n + 1 ≤ from
     pub fits : from + n < 2 ^ 64
-    pub mark : links + next + 1 < length m
-    pub asks : MemberAsks m (from + i) (from + next - 1) (links + next + 1) (to + 2 + k)
+    pub mark : links + j + 2 < length m
+    pub asks : MemberAsks m (from + i) (from + j) (links + j + 2) (to + 2 + k)
 
-  pub met : (next ≡ 0 → ⊥) → Met
-  met h =
+  pub met : {j : ℕ} → next ≡ j + 1 → Met j
+  met {j} h =
       let b = w.begun in
       let f : Found w.buckets (bucket_in w.buckets a) w.left w.off next =
-      found w.buckets (bucket_in w.buckets a) w.left w.off next w.next_is h in
-      let o : next - 1 ≡ w.off + length (words_of tab_words f.skip) = omega (arith, f.at) in
-      let end : next - 1 + length (tab_words f.atom) ≤ n =
+      found w.buckets (bucket_in w.buckets a) w.left w.off next w.next_is (λ (z : next ≡ 0). omega arith) in
+      let o : j ≡ w.off + length (words_of tab_words f.skip) = omega (arith, f.at) in
+      let end : j + length (tab_words f.atom) ≤ n =
       omega (
         arith,
         o,
@@ -144,19 +145,18 @@ module _ {l m : List ℕ} {from n i links to next k : ℕ} (w : Following l m fr
         ap (λ (ts : List Tab). length (words_of tab_words ts)) f.is ∙ length_words_append tab_words f.skip (f.atom ∷ f.rest),
         length-append (tab_words f.atom) (words_of tab_words f.rest),
       ) in
-      let there : TabsAt (f.atom ∷ f.rest) l (from + (next - 1)) (n - (next - 1)) =
+      let there : TabsAt (f.atom ∷ f.rest) l (from + j) (n - j) =
       tabs_right f.skip (f.atom ∷ f.rest) (subst (λ (ts : List Tab). TabsAt ts l (from + w.off) (n - w.off)) f.is w.tabs)
       (omega (arith, o)) (omega (arith, o)) in
-      let place : from + (next - 1) ≡ from + next - 1 = omega (arith, f.at) in
-      let stands : At (tab_words f.atom) m (from + next - 1) =
-      subst (λ (x : ℕ). At (tab_words f.atom) m x) place
-      (at_after w.only (at_left (words_of tab_words f.rest) there.at) (omega (arith, b.asks.below, o, w.inside))) in
-      let inside : next < n = omega (arith, end, two_tab f.atom, f.at) in
-      let low : 2 ≤ next - 1 = omega (arith, o, w.off_is, b.first.two) in
+      let stands : At (tab_words f.atom) m (from + j) =
+      at_after w.only (at_left (words_of tab_words f.rest) there.at) (omega (arith, b.asks.below, o, w.inside)) in
+      let inside : j + 1 < n = omega (arith, end, two_tab f.atom, f.at) in
+      let low : 2 ≤ j = omega (arith, o, w.off_is, b.first.two) in
       record {
+        link = h;
         to_it = f;
         there = there;
-        is = tab_is f.atom m (from + next - 1) there.fits.0 stands there.bare.0;
+        is = tab_is f.atom m (from + j) there.fits.0 stands there.bare.0;
         offset = o;
         end = end;
         inside = inside;
@@ -168,7 +168,7 @@ module _ {l m : List ℕ} {from n i links to next k : ℕ} (w : Following l m fr
         asks =
             record {
               first = first_there;
-              later = tab_there f.atom m (from + next - 1) there.fits.0 stands;
+              later = tab_there f.atom m (from + j) there.fits.0 stands;
               apart = omega (arith, room_left);
               below = omega (arith, b.asks.below);
               behind = omega (arith, o, w.off_is);
@@ -177,7 +177,7 @@ module _ {l m : List ℕ} {from n i links to next k : ℕ} (w : Following l m fr
 
 -- ---- it is a member, or it is not: r words are written of it, which leaves m₂
 
-module _ {l m : List ℕ} {from n i links to next k : ℕ} {w : Following l m from n i links to next k} (g : Met w) where
+module _ {l m : List ℕ} {from n i links to next k : ℕ} {w : Following l m from n i links to next k} {j : ℕ} (g : Met w j) where
   abbrev its : Found w.buckets (bucket_in w.buckets (a w)) w.left w.off next
   its = g.to_it
 
@@ -190,7 +190,7 @@ module _ {l m : List ℕ} {from n i links to next k : ℕ} {w : Following l m fr
   new = cells_of (alike (a w) its.atom) (same_term (a w).out its.atom.out) its.atom.out
 
   abbrev mid : List ℕ
-  mid = marked (alike (a w) its.atom) m (links + next + 1)
+  mid = marked (alike (a w) its.atom) m (links + j + 2)
 
   behind_are : behind l from n i ≡ (past ++ its.atom ∷ []) ++ its.rest
   behind_are =
@@ -216,22 +216,22 @@ module _ {l m : List ℕ} {from n i links to next k : ℕ} {w : Following l m fr
   pub record Stepped (m₂ : List ℕ) (r : ℕ) : Type 0 where
     pub size : r ≡ length new
     pub words : m₂ ≡ splice mid (to + 2 + k) new
-    pub marking : Only m mid (links + next + 1) (links + next + 2)
+    pub marking : Only m mid (links + j + 2) (links + j + 3)
     pub writing : Only mid m₂ (to + 2 + k) (to + 2 + k + length new)
     pub within : to + 2 + k + length new ≤ length mid
-    pub link : links + next < length m₂
+    pub link : links + j + 1 < length m₂
     pub few : k + r ≤ links
     pub fits : links < 2 ^ 64
 
-  pub stepped : {m₂ : List ℕ} {r : ℕ} → Member m m₂ (from + i) (from + next - 1) (links + next + 1) (to + 2 + k) r → Stepped m₂ r
+  pub stepped : {m₂ : List ℕ} {r : ℕ} → Member m m₂ (from + i) (from + j) (links + j + 2) (to + 2 + k) r → Stepped m₂ r
   stepped {m₂} {r} d =
-      let cells : cells_at m (from + i) (from + next - 1) ≡ new =
+      let cells : cells_at m (from + i) (from + j) ≡ new =
       ap₂ (λ (x y : Tab). cells_of (alike x y) (same_term x.out y.out) y.out) (first_is_lem w) g.is in
       let are : m₂ ≡ splice mid (to + 2 + k) new =
       d.words
-      ∙ ap₂ (λ (b : Bool) (ws : List ℕ). splice (marked b m (links + next + 1)) (to + 2 + k) ws) (ap₂ alike (first_is_lem w) g.is) cells in
-      let marking : Only m mid (links + next + 1) (links + next + 2) =
-      only_wide (links + next + 1) (links + next + 2) (marked_only (alike (a w) its.atom) m (links + next + 1) g.mark) (omega arith) (omega arith) in
+      ∙ ap₂ (λ (b : Bool) (ws : List ℕ). splice (marked b m (links + j + 2)) (to + 2 + k) ws) (ap₂ alike (first_is_lem w) g.is) cells in
+      let marking : Only m mid (links + j + 2) (links + j + 3) =
+      only_wide (links + j + 2) (links + j + 3) (marked_only (alike (a w) its.atom) m (links + j + 2) g.mark) (omega arith) (omega arith) in
       let within : to + 2 + k + length new ≤ length mid = omega (arith, room_then, marking.size, g.mark, g.low) in
       let writing : Only mid m₂ (to + 2 + k) (to + 2 + k + length new) =
       subst (λ (x : List ℕ). Only mid x (to + 2 + k) (to + 2 + k + length new)) (sym are)
@@ -248,71 +248,64 @@ module _ {l m : List ℕ} {from n i links to next k : ℕ} {w : Following l m fr
         fits = omega (arith, g.below, g.fits);
       }
 
-module _ {l m : List ℕ} {from n i links to next k : ℕ} {w : Following l m from n i links to next k} {g : Met w} {m₂ : List ℕ} {r : ℕ} (s : Stepped g m₂ r) where
-  low_words : (j : ℕ) → links + 2 ≤ j → j ≤ links + (next - 1) → get_or m₂ j 0 ≡ get_or m j 0
-  low_words j x y = get_or_only_after j s.writing (omega (arith, room_then g)) ∙ get_or_only_before j s.marking (omega (arith, g.low))
+module _ {l m : List ℕ} {from n i links to next k : ℕ} {w : Following l m from n i links to next k} {j : ℕ} {g : Met w j} {m₂ : List ℕ} {r : ℕ} (s : Stepped g m₂ r) where
+  low_words : (p : ℕ) → links + 2 ≤ p → p ≤ links + j → get_or m₂ p 0 ≡ get_or m p 0
+  low_words p x y = get_or_only_after p s.writing (omega (arith, room_then g)) ∙ get_or_only_before p s.marking (omega (arith, g.low))
 
   start_low : 2 ≤ start w
   start_low = omega (arith, w.begun.first.two)
 
-  past_end : start w + length (words_of tab_words (past g)) ≡ next - 1
+  past_end : start w + length (words_of tab_words (past g)) ≡ j
   past_end = omega (arith, g.offset, w.off_is, length_words_append tab_words w.done (its g).skip)
 
   marks_past : MarkedBy (a w) (past g) (start w) l m₂ links
   marks_past =
-      marked_on (a w) l m links m₂ (next - 1) low_words (past g) (start w) start_low (omega (arith, past_end))
+      marked_on (a w) l m links m₂ j low_words (past g) (start w) start_low (omega (arith, past_end))
       (marked_join (a w) l m links w.done (its g).skip (start w) w.off w.marks
       (marked_elsewhere (a w) l m links w.only w.buckets (its g).skip w.off (omega arith) (its g).none) w.off_is)
 
   chained_past : LinksKept (past g) (start w) l m₂ links
   chained_past =
-      kept_on l m links m₂ (next - 1) low_words (past g) (start w) start_low (omega (arith, past_end))
+      kept_on l m links m₂ j low_words (past g) (start w) start_low (omega (arith, past_end))
       (kept_join l m links w.done (its g).skip (start w) w.off w.chained (kept_after l m links w.only (its g).skip w.off (omega arith)) w.off_is)
 
-  mark_place : links + next + 1 ≡ links + (next - 1) + 2
-  mark_place = omega (arith, g.low)
-
-  link_place : links + next ≡ links + (next - 1) + 1
-  link_place = omega (arith, g.low)
-
-  mark_word : get_or m₂ (links + next + 1) 0 ≡ cond (alike (a w) (its g).atom) 1 (get_or l (links + next + 1) 0)
+  mark_word : get_or m₂ (links + j + 2) 0 ≡ cond (alike (a w) (its g).atom) 1 (get_or l (links + j + 2) 0)
   mark_word =
-      get_or_only_after (links + next + 1) s.writing (omega (arith, room_then g, g.low))
-      ∙ marked_word (alike (a w) (its g).atom) m (links + next + 1) g.mark
-      ∙ ap (λ (x : ℕ). cond (alike (a w) (its g).atom) 1 x) (get_or_only_after (links + next + 1) w.only (omega (arith, g.offset, g.low)))
+      get_or_only_after (links + j + 2) s.writing (omega (arith, room_then g, g.low))
+      ∙ marked_word (alike (a w) (its g).atom) m (links + j + 2) g.mark
+      ∙ ap (λ (x : ℕ). cond (alike (a w) (its g).atom) 1 x) (get_or_only_after (links + j + 2) w.only (omega (arith, g.offset, g.low)))
 
-  link_word : get_or m₂ (links + next) 0 ≡ get_or l (links + next) 0
+  link_word : get_or m₂ (links + j + 1) 0 ≡ get_or l (links + j + 1) 0
   link_word =
-      get_or_only_after (links + next) s.writing (omega (arith, room_then g, g.low)) ∙ get_or_only_before (links + next) s.marking (omega arith)
-      ∙ get_or_only_after (links + next) w.only (omega (arith, g.offset, g.low))
+      get_or_only_after (links + j + 1) s.writing (omega (arith, room_then g, g.low)) ∙ get_or_only_before (links + j + 1) s.marking (omega arith)
+      ∙ get_or_only_after (links + j + 1) w.only (omega (arith, g.offset, g.low))
 
-  marks_here : MarkedBy (a w) ((its g).atom ∷ []) (next - 1) l m₂ links
+  marks_here : MarkedBy (a w) ((its g).atom ∷ []) j l m₂ links
   unfolding MarkedBy
-  marks_here = (subst (λ (x : ℕ). get_or m₂ x 0 ≡ cond (alike (a w) (its g).atom) 1 (get_or l x 0)) mark_place mark_word, tt)
+  marks_here = (mark_word, tt)
 
-  chained_here : LinksKept ((its g).atom ∷ []) (next - 1) l m₂ links
+  chained_here : LinksKept ((its g).atom ∷ []) j l m₂ links
   unfolding LinksKept
-  chained_here = (subst (λ (x : ℕ). get_or m₂ x 0 ≡ get_or l x 0) link_place link_word, tt)
+  chained_here = (link_word, tt)
 
-  linked_here : LinksAt w.buckets ((its g).atom ∷ (its g).rest) (next - 1) l links
+  linked_here : LinksAt w.buckets ((its g).atom ∷ (its g).rest) j l links
   linked_here =
-      links_right w.buckets (its g).skip ((its g).atom ∷ (its g).rest) w.off (next - 1) l links
+      links_right w.buckets (its g).skip ((its g).atom ∷ (its g).rest) w.off j l links
       (subst (λ (ts : List Tab). LinksAt w.buckets ts w.off l links) (its g).is w.linked) g.offset
 
   -- the link behind it is read
-  module _ {next₂ : ℕ} (e : next₂ ≡ get_or m₂ (links + next) 0) where
-    next_after : next₂ ≡ next_in w.buckets (bucket_in w.buckets (a w)) (its g).rest (next - 1 + length (tab_words (its g).atom))
+  module _ {next₂ : ℕ} (e : next₂ ≡ get_or m₂ (links + j + 1) 0) where
+    next_after : next₂ ≡ next_in w.buckets (bucket_in w.buckets (a w)) (its g).rest (j + length (tab_words (its g).atom))
     unfolding LinksAt
     next_after =
-        e ∙ link_word ∙ ap (λ (x : ℕ). get_or l x 0) link_place ∙ linked_here.0
-        ∙ ap (λ (b : ℕ). next_in w.buckets b (its g).rest (next - 1 + length (tab_words (its g).atom))) (its g).bucket
+        e ∙ link_word ∙ linked_here.0
+        ∙ ap (λ (b : ℕ). next_in w.buckets b (its g).rest (j + length (tab_words (its g).atom))) (its g).bucket
 
     pub follow_falls : left_from n next₂ < left_from n next
     follow_falls =
-        let one : next - 1 + 1 ≡ next = omega (arith, g.low) in
-        subst (λ (x : ℕ). left_from n next₂ < left_from n x) one
-        (subst (λ (x : ℕ). left_from n x < left_from n (next - 1 + 1)) (sym next_after)
-        (next_falls w.buckets (bucket_in w.buckets (a w)) n (next - 1) (its g).rest (next - 1 + length (tab_words (its g).atom))
+        subst (λ (x : ℕ). left_from n next₂ < left_from n x) (sym g.link)
+        (subst (λ (x : ℕ). left_from n x < left_from n (j + 1)) (sym next_after)
+        (next_falls w.buckets (bucket_in w.buckets (a w)) n j (its g).rest (j + length (tab_words (its g).atom))
         (omega (arith, g.inside)) (omega (arith, two_tab (its g).atom))))
 
     pub follow_next : Following l m₂ from n i links to next₂ (k + r)
@@ -320,27 +313,27 @@ module _ {l m : List ℕ} {from n i links to next k : ℕ} {w : Following l m fr
     follow_next =
         let t : Tab = (its g).atom in
         let one = length-append (tab_words (its g).atom) [] in
-        let off₂ : ℕ = next - 1 + length (tab_words (its g).atom) in
+        let off₂ : ℕ = j + length (tab_words (its g).atom) in
         let put : At (new g) m₂ (to + 2 + k) =
         subst (λ (x : List ℕ). At (new g) x (to + 2 + k)) (sym s.words) (at_splice (mid g) (to + 2 + k) (new g) s.within) in
         let old : At (rights_of (a w) w.done) m₂ (to + 2) =
         at_before s.writing (at_before s.marking w.cells (omega (arith, w.size, g.room, g.low))) (omega (arith, w.size)) in
-        let ends : start w + length (words_of tab_words (past g ++ (its g).atom ∷ [])) ≡ next - 1 + length (tab_words (its g).atom) =
+        let ends : start w + length (words_of tab_words (past g ++ (its g).atom ∷ [])) ≡ j + length (tab_words (its g).atom) =
         omega (arith, past_end, one, length_words_append tab_words (past g) ((its g).atom ∷ [])) in
         record {
           begun = w.begun;
           buckets = w.buckets;
           done = past g ++ (its g).atom ∷ [];
           left = (its g).rest;
-          off = next - 1 + length (tab_words (its g).atom);
+          off = j + length (tab_words (its g).atom);
           same = behind_are g;
           tabs = tabs_right ((its g).atom ∷ []) (its g).rest g.there (omega (arith, one)) (omega (arith, one));
           linked = linked_here.1;
           next_is = next_after;
           cells = subst (λ (ws : List ℕ). At ws m₂ (to + 2)) (sym (rights_then g)) (at_join old put (omega (arith, w.size)));
           size = ap (λ (x : ℕ). k + x) s.size ∙ sym (size_then g);
-          marks = marked_join (a w) l m₂ links (past g) ((its g).atom ∷ []) (start w) (next - 1) marks_past marks_here (sym past_end);
-          chained = kept_join l m₂ links (past g) ((its g).atom ∷ []) (start w) (next - 1) chained_past chained_here (sym past_end);
+          marks = marked_join (a w) l m₂ links (past g) ((its g).atom ∷ []) (start w) j marks_past marks_here (sym past_end);
+          chained = kept_join l m₂ links (past g) ((its g).atom ∷ []) (start w) j chained_past chained_here (sym past_end);
           only = only_then (only_wide to (links + off₂ + 1) w.only (omega arith) (omega (arith, g.offset)))
               (only_then (only_wide to (links + off₂ + 1) s.marking (omega (arith, g.room)) (omega (arith, two_tab t, g.low)))
               (only_wide to (links + off₂ + 1) s.writing (omega arith) (omega (arith, room_then g, g.low))));

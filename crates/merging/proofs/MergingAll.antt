@@ -345,16 +345,16 @@ module _ {l m : List ℕ} {from n eqs links i : ℕ} {t : Merging} (w : MergingA
         fits = omega (arith, w.fits, w.only.size);
       }
 
-pub merging_end : {l m m₂ : List ℕ} {from n eqs links i : ℕ} {t : Merging} {w : MergingAll l m from n eqs links i t} → Last w
-    → m₂ ≡ splice m (from + t.kept) (part m (from + t.start) (n - t.start))
-    → MergedAll l m₂ from n eqs links (record { eqs = t.eqs; kept = t.kept + (n - t.start); atoms = t.atoms })
-merging_end {l} {m} {m₂} {from} {n} {eqs} {links} {i} {t} {w} e em =
-    let v : Moved w.held w.run m m₂ from n t.kept t.start = moved w.helds e.run e.down e.up em in
+pub merging_end : {l m m₂ : List ℕ} {from n eqs links i q : ℕ} {t : Merging} {w : MergingAll l m from n eqs links i t} → Last w
+    → (q ≡ t.kept + (n - t.start)) × (m₂ ≡ splice m (from + t.kept) (part m (from + t.start) (n - t.start)))
+    → MergedAll l m₂ from n eqs links (record { eqs = t.eqs; kept = q; atoms = t.atoms })
+merging_end {l} {m} {m₂} {from} {n} {eqs} {links} {i} {q} {t} {w} e em =
+    let v : Moved w.held w.run m m₂ from n t.kept t.start = moved w.helds e.run e.down e.up em.1 in
     let fit = groups_fit w in
     record {
       groups = subst (λ (gs : List Group). At (words_of group_words gs) m₂ eqs) (sym e.groups) (at_before v.only w.at (omega (arith, fit, w.asks.below)));
       size = w.size ∙ ap (λ (gs : List Group). length (words_of group_words gs)) (sym e.groups);
-      tabs = subst (λ (ts : List Tab). TabsAt ts m₂ from (t.kept + (n - t.start))) (sym e.kept) v.tabs;
+      tabs = subst (λ (ts : List Tab). TabsAt ts m₂ from q) (sym e.kept) (subst (λ (k : ℕ). TabsAt (w.held ++ w.run) m₂ from k) (sym em.0) v.tabs);
       atoms = w.atoms ∙ ap length (sym e.kept);
       only = only_then w.only (only_wide eqs (from + n) v.only (omega (arith, fit, w.asks.below)) (omega arith));
     }

@@ -51,13 +51,13 @@ module _ {l : List ℕ} {from n i eqs links : ℕ} {t : Merging} (b : Begun l fr
 
   -- ---- it is marked, w, and goes, of z words; the run before it is carried down, which leaves m
 
-  pub one_dropped : {w z : ℕ} {m : List ℕ} → w ≡ get_or l (links + i + 2) 0 → (w ≡ 0 → ⊥) → z ≡ size_at l (from + i)
-      → m ≡ splice l (from + t.kept) (part l (from + t.start) (i - t.start))
-      → MergedOne l m from n i eqs links t (record { eqs = t.eqs; kept = t.kept + (i - t.start); atoms = t.atoms; start = i + z })
-  one_dropped {w} {z} {m} e h ez em =
-      let r : Merging = record { eqs = t.eqs; kept = t.kept + (i - t.start); atoms = t.atoms; start = i + z } in
+  pub one_dropped : {w z q : ℕ} {m : List ℕ} → w ≡ get_or l (links + i + 2) 0 → (w ≡ 0 → ⊥) → z ≡ size_at l (from + i)
+      → (q ≡ t.kept + (i - t.start)) × (m ≡ splice l (from + t.kept) (part l (from + t.start) (i - t.start)))
+      → MergedOne l m from n i eqs links t (record { eqs = t.eqs; kept = q; atoms = t.atoms; start = i + z })
+  one_dropped {w} {z} {q} {m} e h ez em =
+      let r : Merging = record { eqs = t.eqs; kept = q; atoms = t.atoms; start = i + z } in
       let dropped : DroppedOne l m from i t r =
-      record { words = em; eqs_end = refl; kept_end = refl; atoms_end = refl; start_end = ap (λ (x : ℕ). i + x) ez } in
+      record { words = em.1; eqs_end = refl; kept_end = em.0; atoms_end = refl; start_end = ap (λ (x : ℕ). i + x) ez } in
       record {
         step = λ firsts k.
             subst (λ (b : Bool). OneStep b l m from n i eqs links t r) (sym (is_marked (seen (tab_at l (from + i)) firsts) w (e ∙ mark_tells firsts k) h)) dropped;

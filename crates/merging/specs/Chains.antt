@@ -1,5 +1,6 @@
 -- Links between the atoms of a pass, in the definitions' words. Assumes nothing: these are definitions.
 use Rattle.std.specs.Prelude.{◌≡◌, Bool, true, false, cond, List, [], ◌∷◌, ℕ, ◌+◌, ◌-◌, ◌<◌, ◌≤◌, eqb, length, get_or}
+use Rattle.std.specs.Prelude.{Option, None, Some}
 use Rattle.octets.specs.Regions.{Only, part}
 use Rattle.rules.specs.Flat.{Tab, tab_words}
 use Rattle.rules.specs.RemoveDupVars.{seen}
@@ -8,6 +9,11 @@ use Rattle.bodies.specs.Buckets.{key_of, bucket_of, bucket_in}
 use Rattle.bodies.specs.Standing.{size_at, tabs_in, TabsAt}
 
 -- ---- what links and marks say
+
+-- the link that leads to an offset, or to none
+abbrev pub link_of : Option ℕ → ℕ
+link_of None = 0
+link_of (Some j) = j + 1
 
 -- the link to the first atom of the bucket b among ts, which stand from offset i on: 1 + its offset, or 0
 unfoldable pub next_in : (count b : ℕ) → List Tab → ℕ → ℕ

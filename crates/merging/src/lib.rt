@@ -3,9 +3,9 @@
 //
 // The equalities of a group are written as its first output, the count of the others, and those: the first one stands once, since every
 // equality of the group has it on its left.
-#![tactic(auto)]
+#![tactic(auto, using(octets::proofs::Words::length_words))]
 
-ghost use Rattle.std.specs.Prelude.{◌≡◌, ◌+◌, ◌≤◌, length};
+ghost use Rattle.std.specs.Prelude.{◌≡◌, ◌+◌, ◌-◌, ◌≤◌, length};
 ghost use Rattle.octets.specs.Words.{words};
 ghost use Rattle.octets.specs.Regions.{part, splice};
 ghost use Rattle.merging.specs.RemoveDupVars.{MemberAsks, Member, GroupAsks, Grouped, MergeOneAsks, MergedOne, MergeAsks, MergedAll, PassAsks, Passed};
@@ -34,24 +34,15 @@ fn member(s: &mut [u8], p: usize, q: usize, mark: usize, to: usize) -> usize
     1
 }
 
-// The group of the atom at offset i of the n words at `from`: marks those alike behind it, and writes its equalities at `to`, if it has any.
-// Returns how many words that are.
-fn group(s: &mut [u8], from: usize, n: usize, i: usize, links: usize, to: usize) -> usize
-    requires { GroupAsks (words s.old) from n i links to }
-    ensures { Grouped (words s.old) (words s.new) from n i links to result }
-{
-    let mut next = octets::get(s, links + i + 1) as usize;
-    let mut k = 0;
-    while next != 0 {
-        k += member(s, from + i, from + next - 1, links + next + 1, to + 2 + k);
-        next = octets::get(s, links + next) as usize;
-    }
-    if k == 0 {
-        return 0;
-    }
-    let left = output(s, from + i);
-    octets::rows::put_two(s, to, left, k as u32);
-    k + 2
+// Where a pass works: over the atoms in the n words at `from`. Their groups are written from `eqs` on, their links at `links`, and the table of buckets at
+// `table`.
+#[derive(Clone, Copy)]
+pub struct Pass {
+    pub from: usize,
+    pub n: usize,
+    pub eqs: usize,
+    pub links: usize,
+    pub table: usize,
 }
 
 // What a pass has done: the words of its groups, the words of the atoms that it keeps, and how many atoms those are.
@@ -72,91 +63,103 @@ struct Merging {
     start: usize,
 }
 
-// Writes the n words at `from` at `to`, which lies below it or is it.
-fn carry_down(s: &mut [u8], to: usize, from: usize, n: usize)
-    requires { (to ≤ from) × (from + n ≤ length (words s.old)) }
-    ensures { words s.new ≡ splice (words s.old) to (part (words s.old) from n) }
-{
-    if to == from {
-        return;
+impl Merging {
+    // Ends the run of kept atoms at offset `end` of the words at `from`: it moves down to those that are kept before it. Returns how many words are kept.
+    fn end_run(self, s: &mut [u8], from: usize, end: usize) -> usize
+        requires { (self.kept ≤ self.start) × (self.start ≤ end) × (from + end ≤ length (words s.old)) }
+        ensures { (result ≡ self.kept + (end - self.start))
+            × (words s.new ≡ splice (words s.old) (from + self.kept) (part (words s.old) (from + self.start) (end - self.start))) }
+    {
+        if self.kept == self.start {
+            return end;
+        }
+        let run = end - self.start;
+        octets::regions::carry(s, from + self.kept, from + self.start, run);
+        self.kept + run
     }
-    octets::regions::carry(s, to, from, n);
 }
 
-// One atom of a pass, at offset i of the n words at `from`. If it is marked, an atom before it is alike, and it goes: the run before it ends, and
-// moves down to the atoms that are kept. Else its group is written behind those at `eqs`, and it joins the run.
-fn merge_one(
-    s: &mut [u8],
-    from: usize,
-    n: usize,
-    i: usize,
-    eqs: usize,
-    links: usize,
-    t: Merging,
-) -> Merging
-    requires { MergeOneAsks (words s.old) from n i eqs links t }
-    ensures { MergedOne (words s.old) (words s.new) from n i eqs links t result }
-{
-    if octets::get(s, links + i + 2) != 0 {
-        let z = size(s, from + i);
-        let run = i - t.start;
-        carry_down(s, from + t.kept, from + t.start, run);
-        return Merging {
-            eqs: t.eqs,
-            kept: t.kept + run,
-            atoms: t.atoms,
-            start: i + z,
+impl Pass {
+    // The group of the atom at offset i: marks those alike behind it, and writes its equalities at `to`, if it has any. Returns how many words that are.
+    fn group(self, s: &mut [u8], i: usize, to: usize) -> usize
+        requires { GroupAsks (words s.old) self.from self.n i self.links to }
+        ensures { Grouped (words s.old) (words s.new) self.from self.n i self.links to result }
+    {
+        let mut next = chains::linked(s, self.links + i + 1);
+        let mut k = 0;
+        while let Some(j) = next {
+            k += member(
+                s,
+                self.from + i,
+                self.from + j,
+                self.links + j + 2,
+                to + 2 + k,
+            );
+            next = chains::linked(s, self.links + j + 1);
+        }
+        if k == 0 {
+            return 0;
+        }
+        let left = output(s, self.from + i);
+        octets::rows::put_two(s, to, left, k as u32);
+        k + 2
+    }
+
+    // The atom at offset i. If it is marked, an atom before it is alike, and it goes: the run before it ends. Else its group is written behind those
+    // before it, and it joins the run.
+    fn merge_one(self, s: &mut [u8], i: usize, t: Merging) -> Merging
+        requires { MergeOneAsks (words s.old) self.from self.n i self.eqs self.links t }
+        ensures { MergedOne (words s.old) (words s.new) self.from self.n i self.eqs self.links t result }
+    {
+        if octets::get(s, self.links + i + 2) != 0 {
+            let z = size(s, self.from + i);
+            let kept = t.end_run(s, self.from, i);
+            return Merging {
+                kept,
+                start: i + z,
+                ..t
+            };
+        }
+        let e = self.group(s, i, self.eqs + t.eqs);
+        Merging {
+            eqs: t.eqs + e,
+            atoms: t.atoms + 1,
+            ..t
+        }
+    }
+
+    // The pass over atoms that are linked. Its groups are written, and the atoms that it keeps move down, a run of them at a time: most passes drop few
+    // atoms, and where none is dropped none moves.
+    fn merge_all(self, s: &mut [u8]) -> Merged
+        requires { MergeAsks (words s.old) self.from self.n self.eqs self.links }
+        ensures { MergedAll (words s.old) (words s.new) self.from self.n self.eqs self.links result }
+    {
+        let mut t = Merging {
+            eqs: 0,
+            kept: 0,
+            atoms: 0,
+            start: 0,
         };
+        let mut i = 0;
+        while i < self.n {
+            let z = size(s, self.from + i);
+            t = self.merge_one(s, i, t);
+            i += z;
+        }
+        let kept = t.end_run(s, self.from, self.n);
+        Merged {
+            eqs: t.eqs,
+            kept,
+            atoms: t.atoms,
+        }
     }
-    let e = group(s, from, n, i, links, eqs + t.eqs);
-    Merging {
-        eqs: t.eqs + e,
-        kept: t.kept,
-        atoms: t.atoms + 1,
-        start: t.start,
-    }
-}
 
-// A pass over the atoms in the n words at `from`, which are linked. Its groups are written at `eqs`, and the atoms that it keeps move down, a
-// run of them at a time: most passes drop few atoms, and where none is dropped none moves.
-fn merge_all(s: &mut [u8], from: usize, n: usize, eqs: usize, links: usize) -> Merged
-    requires { MergeAsks (words s.old) from n eqs links }
-    ensures { MergedAll (words s.old) (words s.new) from n eqs links result }
-{
-    let mut t = Merging {
-        eqs: 0,
-        kept: 0,
-        atoms: 0,
-        start: 0,
-    };
-    let mut i = 0;
-    while i < n {
-        let z = size(s, from + i);
-        t = merge_one(s, from, n, i, eqs, links, t);
-        i += z;
+    // A pass: the atoms are linked, and then merged.
+    pub fn merge(self, s: &mut [u8]) -> Merged
+        requires { PassAsks (words s.old) self.from self.n self.eqs self.links self.table }
+        ensures { Passed (words s.old) (words s.new) self.from self.n self.eqs self.table result }
+    {
+        self.link(s);
+        self.merge_all(s)
     }
-    let last = n - t.start;
-    carry_down(s, from + t.kept, from + t.start, last);
-    Merged {
-        eqs: t.eqs,
-        kept: t.kept + last,
-        atoms: t.atoms,
-    }
-}
-
-// A pass over the atoms in the n words at `from`. They are linked first, at `links`, with as many buckets at `table` as they have words, and
-// one, since there must be some.
-pub fn merge_pass(
-    s: &mut [u8],
-    from: usize,
-    n: usize,
-    eqs: usize,
-    links: usize,
-    table: usize,
-) -> Merged
-    requires { PassAsks (words s.old) from n eqs links table }
-    ensures { Passed (words s.old) (words s.new) from n eqs table result }
-{
-    chains::link(s, from, n, links, table, n + 1);
-    merge_all(s, from, n, eqs, links)
 }

@@ -2,7 +2,7 @@
 use mathlib.Core.Path.{◌∙◌, refl}
 use native.Mathlib.Omega.{arith}
 use Rattle.merging.proofs.Linking.{linking_asks, linking_end, linking_next, linking_size, linking_start}
-use Rattle.merging.proofs.chains.link.Goals as goal
+use Rattle.merging.proofs.Pass.link.Goals as goal
 
 pub fill-requires : goal.fill-requires
 fill-requires c = c.requires.room

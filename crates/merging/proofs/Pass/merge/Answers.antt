@@ -1,10 +1,6 @@
 -- The loop finds each group along the links that are set before it, so both together are a pass.
-use native.Mathlib.Omega.{arith}
 use Rattle.merging.proofs.MergingAll.{link_asks, linked_asks, pass_ends}
-use Rattle.merging.proofs.merge_pass.Goals as goal
-
-pub overflow_add-n : goal.overflow_add-n
-overflow_add-n c = omega (arith, c.requires.small)
+use Rattle.merging.proofs.Pass.merge.Goals as goal
 
 pub link-requires : goal.link-requires
 link-requires c = link_asks c.requires

@@ -1,44 +1,34 @@
 -- Each store lies behind the one before it, so none undoes another, and together they are what the contract says. Assumes nothing.
 use native.Mathlib.Omega.{arith}
-use Rattle.octets.proofs.Words.{length_words}
 use Rattle.octets.specs.Words.{words}
 use Rattle.merging.proofs.Linking.{Told, told, linked_one, pair_in, place_still}
-use Rattle.merging.proofs.chains.link_one.Goals as goal
+use Rattle.merging.proofs.Pass.link_one.Goals as goal
 
 pub size-z-requires : goal.size-z-requires
 size-z-requires c = c.requires.begins
 
-pub overflow_add-bucket : goal.overflow_add-bucket
-overflow_add-bucket c = omega (arith, c.bucket.ensures.1, c.requires.room, length_words c.args.s.now)
-
 -- ---- the last one leads to it
-
-pub overflow_add-links : goal.overflow_add-links
-overflow_add-links c =
-    let at_get : (let a = c.args in Told (words a.s.now) a.from a.i a.links a.table a.count c.bucket.result c.get-last.result) =
-    told c.requires c.size-z.ensures c.key-key.ensures c.bucket.ensures.0 c.get-last.ensures.is in
-    omega (arith, at_get, length_words c.args.s.now)
 
 pub put-requires : goal.put-requires
 put-requires c =
-    let at_get : (let a = c.args in Told (words a.s.now) a.from a.i a.links a.table a.count c.bucket.result c.get-last.result) =
+    let at_get : (let a = c.args in Told (words a.s.now) a.self.from a.i a.self.links a.self.table a.count c.bucket.result c.get-last.result) =
     told c.requires c.size-z.ensures c.key-key.ensures c.bucket.ensures.0 c.get-last.ensures.is in
     omega (arith, at_get)
 
 pub put_two-requires : goal.put_two-requires
 put_two-requires c =
-    let at_get : (let a = c.args in Told (words a.s.now) a.from a.i a.links a.table a.count c.bucket.result c.get-last.result) =
+    let at_get : (let a = c.args in Told (words a.s.now) a.self.from a.i a.self.links a.self.table a.count c.bucket.result c.get-last.result) =
     told c.requires c.size-z.ensures c.key-key.ensures c.bucket.ensures.0 c.get-last.ensures.is in
     pair_in at_get c.put.ensures
 
 pub put-requires-2 : goal.put-requires-2
 put-requires-2 c =
-    let at_get : (let a = c.args in Told (words a.s.now) a.from a.i a.links a.table a.count c.bucket.result c.get-last.result) =
+    let at_get : (let a = c.args in Told (words a.s.now) a.self.from a.i a.self.links a.self.table a.count c.bucket.result c.get-last.result) =
     told c.requires c.size-z.ensures c.key-key.ensures c.bucket.ensures.0 c.get-last.ensures.is in
     place_still at_get c.put.ensures c.put_two.ensures.1
 
 pub returns : goal.returns
 returns c =
-    let at_get : (let a = c.args in Told (words a.s.now) a.from a.i a.links a.table a.count c.bucket.result c.get-last.result) =
+    let at_get : (let a = c.args in Told (words a.s.now) a.self.from a.i a.self.links a.self.table a.count c.bucket.result c.get-last.result) =
     told c.requires c.size-z.ensures c.key-key.ensures c.bucket.ensures.0 c.get-last.ensures.is in
     (c.size-z.ensures, linked_one at_get c.put.ensures c.put_two.ensures.1 c.put-2.ensures)

@@ -1,0 +1,91 @@
+-- Each link leads to the next atom of the bucket, and those between are of other buckets, so all that are alike to the first are met, in order.
+use mathlib.Core.Path.{◌∙◌, ap, refl}
+use native.Mathlib.Omega.{arith}
+use Rattle.octets.proofs.Words.{length_words}
+use Rattle.merging.specs.Chains.{link_of}
+use Rattle.merging.proofs.Following.{begun, follow_start, met, stepped, follow_falls, follow_next}
+use Rattle.merging.proofs.Following.{followed, follow_none, follow_some}
+use Rattle.merging.proofs.Pass.group.Goals as goal
+
+pub linked-next-requires : goal.linked-next-requires
+linked-next-requires c =
+    let at_start = begun c.requires (omega (arith, length_words c.args.s.now, c.well_formed)) in
+    at_start.link
+
+pub loop-next-init : goal.loop-next-init
+loop-next-init c =
+    let at_start = begun c.requires (omega (arith, length_words c.args.s.now, c.well_formed)) in
+    (refl, follow_start at_start c.linked-next.ensures)
+
+pub overflow_add-self-in-Some-2 : goal.overflow_add-self-in-Some-2
+overflow_add-self-in-Some-2 c = let at_in = met c.loop-next.invariant.1 (ap link_of c.in-Some.is) in omega (arith, at_in)
+
+pub overflow_add-self-in-Some-3 : goal.overflow_add-self-in-Some-3
+overflow_add-self-in-Some-3 c = let at_in = met c.loop-next.invariant.1 (ap link_of c.in-Some.is) in omega (arith, at_in)
+
+pub overflow_add-self-in-Some-4 : goal.overflow_add-self-in-Some-4
+overflow_add-self-in-Some-4 c = let at_in = met c.loop-next.invariant.1 (ap link_of c.in-Some.is) in omega (arith, at_in)
+
+pub overflow_add-to-in-Some : goal.overflow_add-to-in-Some
+overflow_add-to-in-Some c = let at_in = met c.loop-next.invariant.1 (ap link_of c.in-Some.is) in omega (arith, at_in)
+
+pub overflow_add-self-in-Some-5 : goal.overflow_add-self-in-Some-5
+overflow_add-self-in-Some-5 c = let at_in = met c.loop-next.invariant.1 (ap link_of c.in-Some.is) in omega (arith, at_in)
+
+pub overflow_add-self-in-Some-6 : goal.overflow_add-self-in-Some-6
+overflow_add-self-in-Some-6 c = let at_in = met c.loop-next.invariant.1 (ap link_of c.in-Some.is) in omega (arith, at_in)
+
+pub member-k-requires : goal.member-k-requires
+member-k-requires c =
+    let at_in = met c.loop-next.invariant.1 (ap link_of c.in-Some.is) in
+    at_in.asks
+
+pub overflow_add-k : goal.overflow_add-k
+overflow_add-k c =
+    let at_in = met c.loop-next.invariant.1 (ap link_of c.in-Some.is) in
+    let at_member = stepped at_in c.member-k.ensures in
+    omega (arith, at_member)
+
+pub linked-next-requires-in-Some : goal.linked-next-requires-in-Some
+linked-next-requires-in-Some c =
+    let at_in = met c.loop-next.invariant.1 (ap link_of c.in-Some.is) in
+    let at_member = stepped at_in c.member-k.ensures in
+    at_member.link
+
+pub loop-next-smaller : goal.loop-next-smaller
+loop-next-smaller c =
+    let at_in = met c.loop-next.invariant.1 (ap link_of c.in-Some.is) in
+    let at_member = stepped at_in c.member-k.ensures in
+    follow_falls at_member c.linked-next-in-Some.ensures
+
+pub loop-next-preserved : goal.loop-next-preserved
+loop-next-preserved c =
+    let at_in = met c.loop-next.invariant.1 (ap link_of c.in-Some.is) in
+    let at_member = stepped at_in c.member-k.ensures in
+    (c.member-k.auto.s ∙ c.loop-next.invariant.0, follow_next at_member c.linked-next-in-Some.ensures)
+
+pub returns-then-k-eq0 : goal.returns-then-k-eq0
+returns-then-k-eq0 c =
+    let at_end = followed c.loop-next.invariant.1 (ap link_of c.in_default.is) in
+    follow_none at_end c.if-k-eq0.true
+
+pub output-left-requires : goal.output-left-requires
+output-left-requires c =
+    let at_end = followed c.loop-next.invariant.1 (ap link_of c.in_default.is) in
+    at_end.first
+
+pub overflow_cast-k : goal.overflow_cast-k
+overflow_cast-k c = let at_end = followed c.loop-next.invariant.1 (ap link_of c.in_default.is) in omega (arith, at_end)
+
+pub overflow_add-result : goal.overflow_add-result
+overflow_add-result c = let at_end = followed c.loop-next.invariant.1 (ap link_of c.in_default.is) in omega (arith, at_end)
+
+pub put_two-requires : goal.put_two-requires
+put_two-requires c =
+    let at_end = followed c.loop-next.invariant.1 (ap link_of c.in_default.is) in
+    at_end.room
+
+pub returns : goal.returns
+returns c =
+    let at_end = followed c.loop-next.invariant.1 (ap link_of c.in_default.is) in
+    follow_some at_end c.if-k-eq0.false c.output-left.ensures c.put_two.ensures.1

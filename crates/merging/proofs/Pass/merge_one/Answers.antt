@@ -1,0 +1,56 @@
+-- The mark tells whether an atom before it is alike: a marked one goes, with the run before it carried down, and an unmarked one stays, with its group.
+use native.Mathlib.Omega.{arith}
+use Rattle.octets.proofs.Words.{length_words}
+use Rattle.merging.proofs.MergingOne.{begun, one_dropped, unmarked, one_eqs, one_kept}
+use Rattle.merging.proofs.Pass.merge_one.Goals as goal
+
+pub get-requires : goal.get-requires
+get-requires c =
+    let at_start = begun c.requires (omega (arith, length_words c.args.s.now, c.well_formed)) in
+    at_start.mark
+
+-- ---- it is marked
+
+pub size-z-requires : goal.size-z-requires
+size-z-requires c =
+    let at_start = begun c.requires (omega (arith, length_words c.args.s.now, c.well_formed)) in
+    at_start.first.begins
+
+pub end_run-kept-requires : goal.end_run-kept-requires
+end_run-kept-requires c =
+    let at_start = begun c.requires (omega (arith, length_words c.args.s.now, c.well_formed)) in
+    let b = at_start in (b.asks.down, b.asks.run, omega (arith, b.first.top, b.asks.inside))
+
+pub overflow_add-result : goal.overflow_add-result
+overflow_add-result c =
+    let at_start = begun c.requires (omega (arith, length_words c.args.s.now, c.well_formed)) in
+    omega (arith, at_start, c.size-z.ensures)
+
+pub returns-then-get-ne0 : goal.returns-then-get-ne0
+returns-then-get-ne0 c =
+    let at_start = begun c.requires (omega (arith, length_words c.args.s.now, c.well_formed)) in
+    one_dropped at_start c.get.ensures.is c.if-get-ne0.true c.size-z.ensures c.end_run-kept.ensures
+
+pub group-e-requires : goal.group-e-requires
+group-e-requires c =
+    let at_start = begun c.requires (omega (arith, length_words c.args.s.now, c.well_formed)) in
+    let at_else = unmarked at_start c.get.ensures.is c.if-get-ne0.false in
+    at_else.group
+
+pub overflow_add-self-3 : goal.overflow_add-self-3
+overflow_add-self-3 c =
+    let at_start = begun c.requires (omega (arith, length_words c.args.s.now, c.well_formed)) in
+    let at_else = unmarked at_start c.get.ensures.is c.if-get-ne0.false in
+    omega (arith, at_else)
+
+pub overflow_add-result-2 : goal.overflow_add-result-2
+overflow_add-result-2 c =
+    let at_start = begun c.requires (omega (arith, length_words c.args.s.now, c.well_formed)) in
+    let at_else = unmarked at_start c.get.ensures.is c.if-get-ne0.false in
+    omega (arith, one_eqs at_else c.group-e.ensures)
+
+pub returns : goal.returns
+returns c =
+    let at_start = begun c.requires (omega (arith, length_words c.args.s.now, c.well_formed)) in
+    let at_else = unmarked at_start c.get.ensures.is c.if-get-ne0.false in
+    one_kept at_else c.group-e.ensures
