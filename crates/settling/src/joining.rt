@@ -4,14 +4,14 @@ ghost use Rattle.std.specs.Prelude.{◌≡◌, List, map, ◌++◌, ◌+◌, ◌
 ghost use Rattle.octets.specs.Words.{words};
 ghost use Rattle.octets.specs.Regions.{part, splice, swap};
 ghost use Rattle.rules.specs.Flat.{tab};
-ghost use Rattle.bodies.specs.Terms.{sig, GoodSign};
+ghost use Rattle.bodies.specs.Terms.{sig};
 ghost use Rattle.bodies.specs.Standing.{tabs_in};
 ghost use Rattle.canonicalize.specs.Canonicalize.{CanonicalAt};
 ghost use Rattle.merging.specs.RemoveDupVars.{Group, all_eqns, GroupsAt};
 ghost use Rattle.settling.specs.Joining.{JoinOneAsks, JoinedOne, JoinGroupAsks, JoinedGroup, JoinedAll, AgainAsks};
 
 use bodies::terms::Sign;
-use canonicalize::{Canonical, replacement_of, resolve_terms};
+use canonicalize::{Canonical, Replacement, replacement_of, resolve_terms};
 use words::LET;
 
 // Where joining works, apart from the groups: the k words of atoms stand at `body`, what becomes of equalities is written at `to`, and a replacement is
@@ -24,13 +24,13 @@ pub struct Area {
     pub d: usize,
 }
 
-// Replaces x by y in the n words at p. Most often x is not there, and a loop that only reads is the faster one.
-fn replace_met(s: &mut [u8], p: usize, n: usize, x: u32, y: u32)
+// Makes a replacement in the n words at p. Most often its old term is not there, and a loop that only reads is the faster one.
+fn replace_met(s: &mut [u8], p: usize, n: usize, r: Replacement)
     requires { p + n ≤ length (words s.old) }
-    ensures { words s.new ≡ splice (words s.old) p (map (swap x y) (part (words s.old) p n)) }
+    ensures { words s.new ≡ splice (words s.old) p (map (swap r.old r.new) (part (words s.old) p n)) }
 {
-    if octets::regions::among(s, p, n, x) {
-        octets::regions::replace(s, p, n, x, y);
+    if octets::regions::among(s, p, n, r.old) {
+        octets::regions::replace(s, p, n, r.old, r.new);
     }
 }
 
@@ -45,21 +45,19 @@ pub struct Joined {
 // The equality of `left` and the term at p, with n words of groups behind it. If it asks for a replacement, that is made in them and in the atoms, and
 // bound; else what becomes of it is written.
 fn join_one(s: &mut [u8], left: u32, p: usize, n: usize, area: Area, q: Sign) -> Joined
-    requires good_sign { GoodSign q }
-    requires join_one_asks { JoinOneAsks (sig q) (words s.old) left p n area }
+    requires { JoinOneAsks (sig q) (words s.old) left p n area }
     ensures { JoinedOne (sig q) (words s.old) (words s.new) left p n area result }
 {
     let right = octets::get(s, p);
-    let asked = replacement_of(q, left, right);
-    if !asked.yes {
+    let Some(asked) = replacement_of(q, left, right) else {
         let words = resolve_terms(s, area.to, left, right, q);
         return Joined {
             left,
             words,
             binds: area.d,
         };
-    }
-    replace_met(s, p + 1, n, asked.old, asked.new);
+    };
+    replace_met(s, p + 1, n, asked);
     octets::regions::replace(s, area.body, area.k, asked.old, asked.new);
     octets::rows::put_three(s, area.d - 3, LET, asked.old, asked.new);
     let now = if asked.old == left { asked.new } else { left };
@@ -72,17 +70,15 @@ fn join_one(s: &mut [u8], left: u32, p: usize, n: usize, area: Area, q: Sign) ->
 
 // The equalities of `left` and each of the m terms at p, with n words of groups from p on.
 fn join_group(s: &mut [u8], left: u32, p: usize, m: usize, n: usize, area: Area, q: Sign) -> Joined
-    requires good_sign { GoodSign q }
-    requires join_group_asks { JoinGroupAsks (words s.old) left p m n area }
+    requires { JoinGroupAsks (words s.old) left p m n area }
     ensures { JoinedGroup (sig q) (words s.old) (words s.new) left p m n area result }
 {
-    let mut i = 0;
     let mut t = Joined {
         left,
         words: 0,
         binds: area.d,
     };
-    while i < m {
+    for i in 0..m {
         let free = Area {
             to: area.to + t.words,
             d: t.binds,
@@ -90,19 +86,16 @@ fn join_group(s: &mut [u8], left: u32, p: usize, m: usize, n: usize, area: Area,
         };
         let one = join_one(s, t.left, p + i, n - i - 1, free, q);
         t = Joined {
-            left: one.left,
             words: t.words + one.words,
-            binds: one.binds,
+            ..one
         };
-        i += 1;
     }
     t
 }
 
 // The groups in the e words at `at`, one after the other.
 fn join_all(s: &mut [u8], at: usize, e: usize, area: Area, q: Sign) -> Canonical
-    requires good_sign { GoodSign q }
-    requires again_asks { AgainAsks (words s.old) at e area }
+    requires { AgainAsks (words s.old) at e area }
     ensures { JoinedAll (sig q) (words s.old) (words s.new) at e area result }
 {
     let mut i = 0;
@@ -131,8 +124,7 @@ fn join_all(s: &mut [u8], at: usize, e: usize, area: Area, q: Sign) -> Canonical
 // Canonicalizes the equalities of the groups in the e words at `at`, in front of the atoms. If anything becomes of the equalities, the atoms are put
 // behind it, and all of it is brought back to `body`.
 pub fn canonicalize_again(s: &mut [u8], at: usize, e: usize, area: Area, q: Sign) -> Canonical
-    requires good_sign { GoodSign q }
-    requires again_asks { AgainAsks (words s.old) at e area }
+    requires { AgainAsks (words s.old) at e area }
     ensures { (gs : List Group) → GroupsAt gs (words s.old) at e
         → CanonicalAt (sig q) (all_eqns gs ++ map tab (tabs_in (words s.old) area.body area.k))
         (words s.old) (words s.new) at area.body area.d result }

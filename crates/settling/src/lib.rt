@@ -9,13 +9,13 @@
 //     at + 8n + 3                  the end of the bindings, three words each, which are written downward
 //
 // That this suffices is a law of the definitions: settling never makes a body and its replacements heavier.
-#![tactic(auto)]
+#![tactic(auto, using(octets::proofs::Words::length_words))]
 
 ghost use Rattle.std.specs.Prelude.{◌≡◌, List};
 ghost use Rattle.octets.specs.Words.{words};
 ghost use Rattle.rules.specs.Signature.{Sig};
 ghost use Rattle.rules.specs.Flat.{Atom};
-ghost use Rattle.bodies.specs.Terms.{GoodSign, Agrees};
+ghost use Rattle.bodies.specs.Terms.{Agrees};
 ghost use Rattle.bodies.specs.Standing.{BodyAt};
 ghost use Rattle.settling.specs.Settle.{SettleAsks, SettledAt, settled_none};
 
@@ -23,6 +23,7 @@ pub mod joining;
 
 use bodies::terms::Sign;
 use joining::Area;
+use merging::Pass;
 
 // A settled body: where its atoms stand, in how many words, and how many they are; where its bindings stand, three words each, and how
 // many they are, one for each replacement; and the passes.
@@ -52,8 +53,7 @@ fn nothing(at: usize) -> Settled
 
 // Settles the atoms in the n words at `at`, with 8n + 3 words from there on to work in.
 pub fn settle(s: &mut [u8], at: usize, n: usize, q: Sign) -> Settled
-    requires good_sign { GoodSign q }
-    requires settle_asks { SettleAsks (words s.old) at n }
+    requires { SettleAsks (words s.old) at n }
     ensures { (g : Sig) (xs : List Atom) → Agrees q g → BodyAt xs (words s.old) at n
         → SettledAt g xs (words s.old) (words s.new) at n result }
 {
@@ -67,7 +67,14 @@ pub fn settle(s: &mut [u8], at: usize, n: usize, q: Sign) -> Settled
     let mut c = canonicalize::canonicalize(s, at, n, body, end, q);
     let mut passes = 0;
     loop {
-        let t = merging::merge_pass(s, body, c.words, at, links, table);
+        let pass = Pass {
+            from: body,
+            n: c.words,
+            eqs: at,
+            links,
+            table,
+        };
+        let t = pass.merge(s);
         passes += 1;
         if t.eqs == 0 {
             return Settled {

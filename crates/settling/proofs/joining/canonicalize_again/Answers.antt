@@ -13,44 +13,26 @@ use Rattle.settling.proofs.joining.canonicalize_again.Goals as goal
 pub returns-then-v-eq0 : goal.returns-then-v-eq0
 returns-then-v-eq0 c =
     let at_joined : (let a = c.args in AllJoined (sig a.q) (words a.s.now) (words c.join_all-t.new.s) a.at a.e a.area c.join_all-t.result) =
-    all_joined c.requires.again_asks (omega (arith, length_words c.args.s.now, c.well_formed)) c.join_all-t.ensures in
+    all_joined c.requires (omega (arith, length_words c.args.s.now, c.well_formed)) c.join_all-t.ensures in
     again_bare at_joined c.if-v-eq0.true
-
-pub overflow_add-area : goal.overflow_add-area
-overflow_add-area c =
-    let at_joined : (let a = c.args in AllJoined (sig a.q) (words a.s.now) (words c.join_all-t.new.s) a.at a.e a.area c.join_all-t.result) =
-    all_joined c.requires.again_asks (omega (arith, length_words c.args.s.now, c.well_formed)) c.join_all-t.ensures in
-    omega (arith, at_joined)
 
 pub carry-requires : goal.carry-requires
 carry-requires c =
     let at_joined : (let a = c.args in AllJoined (sig a.q) (words a.s.now) (words c.join_all-t.new.s) a.at a.e a.area c.join_all-t.result) =
-    all_joined c.requires.again_asks (omega (arith, length_words c.args.s.now, c.well_formed)) c.join_all-t.ensures in
+    all_joined c.requires (omega (arith, length_words c.args.s.now, c.well_formed)) c.join_all-t.ensures in
     let a = at_joined in
     record { n_in_bounds = (omega (arith, a), omega (arith, a)); clear = below (omega (arith, a)) }
-
-pub overflow_add-v : goal.overflow_add-v
-overflow_add-v c =
-    let at_joined : (let a = c.args in AllJoined (sig a.q) (words a.s.now) (words c.join_all-t.new.s) a.at a.e a.area c.join_all-t.result) =
-    all_joined c.requires.again_asks (omega (arith, length_words c.args.s.now, c.well_formed)) c.join_all-t.ensures in
-    omega (arith, at_joined)
 
 pub carry-requires-2 : goal.carry-requires-2
 carry-requires-2 c =
     let at_joined : (let a = c.args in AllJoined (sig a.q) (words a.s.now) (words c.join_all-t.new.s) a.at a.e a.area c.join_all-t.result) =
-    all_joined c.requires.again_asks (omega (arith, length_words c.args.s.now, c.well_formed)) c.join_all-t.ensures in
+    all_joined c.requires (omega (arith, length_words c.args.s.now, c.well_formed)) c.join_all-t.ensures in
     let carry_long : length (words c.carry.new.buf) ≡ length (words c.join_all-t.new.s) = length_words_kept _ _ c.carry.auto.buf in
     let a = at_joined in
     record { n_in_bounds = (omega (arith, a, carry_long), omega (arith, a, carry_long)); clear = beyond (omega (arith, a)) }
 
-pub overflow_add-result : goal.overflow_add-result
-overflow_add-result c =
-    let at_joined : (let a = c.args in AllJoined (sig a.q) (words a.s.now) (words c.join_all-t.new.s) a.at a.e a.area c.join_all-t.result) =
-    all_joined c.requires.again_asks (omega (arith, length_words c.args.s.now, c.well_formed)) c.join_all-t.ensures in
-    omega (arith, at_joined)
-
 pub returns : goal.returns
 returns c =
     let at_joined : (let a = c.args in AllJoined (sig a.q) (words a.s.now) (words c.join_all-t.new.s) a.at a.e a.area c.join_all-t.result) =
-    all_joined c.requires.again_asks (omega (arith, length_words c.args.s.now, c.well_formed)) c.join_all-t.ensures in
+    all_joined c.requires (omega (arith, length_words c.args.s.now, c.well_formed)) c.join_all-t.ensures in
     again_moved at_joined c.carry.ensures c.carry-2.ensures

@@ -8,45 +8,18 @@ use Rattle.settling.proofs.JoinGroup.{Going, GroupTurn, group_turn, grouping_end
 use Rattle.settling.proofs.joining.join_group.Goals as goal
 
 pub loop-i-init : goal.loop-i-init
-loop-i-init c = (refl, grouping_start c.requires.join_group_asks)
-
-pub overflow_add-free : goal.overflow_add-free
-overflow_add-free c =
-    let at_turn : GroupTurn c.loop-i.invariant.1 = group_turn _ c.loop-i-test.true (omega (arith, length_words c.args.s.now, c.well_formed)) in
-    omega (arith, at_turn)
-
-pub overflow_add-p : goal.overflow_add-p
-overflow_add-p c =
-    let at_turn : GroupTurn c.loop-i.invariant.1 = group_turn _ c.loop-i-test.true (omega (arith, length_words c.args.s.now, c.well_formed)) in
-    omega (arith, at_turn)
-
-pub overflow_sub-n : goal.overflow_sub-n
-overflow_sub-n c =
-    let at_turn : GroupTurn c.loop-i.invariant.1 = group_turn _ c.loop-i-test.true (omega (arith, length_words c.args.s.now, c.well_formed)) in
-    omega (arith, at_turn)
-
-pub overflow_sub-n-in-loop-i : goal.overflow_sub-n-in-loop-i
-overflow_sub-n-in-loop-i c =
-    let at_turn : GroupTurn c.loop-i.invariant.1 = group_turn _ c.loop-i-test.true (omega (arith, length_words c.args.s.now, c.well_formed)) in
-    omega (arith, at_turn)
+loop-i-init c = (refl, grouping_start c.requires)
 
 pub join_one-one-requires : goal.join_one-one-requires
 join_one-one-requires c =
     let at_turn : GroupTurn c.loop-i.invariant.1 = group_turn _ c.loop-i-test.true (omega (arith, length_words c.args.s.now, c.well_formed)) in
-    record { good_sign = c.requires.good_sign; join_one_asks = at_turn.one }
-
-pub overflow_add-t : goal.overflow_add-t
-overflow_add-t c =
-    let at_turn : GroupTurn c.loop-i.invariant.1 = group_turn _ c.loop-i-test.true (omega (arith, length_words c.args.s.now, c.well_formed)) in
-    let at_next : Going at_turn (words c.join_one-one.new.s) c.join_one-one.result =
-    grouping_next at_turn c.requires.good_sign.equals c.join_one-one.ensures in
-    omega (arith, at_next.few, at_turn)
+    at_turn.one
 
 pub loop-i-preserved : goal.loop-i-preserved
 loop-i-preserved c =
     let at_turn : GroupTurn c.loop-i.invariant.1 = group_turn _ c.loop-i-test.true (omega (arith, length_words c.args.s.now, c.well_formed)) in
     let at_next : Going at_turn (words c.join_one-one.new.s) c.join_one-one.result =
-    grouping_next at_turn c.requires.good_sign.equals c.join_one-one.ensures in
+    grouping_next at_turn c.args.q.known_equals c.join_one-one.ensures in
     (c.join_one-one.auto.s ∙ c.loop-i.invariant.0, at_next)
 
 pub returns : goal.returns

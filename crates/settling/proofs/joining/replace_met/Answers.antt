@@ -6,4 +6,4 @@ use Rattle.settling.proofs.joining.replace_met.Goals as goal
 
 pub returns-else-among : goal.returns-else-among
 returns-else-among c =
-    not_met (words c.args.s.now) c.args.p c.args.n c.args.x c.args.y c.requires (sym c.among.ensures ∙ c.if-among.false)
+    not_met (words c.args.s.now) c.args.p c.args.n c.args.r.old c.args.r.new c.requires (sym c.among.ensures ∙ c.if-among.false)
