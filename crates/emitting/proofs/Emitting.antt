@@ -13,8 +13,6 @@ use Rattle.rules.specs.Signature.{Sig}
 use Rattle.rules.specs.Flat.{Atom, CoreAction, tab_words, action_words, words_of, encode}
 use Rattle.rules.specs.Canonicalize.{bindings}
 use Rattle.rules.specs.RemoveDupVars as rules
-use Rattle.signature.specs.declared.Signature.{Signature}
-use Rattle.bodies.specs.declared.terms.Sign.{Sign}
 use Rattle.settling.specs.declared.Settled.{Settled}
 use Rattle.settling.specs.Settle.{SettledAt}
 use Rattle.meaning.proofs.Lists.{words_append}
@@ -131,11 +129,6 @@ module _ {scratch : List ℕ} {body : Settled} {many : ℕ} {source : List ℕ} 
 
   pub emit_asks : (room : ℕ) → 1 + body.words + bound_size * body.replacements + size ≤ room → Fits body from size room (length scratch) (length source)
   emit_asks room h = asks s.parts room h
-
--- ---- settling takes two numbers of a signature
-
-abbrev pub terms_of : Signature → Sign
-terms_of g = record { globals = g.globals; equals = g.equals }
 
 -- ---- what is settled has such parts, with a head of which the words stand in `source`
 

@@ -9,6 +9,7 @@ use Rattle.octets.specs.Words.{words}
 use Rattle.octets.specs.Regions.{part, At}
 use Rattle.octets.proofs.Words.{length_words_kept}
 use Rattle.octets.proofs.Places.{at_after, only_wide}
+use Rattle.rules.specs.Words.{limit12}
 use Rattle.rules.specs.Refusals.{Res, ok, refuse}
 use Rattle.rules.specs.Signature.{Sig, read_signature}
 use Rattle.rules.specs.Written.{Rule, read_written}
@@ -28,7 +29,8 @@ use Rattle.walks.specs.Log.{undone}
 use Rattle.lowering.specs.Lowered.{Good, Made, Lowers}
 use Rattle.lowering.specs.declared.Lowering.{Lowering}
 use Rattle.lowering.proofs.Joined.{same_read}
-use Rattle.bodies.specs.Terms.{GoodSign, Agrees}
+use Rattle.bodies.specs.Terms.{Agrees}
+use Rattle.bodies.specs.declared.terms.Sign.{Sign}
 use Rattle.bodies.specs.Standing.{BodyAt}
 use Rattle.settling.specs.declared.Settled.{Settled}
 use Rattle.settling.specs.Settle.{SettleAsks, SettledAt}
@@ -37,7 +39,7 @@ use Rattle.signature.specs.declared.Signature.{Signature}
 use Rattle.lower_call.specs.declared.Lowered.{Lowered}
 use Rattle.emitting.specs.Emit.{Parts, Stand}
 use Rattle.lower_call.specs.Lower.{LowerAsks, LowersTo, LowersRead, not_lowered, accepted_with}
-use Rattle.emitting.proofs.Emitting.{terms_of, Finishes, settled_parts}
+use Rattle.emitting.proofs.Emitting.{Finishes, settled_parts}
 
 module _ {gs ws : List ℕ} {g : Signature} {cs : List ℕ} {room : ℕ} (a : LowerAsks gs ws g cs room) where
   abbrev pub core_asks : Good gs ws cs room
@@ -52,13 +54,13 @@ module _ {gs ws : List ℕ} {g : Signature} {cs : List ℕ} {room : ℕ} (a : Lo
       }
 
   -- settling takes these two numbers
-  pub good_sign : GoodSign (terms_of g)
-  good_sign =
+  pub few_globals : g.globals ≤ limit12
+  few_globals = omega (arith, a.under.globals, (signature_sound gs a.sig a.under.signed).few_globals_lem)
+
+  pub known_equals : g.equals < limit12
+  known_equals =
       let z = signature_sound gs a.sig a.under.signed in
-      record {
-        globals = omega (arith, a.under.globals, z.few_globals_lem);
-        equals = omega (arith, a.under.equals, z.value_eq_known, z.few_heads);
-      }
+      omega (arith, a.under.equals, z.value_eq_known, z.few_heads)
 
 -- what `to_core_rule` ensures
 abbrev pub Cores : (gs ws cs m cs1 : List ℕ) → Lowering → Type 0
@@ -134,10 +136,10 @@ pub record Done {gs ws : List ℕ} {g : Signature} {cs : List ℕ} {room : ℕ} 
   pub logged : part m2 (30 * n) k.log ≡ part m1 (30 * length ws) k.log
 
 module _ {gs ws : List ℕ} {g : Signature} {cs : List ℕ} {room : ℕ} {a : LowerAsks gs ws g cs room} {m1 cs1 : List ℕ} {k : Lowering} (c : Laid a m1 cs1 k) where
-  pub is_done : {n : ℕ} {m2 : List ℕ} {b : Settled} → n ≡ length ws
-      → ((s : Sig) (xs : List Atom) → Agrees (terms_of g) s → BodyAt xs m1 0 k.body → SettledAt s xs m1 m2 0 k.body b) → Done c n m2 b
-  is_done {n} {m2} all settles =
-      let d = settles a.sig c.core.body (record { globals = a.under.globals; equals = a.under.equals }) c.body in
+  pub is_done : {n : ℕ} {m2 : List ℕ} {b : Settled} {q : Sign} → n ≡ length ws → q.globals ≡ g.globals → q.equals ≡ g.equals
+      → ((s : Sig) (xs : List Atom) → Agrees q s → BodyAt xs m1 0 k.body → SettledAt s xs m1 m2 0 k.body b) → Done c n m2 b
+  is_done {n} {m2} all globals equals settles =
+      let d = settles a.sig c.core.body (record { globals = globals ∙ a.under.globals; equals = equals ∙ a.under.equals }) c.body in
       let s = c.small in
       record {
         all = all;

@@ -10,6 +10,7 @@ ghost use Rattle.lower_call.specs.Lower.{LowerAsks, LowersRead, not_lowered, acc
 use answers::fronts::written_front;
 use answers::{Answer, RAGGED, SHORT_OUTPUT, all_whole, refused, whole};
 use bodies::terms::Sign;
+use emitting::Actions;
 use signature::Signature;
 
 // The bytes of scratch that are lent on for each word of the rule: 32 words.
@@ -90,15 +91,13 @@ fn lower_good(
     let body = settling::settle(scratch, 0, core.body, terms);
     let replacements = body.replacements;
     let passes = body.passes;
-    let needed = emitting::finish(
-        output,
-        scratch,
-        body,
-        core.actions,
-        scratch,
-        lowering::HEAD_AT * n,
-        core.head,
-    );
+    let head = Actions {
+        source: scratch,
+        from: lowering::HEAD_AT * n,
+        size: core.head,
+        count: core.actions,
+    };
+    let needed = emitting::finish(output, scratch, body, head);
     let lowered = accepted(needed, replacements, passes);
     if octets::count(output) < needed {
         walks::restore(counters, scratch, lowering::LOG_AT * n, core.log);

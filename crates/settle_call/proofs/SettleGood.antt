@@ -27,14 +27,15 @@ use Rattle.written.specs.declared.Ending.{Ending}
 use Rattle.signature.specs.declared.Signature.{Signature}
 use Rattle.records.proofs.FlatWords.{word_read, row_spelled, atom_spelled, action_spelled, flat_spelled}
 use Rattle.records.proofs.FlatWhole.{flat_with}
-use Rattle.bodies.specs.Terms.{GoodSign, Agrees}
+use Rattle.bodies.specs.Terms.{Agrees}
+use Rattle.bodies.specs.declared.terms.Sign.{Sign}
 use Rattle.bodies.specs.Standing.{BodyAt}
 use Rattle.settling.specs.declared.Settled.{Settled}
 use Rattle.settling.specs.Settle.{SettleAsks, SettledAt}
 use Rattle.settling.proofs.Settling.{settle_asks}
 use Rattle.emitting.specs.Emit.{Parts, Stand}
 use Rattle.settle_call.specs.Settle.{FlatUnder, SomeFlat, EndedWith}
-use Rattle.emitting.proofs.Emitting.{terms_of, Finishes, settled_parts}
+use Rattle.emitting.proofs.Emitting.{Finishes, settled_parts}
 
 -- ---- the header of a flat rule, and where its atoms end
 
@@ -94,13 +95,14 @@ module _ {ws : List ℕ} {g : Signature} (t : SomeFlat ws g) where
       at_right (h ∷ []) 1 (subst (λ (l : List ℕ). At l ws 0) (flat_spelled t.sig ws t.rule t.under.read) (at_whole ws)) refl
 
   -- settling takes these two numbers
-  pub good_sign : GoodSign (terms_of g)
-  good_sign =
-      let u = t.under in
-      record { globals = omega (arith, u.same_globals, u.few_globals_lem); equals = omega (arith, u.same_equals, u.known_equals, u.few_heads) }
+  pub few_globals : g.globals ≤ limit12
+  few_globals = omega (arith, t.under.same_globals, t.under.few_globals_lem)
 
-  agrees : Agrees (terms_of g) t.sig
-  agrees = record { globals = t.under.same_globals; equals = t.under.same_equals }
+  pub known_equals : g.equals < limit12
+  known_equals = omega (arith, t.under.same_equals, t.under.known_equals, t.under.few_heads)
+
+  agrees : {q : Sign} → q.globals ≡ g.globals → q.equals ≡ g.equals → Agrees q t.sig
+  agrees globals equals = record { globals = globals ∙ t.under.same_globals; equals = equals ∙ t.under.same_equals }
 
 -- ---- the header is read, w, and there is a scratch l
 
@@ -167,9 +169,9 @@ pub record Done {ws : List ℕ} {g : Signature} {l : List ℕ} {w : ℕ} {b : Be
   pub done : (t : SomeFlat ws g) → SettledAt t.sig t.rule.atoms m z 0 (at - 1) body
 
 module _ {ws : List ℕ} {g : Signature} {l : List ℕ} {w : ℕ} {b : Begun ws g l w} {at : ℕ} {f : Found b at} {m : List ℕ} (c : Copied f m) where
-  pub is_done : {body : Settled} {z : List ℕ}
-      → ((s : Sig) (xs : List Atom) → Agrees (terms_of g) s → BodyAt xs m 0 (at - 1) → SettledAt s xs m z 0 (at - 1) body) → Done c body z
-  is_done settles = record { done = λ t. settles t.sig t.rule.atoms (agrees t) (c.body t) }
+  pub is_done : {body : Settled} {z : List ℕ} {q : Sign} → q.globals ≡ g.globals → q.equals ≡ g.equals
+      → ((s : Sig) (xs : List Atom) → Agrees q s → BodyAt xs m 0 (at - 1) → SettledAt s xs m z 0 (at - 1) body) → Done c body z
+  is_done globals equals settles = record { done = λ t. settles t.sig t.rule.atoms (agrees t globals equals) (c.body t) }
 
 module _ {ws : List ℕ} {g : Signature} {l : List ℕ} {w : ℕ} {b : Begun ws g l w} {at : ℕ} {f : Found b at} {m : List ℕ} {c : Copied f m}
     {body : Settled} {z : List ℕ} (d : Done c body z) {k : ℕ} (all : k ≡ length ws) where

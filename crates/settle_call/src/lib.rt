@@ -11,6 +11,8 @@ ghost use Rattle.settle_call.specs.Settle.{FlatUnder, SomeFlat, EndedWith};
 
 use answers::fronts::flat_front;
 use answers::{Answer, RAGGED, SHORT_OUTPUT, all_whole, refused, whole};
+use bodies::terms::Sign;
+use emitting::Actions;
 use signature::Signature;
 use words::{HEADER_BASE, LIMIT_12};
 
@@ -37,22 +39,20 @@ fn settle_good(rule: &[u8], sign: Signature, output: &mut [u8], scratch: &mut [u
     let end = read.at;
     let n = end - 1;
     octets::regions::copy(scratch, 0, rule, 1, n);
-    let q = bodies::terms::Sign {
+    let terms = Sign {
         globals: sign.globals,
         equals: sign.equals,
     };
-    let body = settling::settle(scratch, 0, n, q);
+    let body = settling::settle(scratch, 0, n, terms);
     let replacements = body.replacements;
     let passes = body.passes;
-    let needed = emitting::finish(
-        output,
-        scratch,
-        body,
-        (counts % LIMIT_12) as usize,
-        rule,
-        end,
-        octets::count(rule) - end,
-    );
+    let head = Actions {
+        source: rule,
+        from: end,
+        size: octets::count(rule) - end,
+        count: (counts % LIMIT_12) as usize,
+    };
+    let needed = emitting::finish(output, scratch, body, head);
     Ended {
         needed,
         replacements,

@@ -1,22 +1,16 @@
 -- A header is stored and three runs are copied, each where the one before it ends, so that they stand one behind the other. Assumes nothing.
-use Prim.Native.Nat.{ℕ, ◌+◌, ◌*◌, ◌^◌, ◌<◌}
+use Prim.Native.Nat.{ℕ, ◌+◌, ◌*◌}
 use mathlib.Core.Path.{◌≡◌, refl}
 use mathlib.Core.List.{List, [], ◌∷◌, ◌++◌}
 use native.Mathlib.Omega.{arith}
 use lib.ListN.{length, length-append}
 use Rattle.octets.specs.Words.{words}
 use Rattle.octets.specs.Regions.{part}
-use Rattle.octets.proofs.Words.{length_words, length_words_kept}
+use Rattle.octets.proofs.Words.{length_words_kept}
 use Rattle.octets.proofs.Splice.{length_part}
 use Rattle.emitting.specs.Emit.{bound_size}
 use Rattle.emitting.proofs.Emitting.{Fronted, fronted, fronted_then}
 use Rattle.emitting.proofs.emit.Goals as goal
-
-pub overflow_mul-bound : goal.overflow_mul-bound
-overflow_mul-bound c =
-    let few : (let b = c.args.body in 1 + b.words + bound_size * b.replacements + c.args.rest < 2 ^ 64) =
-    omega (arith, c.requires.room, length_words c.args.output.now, c.well_formed) in
-    omega (arith, few)
 
 pub copy-requires : goal.copy-requires
 copy-requires c =
@@ -25,12 +19,6 @@ copy-requires c =
     fronted c.args.header c.put.ensures (length_words_kept _ _ c.put.auto.s) (omega (arith, c.requires.room)) in
     let f = c.requires in
     (omega (arith, at_put.size, f.room), f.atoms)
-
-pub overflow_add-atoms : goal.overflow_add-atoms
-overflow_add-atoms c =
-    let few : (let b = c.args.body in 1 + b.words + bound_size * b.replacements + c.args.rest < 2 ^ 64) =
-    omega (arith, c.requires.room, length_words c.args.output.now, c.well_formed) in
-    omega (arith, few)
 
 pub copy-requires-2 : goal.copy-requires-2
 copy-requires-2 c =
@@ -42,18 +30,6 @@ copy-requires-2 c =
     fronted_then at_put 1 atoms c.copy.ensures refl (length_words_kept _ _ c.copy.auto.out) in
     let f = c.requires in
     (omega (arith, at_copy.size, f.room), f.binds)
-
-pub overflow_add-atoms-2 : goal.overflow_add-atoms-2
-overflow_add-atoms-2 c =
-    let few : (let b = c.args.body in 1 + b.words + bound_size * b.replacements + c.args.rest < 2 ^ 64) =
-    omega (arith, c.requires.room, length_words c.args.output.now, c.well_formed) in
-    omega (arith, few)
-
-pub overflow_add-atoms-3 : goal.overflow_add-atoms-3
-overflow_add-atoms-3 c =
-    let few : (let b = c.args.body in 1 + b.words + bound_size * b.replacements + c.args.rest < 2 ^ 64) =
-    omega (arith, c.requires.room, length_words c.args.output.now, c.well_formed) in
-    omega (arith, few)
 
 pub copy-requires-3 : goal.copy-requires-3
 copy-requires-3 c =
@@ -76,7 +52,7 @@ returns c =
     let output : List ℕ = words c.args.output.now in
     let atoms : List ℕ = part (words c.args.scratch.now) c.args.body.at c.args.body.words in
     let bindings : List ℕ = part (words c.args.scratch.now) c.args.body.binds (bound_size * c.args.body.replacements) in
-    let actions : List ℕ = part (words c.args.source.now) c.args.from c.args.rest in
+    let actions : List ℕ = part (words c.args.head.source.now) c.args.head.from c.args.head.size in
     let at_put : Fronted output (c.args.header ∷ []) (words c.put.new.s) =
     fronted c.args.header c.put.ensures (length_words_kept _ _ c.put.auto.s) (omega (arith, c.requires.room)) in
     let at_copy : Fronted output (c.args.header ∷ atoms) (words c.copy.new.out) =

@@ -3,52 +3,35 @@ use native.Mathlib.Omega.{arith}
 use lib.ListN.{length}
 use Rattle.octets.specs.Words.{words}
 use Rattle.octets.proofs.Words.{length_words}
-use Rattle.emitting.proofs.Emitting.{Bounded, bounded, emit_asks, no_room, in_room}
+use Rattle.emitting.proofs.Emitting.{bounded, emit_asks, no_room, in_room}
 use Rattle.emitting.proofs.finish.Goals as goal
-
-pub overflow_add-needed : goal.overflow_add-needed
-overflow_add-needed c =
-    let at_known : (let a = c.args in Bounded a.body a.actions a.rest) =
-    bounded c.requires (omega (arith, length_words c.args.scratch.now, c.well_formed)) (omega (arith, length_words c.args.source.now, c.well_formed)) in
-    omega (arith, at_known)
 
 pub overflow_mul-needed : goal.overflow_mul-needed
 overflow_mul-needed c =
-    let at_known : (let a = c.args in Bounded a.body a.actions a.rest) =
-    bounded c.requires (omega (arith, length_words c.args.scratch.now, c.well_formed)) (omega (arith, length_words c.args.source.now, c.well_formed)) in
+    let at_known = bounded c.requires (omega (arith, length_words c.args.scratch.now, c.well_formed)) (omega (arith, length_words c.args.head.source.now, c.well_formed)) in
     omega (arith, at_known)
 
 pub overflow_add-needed-2 : goal.overflow_add-needed-2
 overflow_add-needed-2 c =
-    let at_known : (let a = c.args in Bounded a.body a.actions a.rest) =
-    bounded c.requires (omega (arith, length_words c.args.scratch.now, c.well_formed)) (omega (arith, length_words c.args.source.now, c.well_formed)) in
+    let at_known = bounded c.requires (omega (arith, length_words c.args.scratch.now, c.well_formed)) (omega (arith, length_words c.args.head.source.now, c.well_formed)) in
     omega (arith, at_known)
 
 pub overflow_add-needed-3 : goal.overflow_add-needed-3
 overflow_add-needed-3 c =
-    let at_known : (let a = c.args in Bounded a.body a.actions a.rest) =
-    bounded c.requires (omega (arith, length_words c.args.scratch.now, c.well_formed)) (omega (arith, length_words c.args.source.now, c.well_formed)) in
+    let at_known = bounded c.requires (omega (arith, length_words c.args.scratch.now, c.well_formed)) (omega (arith, length_words c.args.head.source.now, c.well_formed)) in
     omega (arith, at_known)
 
 pub returns-then-count-needed : goal.returns-then-count-needed
 returns-then-count-needed c b xs p = no_room p c.args.output.now (omega (arith, c.count.ensures, c.if-count-needed.true))
 
-pub overflow_add-counts-2 : goal.overflow_add-counts-2
-overflow_add-counts-2 c =
-    let at_known : (let a = c.args in Bounded a.body a.actions a.rest) =
-    bounded c.requires (omega (arith, length_words c.args.scratch.now, c.well_formed)) (omega (arith, length_words c.args.source.now, c.well_formed)) in
-    omega (arith, at_known)
-
 pub overflow_cast-counts-2 : goal.overflow_cast-counts-2
 overflow_cast-counts-2 c =
-    let at_known : (let a = c.args in Bounded a.body a.actions a.rest) =
-    bounded c.requires (omega (arith, length_words c.args.scratch.now, c.well_formed)) (omega (arith, length_words c.args.source.now, c.well_formed)) in
+    let at_known = bounded c.requires (omega (arith, length_words c.args.scratch.now, c.well_formed)) (omega (arith, length_words c.args.head.source.now, c.well_formed)) in
     omega (arith, at_known)
 
 pub overflow_add-counts-3 : goal.overflow_add-counts-3
 overflow_add-counts-3 c =
-    let at_known : (let a = c.args in Bounded a.body a.actions a.rest) =
-    bounded c.requires (omega (arith, length_words c.args.scratch.now, c.well_formed)) (omega (arith, length_words c.args.source.now, c.well_formed)) in
+    let at_known = bounded c.requires (omega (arith, length_words c.args.scratch.now, c.well_formed)) (omega (arith, length_words c.args.head.source.now, c.well_formed)) in
     omega (arith, at_known)
 
 pub emit-requires : goal.emit-requires

@@ -1,8 +1,9 @@
 -- The atoms are copied to the front of the scratch, settled there, and written with the actions as they stood. Assumes nothing.
+use mathlib.Core.Path.{refl}
 use native.Mathlib.Omega.{arith}
 use Rattle.octets.specs.Words.{words}
 use Rattle.octets.proofs.Words.{length_words_kept}
-use Rattle.settle_call.proofs.SettleGood.{some_word, good_sign, Begun, begun, Found, found, copy_asks, Copied, copied, Done, is_done, stand, ended}
+use Rattle.settle_call.proofs.SettleGood.{some_word, few_globals, known_equals, Begun, begun, Found, found, copy_asks, Copied, copied, Done, is_done, stand, ended}
 use Rattle.settle_call.proofs.settle_good.Goals as goal
 
 pub get-counts-requires : goal.get-counts-requires
@@ -28,16 +29,19 @@ copy-requires c =
     let at_atoms : Found at_get c.atoms-read.result.at = found at_get c.atoms-read.ensures in
     copy_asks at_atoms
 
+pub invariant_of-terms : goal.invariant_of-terms
+invariant_of-terms c = record { few_globals = few_globals c.requires.some_flat; known_equals = known_equals c.requires.some_flat }
+
 pub settle-body-requires : goal.settle-body-requires
 settle-body-requires c =
     let at_get : (let a = c.args in Begun (words a.rule.now) a.sign (words a.scratch.now) c.get-counts.result) =
     begun c.requires.some_flat c.requires.rule_in_bounds c.get-counts.ensures in
     let at_atoms : Found at_get c.atoms-read.result.at = found at_get c.atoms-read.ensures in
     let at_copy : Copied at_atoms (words c.copy.new.out) = copied at_atoms (length_words_kept _ _ c.copy.auto.out) c.copy.ensures in
-    record { good_sign = good_sign at_get.some; settle_asks = at_copy.asks }
+    at_copy.asks
 
-pub overflow_sub-count : goal.overflow_sub-count
-overflow_sub-count c =
+pub overflow_sub-head : goal.overflow_sub-head
+overflow_sub-head c =
     let at_get : (let a = c.args in Begun (words a.rule.now) a.sign (words a.scratch.now) c.get-counts.result) =
     begun c.requires.some_flat c.requires.rule_in_bounds c.get-counts.ensures in
     let at_atoms : Found at_get c.atoms-read.result.at = found at_get c.atoms-read.ensures in
@@ -49,7 +53,7 @@ finish-needed-requires c =
     begun c.requires.some_flat c.requires.rule_in_bounds c.get-counts.ensures in
     let at_atoms : Found at_get c.atoms-read.result.at = found at_get c.atoms-read.ensures in
     let at_copy : Copied at_atoms (words c.copy.new.out) = copied at_atoms (length_words_kept _ _ c.copy.auto.out) c.copy.ensures in
-    let at_settle : Done at_copy c.settle-body.result (words c.settle-body.new.s) = is_done at_copy c.settle-body.ensures in
+    let at_settle : Done at_copy c.settle-body.result (words c.settle-body.new.s) = is_done at_copy refl refl c.settle-body.ensures in
     stand at_settle c.count.ensures
 
 pub returns : goal.returns
@@ -58,5 +62,5 @@ returns c =
     begun c.requires.some_flat c.requires.rule_in_bounds c.get-counts.ensures in
     let at_atoms : Found at_get c.atoms-read.result.at = found at_get c.atoms-read.ensures in
     let at_copy : Copied at_atoms (words c.copy.new.out) = copied at_atoms (length_words_kept _ _ c.copy.auto.out) c.copy.ensures in
-    let at_settle : Done at_copy c.settle-body.result (words c.settle-body.new.s) = is_done at_copy c.settle-body.ensures in
+    let at_settle : Done at_copy c.settle-body.result (words c.settle-body.new.s) = is_done at_copy refl refl c.settle-body.ensures in
     ended at_settle c.count.ensures c.finish-needed.ensures
