@@ -4,7 +4,7 @@ use mathlib.Core.Bool.{Bool, false, true}
 use mathlib.Core.List.{List, [], ◌++◌, ◌∷◌, append_assoc, append-nil, map}
 use mathlib.Core.Option.{Option, none, some}
 use mathlib.Core.Path.{◌∙◌, ◌≡◌, ap, refl, subst, sym}
-use Prim.Native.Nat.{◌*◌, ◌+◌, ◌-◌, ◌^◌, ◌<◌, ◌≤◌, suc, ℕ}
+use Prim.Native.Nat.{◌*◌, ◌+◌, ◌-◌, ◌<◌, ◌≤◌, suc, ℕ}
 use native.Mathlib.Omega.{arith}
 use lib.ListN.{length, length-map}
 use Rattle.octets.proofs.Places.{at_after, at_first, at_left, at_nil, at_right, only_same, only_splice, only_then, only_wide}
@@ -171,13 +171,6 @@ replaced_eqns r [] h = tt
 replaced_eqns r (eqn p a b ∷ ys) h = (tt, replaced_eqns r ys h.1)
 replaced_eqns r (tab t ∷ ys) h = absurd h.0
 
--- what is left at a turn is inside, and fits
-pub record Turn (at e k to i : ℕ) (t : Canonical) : Type 0 where
-  pub here : at + i < 2 ^ 64
-  pub left : i + equality_size ≤ e
-  pub rest : e - i + k < 2 ^ 64
-  pub there : to + t.words < 2 ^ 64
-
 module _ {l : List ℕ} {at e k to d₀ table buckets : ℕ} (c : FrontAsks l at e k to d₀ table buckets) where
   pub fronting_start : {s : Sig} → Fronting s l l at e k to d₀ table buckets 0 (record { words = 0; binds = d₀ })
   fronting_start =
@@ -241,16 +234,6 @@ module _ {l : List ℕ} {at e k to d₀ table buckets : ℕ} (c : FrontAsks l at
 
     long : e ≡ i + equality_size + equality_size * length next.es
     long = omega (arith, w.left, ap length next.is)
-
-    pub turn : length l < 2 ^ 64 → Turn at e k to i t
-    turn fits =
-        let inside : at + i + (e - i + k) ≤ length m = omega (arith, w.spanned.beyond, w.spanned.room) in
-        record {
-          here = omega (arith, w.only.size);
-          left = omega (arith, long);
-          rest = omega (arith, w.only.size);
-          there = omega (arith, w.tabs.within, w.only.size);
-        }
 
     pub front_one_asks : FrontOneAsks s m (at + i) (e - i + k) (to + t.words) t.binds table buckets
     front_one_asks =

@@ -2,8 +2,7 @@
 -- The bindings begin elsewhere just in the first case. Assumes nothing.
 use native.Mathlib.Omega.{arith}
 use Rattle.octets.proofs.Words.{length_words}
-use Rattle.octets.specs.Words.{words}
-use Rattle.canonicalize.proofs.Fronting.{Tried, equality_within, front_asked, front_still, resolve_asks, step_asks, tried}
+use Rattle.canonicalize.proofs.Fronting.{equality_within, front_asked, front_still, resolve_asks, step_asks, tried}
 use Rattle.canonicalize.proofs.front_one.Goals as goal
 
 pub past_equality-next-requires : goal.past_equality-next-requires
@@ -15,21 +14,18 @@ replace_step-e-requires c = step_asks c.requires c.past_equality-next.ensures
 
 pub returns-then-e-d : goal.returns-then-e-d
 returns-then-e-d c =
-    let at_step : Tried c.requires (words c.replace_step-e.new.s) c.replace_step-e.result =
-    tried c.requires c.past_equality-next.ensures c.replace_step-e.ensures.0 c.replace_step-e.ensures.1 in
+    let at_step = tried c.requires c.past_equality-next.ensures c.replace_step-e.ensures.0 c.replace_step-e.ensures.1 in
     front_asked at_step c.if-e-d.true
 
 -- ---- it was not
 
 pub resolve_one-k-requires : goal.resolve_one-k-requires
 resolve_one-k-requires c =
-    let at_step : Tried c.requires (words c.replace_step-e.new.s) c.replace_step-e.result =
-    tried c.requires c.past_equality-next.ensures c.replace_step-e.ensures.0 c.replace_step-e.ensures.1 in
+    let at_step = tried c.requires c.past_equality-next.ensures c.replace_step-e.ensures.0 c.replace_step-e.ensures.1 in
     resolve_asks at_step c.if-e-d.false
 
 pub returns : goal.returns
 returns c =
-    let at_step : Tried c.requires (words c.replace_step-e.new.s) c.replace_step-e.result =
-    tried c.requires c.past_equality-next.ensures c.replace_step-e.ensures.0 c.replace_step-e.ensures.1 in
+    let at_step = tried c.requires c.past_equality-next.ensures c.replace_step-e.ensures.0 c.replace_step-e.ensures.1 in
     let k = c.resolve_one-k.ensures in
     front_still at_step c.if-e-d.false k.0 k.1

@@ -1,11 +1,8 @@
 -- Making all replacements: no atom that was passed asks again, so one sweep, in which each atom is tried where it stands, makes those of `replace_all`.
 -- Assumes nothing.
-use mathlib.Core.Path.{◌∙◌, ◌≡◌, refl}
-use Prim.Native.Nat.{◌+◌}
+use mathlib.Core.Path.{◌∙◌, refl}
 use native.Mathlib.Omega.{arith}
-use Rattle.octets.specs.Words.{words}
-use Rattle.bodies.specs.Standing.{size_at}
-use Rattle.canonicalize.proofs.Replacing.{Next, next_atom, replacing_end, replacing_next, replacing_start}
+use Rattle.canonicalize.proofs.Replacing.{next_atom, replacing_end, replacing_next, replacing_start}
 use Rattle.canonicalize.proofs.replace_all.Goals as goal
 
 pub loop-p-init : goal.loop-p-init
@@ -13,24 +10,24 @@ loop-p-init c = (refl, replacing_start c.requires)
 
 pub good_atom_at-atom-requires : goal.good_atom_at-atom-requires
 good_atom_at-atom-requires c =
-    let at_next : Next c.loop-p.invariant.1 = next_atom c.loop-p.invariant.1 c.loop-p-test.true in
+    let at_next = next_atom c.loop-p.invariant.1 c.loop-p-test.true in
     at_next.asks.begins
 
 pub replace_step-e-requires : goal.replace_step-e-requires
 replace_step-e-requires c =
-    let at_next : Next c.loop-p.invariant.1 = next_atom c.loop-p.invariant.1 c.loop-p-test.true in
+    let at_next = next_atom c.loop-p.invariant.1 c.loop-p-test.true in
     at_next.asks
 
 pub loop-p-smaller : goal.loop-p-smaller
 loop-p-smaller c =
-    let at_next : Next c.loop-p.invariant.1 = next_atom c.loop-p.invariant.1 c.loop-p-test.true in
-    let at_place : (let w = c.loop-p in c.good_atom_at-atom.result.next ≡ w.p + size_at (words w.s) w.p) = at_next.next c.good_atom_at-atom.ensures in
+    let at_next = next_atom c.loop-p.invariant.1 c.loop-p-test.true in
+    let at_place = at_next.next c.good_atom_at-atom.ensures in
     omega (arith, at_next.inside, at_next.some, at_place)
 
 pub loop-p-preserved : goal.loop-p-preserved
 loop-p-preserved c =
-    let at_next : Next c.loop-p.invariant.1 = next_atom c.loop-p.invariant.1 c.loop-p-test.true in
-    let at_place : (let w = c.loop-p in c.good_atom_at-atom.result.next ≡ w.p + size_at (words w.s) w.p) = at_next.next c.good_atom_at-atom.ensures in
+    let at_next = next_atom c.loop-p.invariant.1 c.loop-p-test.true in
+    let at_place = at_next.next c.good_atom_at-atom.ensures in
     let w = c.loop-p.invariant in
     let k = c.replace_step-e.ensures in
     (c.replace_step-e.auto.s ∙ w.0, replacing_next w.1 at_next at_place k.0 k.1)

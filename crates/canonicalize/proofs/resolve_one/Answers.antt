@@ -8,7 +8,7 @@ use Rattle.rules.specs.Signature.{same_term}
 use Rattle.bodies.specs.Terms.{sig}
 use Rattle.bodies.proofs.Standing.{equality_begins}
 use Rattle.canonicalize.specs.Canonicalize.{resolve_at, resolve_terms}
-use Rattle.canonicalize.proofs.Replacing.{Equality, equality_read}
+use Rattle.canonicalize.proofs.Replacing.{equality_read}
 use Rattle.canonicalize.proofs.Resolving.{resolve_read}
 use Rattle.canonicalize.proofs.resolve_one.Goals as goal
 
@@ -17,28 +17,24 @@ good_atom_at-atom-requires c = let k = c.requires in equality_begins (omega (ari
 
 pub get-a-requires : goal.get-a-requires
 get-a-requires c =
-    let at_atom : (let a = c.args in Equality (words a.s.now) a.p c.good_atom_at-atom.result) =
-    equality_read c.requires.equality c.good_atom_at-atom.ensures in
+    let at_atom = equality_read {l = words c.args.s.now} c.requires.equality c.good_atom_at-atom.ensures in
     omega (arith, at_atom, c.requires.whole)
 
 pub get-b-requires : goal.get-b-requires
 get-b-requires c =
-    let at_atom : (let a = c.args in Equality (words a.s.now) a.p c.good_atom_at-atom.result) =
-    equality_read c.requires.equality c.good_atom_at-atom.ensures in
+    let at_atom = equality_read {l = words c.args.s.now} c.requires.equality c.good_atom_at-atom.ensures in
     omega (arith, at_atom, c.requires.whole)
 
 pub resolve_terms-requires : goal.resolve_terms-requires
 resolve_terms-requires c =
-    let at_atom : (let a = c.args in Equality (words a.s.now) a.p c.good_atom_at-atom.result) =
-    equality_read c.requires.equality c.good_atom_at-atom.ensures in
+    let at_atom = equality_read {l = words c.args.s.now} c.requires.equality c.good_atom_at-atom.ensures in
     let at_terms : (let a = c.args in let x = c.get-a.result in let y = c.get-b.result in resolve_terms (same_term x y) (sig a.q) x y ≡ resolve_at (sig a.q) (words a.s.now) a.p) =
     resolve_read (sig c.args.q) at_atom c.get-a.ensures.is c.get-b.ensures.is in
     omega (arith, c.requires.room, ap length at_terms)
 
 pub returns : goal.returns
 returns c =
-    let at_atom : (let a = c.args in Equality (words a.s.now) a.p c.good_atom_at-atom.result) =
-    equality_read c.requires.equality c.good_atom_at-atom.ensures in
+    let at_atom = equality_read {l = words c.args.s.now} c.requires.equality c.good_atom_at-atom.ensures in
     let at_terms : (let a = c.args in let x = c.get-a.result in let y = c.get-b.result in resolve_terms (same_term x y) (sig a.q) x y ≡ resolve_at (sig a.q) (words a.s.now) a.p) =
     resolve_read (sig c.args.q) at_atom c.get-a.ensures.is c.get-b.ensures.is in
     let a = c.args in

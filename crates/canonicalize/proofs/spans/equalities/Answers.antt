@@ -1,11 +1,7 @@
 -- Counting equalities: each atom that is met is one or none, and those that are left are still to be counted. Assumes nothing.
-use mathlib.Core.Path.{◌≡◌}
-use Prim.Native.Nat.{◌+◌, ◌-◌}
 use native.Mathlib.Omega.{arith}
-use Rattle.octets.specs.Words.{words}
 use Rattle.words.proofs.AtomLaws.{head_other, sign_word}
-use Rattle.bodies.specs.Standing.{size_at}
-use Rattle.bodies.proofs.Standing.{First, next_at_lem}
+use Rattle.bodies.proofs.Standing.{next_at_lem}
 use Rattle.canonicalize.proofs.Runs.{counting_end, counting_here, counting_met, counting_next, counting_start}
 use Rattle.canonicalize.proofs.spans.equalities.Goals as goal
 
@@ -14,41 +10,32 @@ loop-i-init c = counting_start c.requires
 
 pub good_atom_at-atom-requires : goal.good_atom_at-atom-requires
 good_atom_at-atom-requires c =
-    let at_atom : (let a = c.args in First c.loop-i.invariant.todo (words a.s.now) (a.at + c.loop-i.i) (a.n - c.loop-i.i)) =
-    counting_here c.requires c.loop-i.invariant c.loop-i-test.true in
+    let at_atom = counting_here c.requires c.loop-i.invariant c.loop-i-test.true in
     at_atom.begins
 
 pub loop-i-smaller-in-Eq : goal.loop-i-smaller-in-Eq
 loop-i-smaller-in-Eq c =
-    let at_atom : (let a = c.args in First c.loop-i.invariant.todo (words a.s.now) (a.at + c.loop-i.i) (a.n - c.loop-i.i)) =
-    counting_here c.requires c.loop-i.invariant c.loop-i-test.true in
-    let at_next : (let a = c.args in let p = a.at + c.loop-i.i in c.good_atom_at-atom.result.next ≡ p + size_at (words a.s.now) p) =
-    next_at_lem at_atom.begins c.good_atom_at-atom.ensures in
-    let t = at_atom in omega (arith, at_next, t.size, t.some)
+    let at_atom = counting_here c.requires c.loop-i.invariant c.loop-i-test.true in
+    let at_next = next_at_lem at_atom.begins c.good_atom_at-atom.ensures in
+    omega (arith, at_next, at_atom.size, at_atom.some)
 
 pub loop-i-preserved-in-Eq : goal.loop-i-preserved-in-Eq
 loop-i-preserved-in-Eq c =
-    let at_atom : (let a = c.args in First c.loop-i.invariant.todo (words a.s.now) (a.at + c.loop-i.i) (a.n - c.loop-i.i)) =
-    counting_here c.requires c.loop-i.invariant c.loop-i-test.true in
-    let at_next : (let a = c.args in let p = a.at + c.loop-i.i in c.good_atom_at-atom.result.next ≡ p + size_at (words a.s.now) p) =
-    next_at_lem at_atom.begins c.good_atom_at-atom.ensures in
+    let at_atom = counting_here c.requires c.loop-i.invariant c.loop-i-test.true in
+    let at_next = next_at_lem at_atom.begins c.good_atom_at-atom.ensures in
     counting_met c.requires c.loop-i.invariant c.loop-i-test.true
     (sign_word at_atom.begins.first c.good_atom_at-atom.ensures c.in-Eq.is) (omega (arith, at_next))
 
 pub loop-i-smaller : goal.loop-i-smaller
 loop-i-smaller c =
-    let at_atom : (let a = c.args in First c.loop-i.invariant.todo (words a.s.now) (a.at + c.loop-i.i) (a.n - c.loop-i.i)) =
-    counting_here c.requires c.loop-i.invariant c.loop-i-test.true in
-    let at_next : (let a = c.args in let p = a.at + c.loop-i.i in c.good_atom_at-atom.result.next ≡ p + size_at (words a.s.now) p) =
-    next_at_lem at_atom.begins c.good_atom_at-atom.ensures in
-    let t = at_atom in omega (arith, at_next, t.size, t.some)
+    let at_atom = counting_here c.requires c.loop-i.invariant c.loop-i-test.true in
+    let at_next = next_at_lem at_atom.begins c.good_atom_at-atom.ensures in
+    omega (arith, at_next, at_atom.size, at_atom.some)
 
 pub loop-i-preserved : goal.loop-i-preserved
 loop-i-preserved c =
-    let at_atom : (let a = c.args in First c.loop-i.invariant.todo (words a.s.now) (a.at + c.loop-i.i) (a.n - c.loop-i.i)) =
-    counting_here c.requires c.loop-i.invariant c.loop-i-test.true in
-    let at_next : (let a = c.args in let p = a.at + c.loop-i.i in c.good_atom_at-atom.result.next ≡ p + size_at (words a.s.now) p) =
-    next_at_lem at_atom.begins c.good_atom_at-atom.ensures in
+    let at_atom = counting_here c.requires c.loop-i.invariant c.loop-i-test.true in
+    let at_next = next_at_lem at_atom.begins c.good_atom_at-atom.ensures in
     counting_next c.requires c.loop-i.invariant c.loop-i-test.true
     (head_other at_atom.begins.first c.good_atom_at-atom.ensures c.in_default.is) (omega (arith, at_next))
 

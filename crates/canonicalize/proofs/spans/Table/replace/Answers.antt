@@ -2,8 +2,7 @@
 -- span takes in that of x. With one bucket the span is the whole body. Assumes nothing.
 use native.Mathlib.Omega.{arith}
 use Rattle.octets.proofs.Words.{length_words, length_words_kept}
-use Rattle.octets.specs.Words.{words}
-use Rattle.canonicalize.proofs.SpansUsed.{Found, Passed, Seen, passed, replaced, replaced_whole, seen}
+use Rattle.canonicalize.proofs.SpansUsed.{buckets_found, passed, replaced, replaced_whole, seen}
 use Rattle.canonicalize.proofs.spans.Table.replace.Goals as goal
 
 pub returns-then-self-eq1 : goal.returns-then-self-eq1
@@ -12,60 +11,42 @@ returns-then-self-eq1 c =
 
 pub replace_between-requires : goal.replace_between-requires
 replace_between-requires c =
-    let at_buckets : Found c.requires c.args.r.old c.args.r.new c.bucket.result c.bucket-2.result =
-    let x = c.bucket.ensures in
-    let y = c.bucket-2.ensures in
-    record { old = x.0; new = y.0; old_inside = x.1; new_inside = y.1; room = c.requires.room; fits = omega (arith, length_words c.args.s.now, c.well_formed) } in
-    let at_span : Seen at_buckets c.get-low.result c.get-high.result = seen at_buckets c.get-low.ensures.is c.get-high.ensures.is in
+    let at_buckets = buckets_found c.requires c.bucket.ensures c.bucket-2.ensures (omega (arith, length_words c.args.s.now, c.well_formed)) in
+    let at_span = seen at_buckets c.get-low.ensures.is c.get-high.ensures.is in
     at_span.inside
 
 pub get-first-requires : goal.get-first-requires
 get-first-requires c =
-    let at_buckets : Found c.requires c.args.r.old c.args.r.new c.bucket.result c.bucket-2.result =
-    let x = c.bucket.ensures in
-    let y = c.bucket-2.ensures in
-    record { old = x.0; new = y.0; old_inside = x.1; new_inside = y.1; room = c.requires.room; fits = omega (arith, length_words c.args.s.now, c.well_formed) } in
-    let at_span : Seen at_buckets c.get-low.result c.get-high.result = seen at_buckets c.get-low.ensures.is c.get-high.ensures.is in
-    let at_between : Passed at_span (words c.replace_between.new.s) = passed at_span c.max.ensures c.replace_between.ensures in
+    let at_buckets = buckets_found c.requires c.bucket.ensures c.bucket-2.ensures (omega (arith, length_words c.args.s.now, c.well_formed)) in
+    let at_span = seen at_buckets c.get-low.ensures.is c.get-high.ensures.is in
+    let at_between = passed at_span c.max.ensures c.replace_between.ensures in
     omega (arith, at_between)
 
 pub get-end-requires : goal.get-end-requires
 get-end-requires c =
-    let at_buckets : Found c.requires c.args.r.old c.args.r.new c.bucket.result c.bucket-2.result =
-    let x = c.bucket.ensures in
-    let y = c.bucket-2.ensures in
-    record { old = x.0; new = y.0; old_inside = x.1; new_inside = y.1; room = c.requires.room; fits = omega (arith, length_words c.args.s.now, c.well_formed) } in
-    let at_span : Seen at_buckets c.get-low.result c.get-high.result = seen at_buckets c.get-low.ensures.is c.get-high.ensures.is in
-    let at_between : Passed at_span (words c.replace_between.new.s) = passed at_span c.max.ensures c.replace_between.ensures in
+    let at_buckets = buckets_found c.requires c.bucket.ensures c.bucket-2.ensures (omega (arith, length_words c.args.s.now, c.well_formed)) in
+    let at_span = seen at_buckets c.get-low.ensures.is c.get-high.ensures.is in
+    let at_between = passed at_span c.max.ensures c.replace_between.ensures in
     omega (arith, at_between)
 
 pub put-requires : goal.put-requires
 put-requires c =
-    let at_buckets : Found c.requires c.args.r.old c.args.r.new c.bucket.result c.bucket-2.result =
-    let x = c.bucket.ensures in
-    let y = c.bucket-2.ensures in
-    record { old = x.0; new = y.0; old_inside = x.1; new_inside = y.1; room = c.requires.room; fits = omega (arith, length_words c.args.s.now, c.well_formed) } in
-    let at_span : Seen at_buckets c.get-low.result c.get-high.result = seen at_buckets c.get-low.ensures.is c.get-high.ensures.is in
-    let at_between : Passed at_span (words c.replace_between.new.s) = passed at_span c.max.ensures c.replace_between.ensures in
+    let at_buckets = buckets_found c.requires c.bucket.ensures c.bucket-2.ensures (omega (arith, length_words c.args.s.now, c.well_formed)) in
+    let at_span = seen at_buckets c.get-low.ensures.is c.get-high.ensures.is in
+    let at_between = passed at_span c.max.ensures c.replace_between.ensures in
     omega (arith, at_between)
 
 pub put-requires-2 : goal.put-requires-2
 put-requires-2 c =
-    let at_buckets : Found c.requires c.args.r.old c.args.r.new c.bucket.result c.bucket-2.result =
-    let x = c.bucket.ensures in
-    let y = c.bucket-2.ensures in
-    record { old = x.0; new = y.0; old_inside = x.1; new_inside = y.1; room = c.requires.room; fits = omega (arith, length_words c.args.s.now, c.well_formed) } in
-    let at_span : Seen at_buckets c.get-low.result c.get-high.result = seen at_buckets c.get-low.ensures.is c.get-high.ensures.is in
-    let at_between : Passed at_span (words c.replace_between.new.s) = passed at_span c.max.ensures c.replace_between.ensures in
+    let at_buckets = buckets_found c.requires c.bucket.ensures c.bucket-2.ensures (omega (arith, length_words c.args.s.now, c.well_formed)) in
+    let at_span = seen at_buckets c.get-low.ensures.is c.get-high.ensures.is in
+    let at_between = passed at_span c.max.ensures c.replace_between.ensures in
     omega (arith, at_between, length_words_kept c.put.new.s c.replace_between.new.s c.put.auto.s)
 
 pub returns : goal.returns
 returns c =
-    let at_buckets : Found c.requires c.args.r.old c.args.r.new c.bucket.result c.bucket-2.result =
-    let x = c.bucket.ensures in
-    let y = c.bucket-2.ensures in
-    record { old = x.0; new = y.0; old_inside = x.1; new_inside = y.1; room = c.requires.room; fits = omega (arith, length_words c.args.s.now, c.well_formed) } in
-    let at_span : Seen at_buckets c.get-low.result c.get-high.result = seen at_buckets c.get-low.ensures.is c.get-high.ensures.is in
-    let at_between : Passed at_span (words c.replace_between.new.s) = passed at_span c.max.ensures c.replace_between.ensures in
+    let at_buckets = buckets_found c.requires c.bucket.ensures c.bucket-2.ensures (omega (arith, length_words c.args.s.now, c.well_formed)) in
+    let at_span = seen at_buckets c.get-low.ensures.is c.get-high.ensures.is in
+    let at_between = passed at_span c.max.ensures c.replace_between.ensures in
     replaced at_between c.get-first.ensures.is c.get-end.ensures.is
     c.min.ensures c.max-2.ensures c.put.ensures c.put-2.ensures
