@@ -8,3 +8,4 @@ pub mod Resolving
 pub mod Fronts
 pub mod Fronting
 pub mod Canonicalizing
+pub mod Walking

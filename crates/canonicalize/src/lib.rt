@@ -13,15 +13,15 @@ ghost use Rattle.rules.specs.Canonicalize.{replacement_of};
 ghost use Rattle.bodies.specs.Terms.{sig};
 ghost use Rattle.bodies.specs.Standing.{atoms_in, AtomsAt};
 ghost use Rattle.canonicalize.specs.Canonicalize.{asked_of, ask_at, place_after, StepAsks, Stepped, ReplaceAsks, Replaced};
-ghost use Rattle.canonicalize.specs.Canonicalize.{resolve_terms, resolve_at, ResolveOneAsks, others_in, ResolveAsks, Resolved};
-ghost use Rattle.canonicalize.specs.Canonicalize.{FrontOneAsks, FrontOne, FrontAsks, Leads, Fronted, CanonicalizeAsks, CanonicalAt};
+ghost use Rattle.canonicalize.specs.Canonicalize.{resolve_terms, resolve_at, ResolveOneAsks, is_eq, Runs, ResolveAsks, Resolved};
+ghost use Rattle.canonicalize.specs.Canonicalize.{FrontOneAsks, FrontOne, FrontAsks, Fronted, CanonicalizeAsks, CanonicalAt};
 
 pub mod spans; // spans.rt: where in a body a term may stand
 
 use bodies::terms::{Sign, same_term};
 use spans::Table;
 use words::{
-    HEAD_BASE, HeadOrEq, LET, LIMIT_16, Term, UNIT, good_atom_at, good_term_of, past_equality,
+    Atom, HEAD_BASE, HeadOrEq, LET, LIMIT_16, Term, UNIT, good_atom_at, good_term_of, past_equality,
 };
 
 // One term, which another replaces throughout a body.
@@ -111,18 +111,25 @@ fn resolve_one(s: &mut [u8], p: usize, to: usize, q: Sign) -> usize
     resolve_terms(s, to, a, b, q)
 }
 
-// How many of the n words at `from` stand in front of the first equality.
-fn others(s: &[u8], from: usize, n: usize) -> usize
-    requires { AtomsAt (atoms_in (words s.now) from n) (words s.now) from n }
-    ensures { result ≡ others_in (words s.now) from n }
+// Whether an atom is an equality.
+fn is_equality(atom: Atom) -> bool
+    ensures { result ≡ is_eq atom.head }
+{
+    matches!(atom.head, HeadOrEq::Eq)
+}
+
+// How many of the n words at `at` are those of equalities in front of all other atoms, or of other atoms in front of all equalities.
+fn run(s: &[u8], at: usize, n: usize, equalities: bool) -> usize
+    requires { AtomsAt (atoms_in (words s.now) at n) (words s.now) at n }
+    ensures { Runs equalities (words s.now) at n result }
 {
     let mut i = 0;
     while i < n {
-        let atom = good_atom_at(s, from + i);
-        let HeadOrEq::Head(_) = atom.head else {
+        let atom = good_atom_at(s, at + i);
+        if is_equality(atom) != equalities {
             return i;
-        };
-        i = atom.next - from;
+        }
+        i = atom.next - at;
     }
     i
 }
@@ -136,7 +143,7 @@ fn resolve(s: &mut [u8], from: usize, n: usize, to: usize, q: Sign) -> usize
     let mut i = 0;
     let mut k = 0;
     while i < n {
-        let r = others(s, from + i, n - i);
+        let r = run(s, from + i, n - i, false);
         octets::regions::carry(s, to + k, from + i, r);
         i += r;
         k += r;
@@ -200,22 +207,6 @@ fn canonicalize_front(
     t
 }
 
-// How many of the n words at `at` are equalities in front of all other atoms.
-fn leading(s: &[u8], at: usize, n: usize) -> usize
-    requires { AtomsAt (atoms_in (words s.now) at n) (words s.now) at n }
-    ensures { Leads (words s.now) at n result }
-{
-    let mut i = 0;
-    while i < n {
-        let atom = good_atom_at(s, at + i);
-        let HeadOrEq::Eq = atom.head else {
-            return i;
-        };
-        i = past_equality(at + i) - at;
-    }
-    i
-}
-
 // Canonicalizes the atoms in the n words at `at`, with a table of spans in the 2 n words behind them. Those that it leaves are written at `to`,
 // the bindings before d.
 pub fn canonicalize(s: &mut [u8], at: usize, n: usize, to: usize, d: usize, q: Sign) -> Canonical
@@ -223,7 +214,7 @@ pub fn canonicalize(s: &mut [u8], at: usize, n: usize, to: usize, d: usize, q: S
     ensures { CanonicalAt (sig q) (atoms_in (words s.old) at n) (words s.old) (words s.new) at to d result }
 {
     let spans = Table::build(s, at, n, at + n);
-    let e = leading(s, at, n);
+    let e = run(s, at, n, true);
     let t = canonicalize_front(s, at, e, n - e, to, d, spans, q);
     let binds = replace_all(s, at + e, n - e, t.binds, spans, q);
     let words = t.words + resolve(s, at + e, n - e, to + t.words, q);

@@ -20,8 +20,8 @@ run_carried c w size carried = resolving_run c w (run_next c w size) carried
 pub loop-i-init : goal.loop-i-init
 loop-i-init c = (refl, resolving_start c.requires)
 
-pub others-r-requires : goal.others-r-requires
-others-r-requires c = others_here c.requires c.loop-i.invariant.1
+pub run-r-requires : goal.run-r-requires
+run-r-requires c = others_here c.requires c.loop-i.invariant.1
 
 pub overflow_add-to : goal.overflow_add-to
 overflow_add-to c =
@@ -30,50 +30,50 @@ overflow_add-to c =
 
 pub carry-requires : goal.carry-requires
 carry-requires c =
-    let run = run_next c.requires c.loop-i.invariant.1 c.others-r.ensures in
+    let run = run_next c.requires c.loop-i.invariant.1 c.run-r.ensures in
     record { n_in_bounds = (run.room, run.stands.within); clear = beyond run.clear }
 
 -- ---- behind the run
 
 pub overflow_add-i : goal.overflow_add-i
 overflow_add-i c =
-    let ran = run_carried c.requires c.loop-i.invariant.1 c.others-r.ensures c.carry.ensures in
+    let ran = run_carried c.requires c.loop-i.invariant.1 c.run-r.ensures c.carry.ensures in
     let b = bounds c.requires ran.here (omega (arith, length_words, c.well_formed)) in
     omega (arith, b)
 
 pub overflow_add-k : goal.overflow_add-k
 overflow_add-k c =
-    let ran = run_carried c.requires c.loop-i.invariant.1 c.others-r.ensures c.carry.ensures in
+    let ran = run_carried c.requires c.loop-i.invariant.1 c.run-r.ensures c.carry.ensures in
     let b = bounds c.requires ran.here (omega (arith, length_words, c.well_formed)) in
     omega (arith, b)
 
 pub returns-then-i-n : goal.returns-then-i-n
 returns-then-i-n c =
-    let ran = run_carried c.requires c.loop-i.invariant.1 c.others-r.ensures c.carry.ensures in
+    let ran = run_carried c.requires c.loop-i.invariant.1 c.run-r.ensures c.carry.ensures in
     resolving_end ran.here (omega arith)
 
 -- ---- an equality is next
 
 pub overflow_add-from-in-loop-i-2 : goal.overflow_add-from-in-loop-i-2
 overflow_add-from-in-loop-i-2 c =
-    let ran = run_carried c.requires c.loop-i.invariant.1 c.others-r.ensures c.carry.ensures in
+    let ran = run_carried c.requires c.loop-i.invariant.1 c.run-r.ensures c.carry.ensures in
     let b = bounds c.requires ran.here (omega (arith, length_words, c.well_formed)) in
     omega (arith, b)
 
 pub overflow_add-to-in-loop-i : goal.overflow_add-to-in-loop-i
 overflow_add-to-in-loop-i c =
-    let ran = run_carried c.requires c.loop-i.invariant.1 c.others-r.ensures c.carry.ensures in
+    let ran = run_carried c.requires c.loop-i.invariant.1 c.run-r.ensures c.carry.ensures in
     let b = bounds c.requires ran.here (omega (arith, length_words, c.well_formed)) in
     omega (arith, b)
 
 pub resolve_one-k-requires : goal.resolve_one-k-requires
 resolve_one-k-requires c =
-    let ran = run_carried c.requires c.loop-i.invariant.1 c.others-r.ensures c.carry.ensures in
+    let ran = run_carried c.requires c.loop-i.invariant.1 c.run-r.ensures c.carry.ensures in
     resolve_one_asks c.requires ran (omega (arith, ran.here.inside, c.if-i-n.false))
 
 pub overflow_add-k-in-loop-i : goal.overflow_add-k-in-loop-i
 overflow_add-k-in-loop-i c =
-    let ran = run_carried c.requires c.loop-i.invariant.1 c.others-r.ensures c.carry.ensures in
+    let ran = run_carried c.requires c.loop-i.invariant.1 c.run-r.ensures c.carry.ensures in
     let one = c.resolve_one-k.ensures in
     let next = resolving_next c.requires ran (omega (arith, ran.here.inside, c.if-i-n.false)) c.args.q.known_equals one.0 one.1 refl in
     let b = bounds c.requires next (omega (arith, length_words, c.well_formed)) in
@@ -81,18 +81,18 @@ overflow_add-k-in-loop-i c =
 
 pub overflow_add-from-in-loop-i-3 : goal.overflow_add-from-in-loop-i-3
 overflow_add-from-in-loop-i-3 c =
-    let ran = run_carried c.requires c.loop-i.invariant.1 c.others-r.ensures c.carry.ensures in
+    let ran = run_carried c.requires c.loop-i.invariant.1 c.run-r.ensures c.carry.ensures in
     let b = bounds c.requires ran.here (omega (arith, length_words, c.well_formed)) in
     omega (arith, b)
 
 pub past_equality-requires : goal.past_equality-requires
 past_equality-requires c =
-    let ran = run_carried c.requires c.loop-i.invariant.1 c.others-r.ensures c.carry.ensures in
+    let ran = run_carried c.requires c.loop-i.invariant.1 c.run-r.ensures c.carry.ensures in
     omega (arith, ran.here.inside, c.requires.atoms.within, length_words, c.well_formed)
 
 pub loop-i-preserved : goal.loop-i-preserved
 loop-i-preserved c =
-    let ran = run_carried c.requires c.loop-i.invariant.1 c.others-r.ensures c.carry.ensures in
+    let ran = run_carried c.requires c.loop-i.invariant.1 c.run-r.ensures c.carry.ensures in
     let one = c.resolve_one-k.ensures in
     let next = resolving_next c.requires ran (omega (arith, ran.here.inside, c.if-i-n.false)) c.args.q.known_equals one.0 one.1 in
     (c.resolve_one-k.auto.s ∙ c.carry.auto.buf ∙ c.loop-i.invariant.0, next (omega (arith, c.past_equality.ensures)))

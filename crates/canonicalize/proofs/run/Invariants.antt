@@ -1,10 +1,10 @@
 use Prim.Native.Nat.{◌-◌}
 use Rattle.octets.specs.Words.{words}
-use Rattle.canonicalize.proofs.Canonicalizing.{Leading}
-use Rattle.canonicalize.proofs.leading.Given as goal
+use Rattle.canonicalize.proofs.Walking.{Walking}
+use Rattle.canonicalize.proofs.run.Given as goal
 
 abbrev pub invariant-loop-i : goal.invariant-loop-i
-invariant-loop-i l = Leading (words l.s) l.at l.n l.i
+invariant-loop-i l = Walking l.equalities (words l.s) l.at l.n l.i
 
 abbrev pub decreases-loop-i : goal.decreases-loop-i
 decreases-loop-i l = l.n - l.i
