@@ -7,7 +7,7 @@ use lib.ListN.{length, get_or}
 use Rattle.rules.specs.Words.{limit12, literal_base, head_base, head_of, count_of}
 use Rattle.rules.specs.Signature.{Sig, heads}
 use Rattle.rules.specs.Written.{read_expr}
-use Rattle.walks.specs.Steps.{Room, Counted, ExprAt, ExprsAt}
+use Rattle.walks.specs.Steps.{tops, tops_at, Room, Counted, ExprAt, ExprsAt}
 use Rattle.walks.specs.declared.Walk.{Walk}
 use Rattle.walks.proofs.Steps.{Went}
 use Rattle.walks.proofs.Read.{moved, expr_some, call_cases, first_cases}
@@ -22,7 +22,7 @@ pub first_at_lem : (sig : Sig) (ws : List ℕ) (d n at : ℕ) → ExprsAt sig ws
 first_at_lem sig ws d n at x h = first_cases sig ws (λ es k. ExprAt sig ws d at) d n at x h (λ f fs. f)
 
 -- one word is read, and at most one use logged
-pub room_in : {n at to sp lg len : ℕ} (t len1 : ℕ) → Room n at to sp lg len → t ≤ 1 → len1 ≡ len → Room n (at + 1) to sp (lg + t) len1
+pub room_in : {n at to sp lg len : ℕ} (t len1 : ℕ) → Room n at (tops to sp lg) len → t ≤ 1 → len1 ≡ len → Room n (at + 1) (tops to sp (lg + t)) len1
 room_in t len1 r h e = record { words = omega (arith, r.words); stack = omega (arith, r.stack); log = omega (arith, r.log) }
 
 -- where the word at a place is a call's
@@ -48,10 +48,10 @@ call_facts sig ws d at cs w x c e low =
 -- an expression stands where a walk has come to, with room for it
 pub record There (sig : Sig) (ws : List ℕ) (d sp len : ℕ) (l : Walk) : Type 0 where
   pub expr : ExprAt sig ws d l.next
-  pub room : Room (length ws) l.next l.to sp l.log len
+  pub room : Room (length ws) l.next (tops_at l sp) len
 
 -- the right one of two expressions behind a word at `at`, where the left one is done
-pub right_there : (sig : Sig) (ws : List ℕ) (d : ℕ) {at to sp lg len : ℕ} {l : Walk} (len1 k : ℕ) → Room (length ws) at to sp lg len → len1 ≡ len
+pub right_there : (sig : Sig) (ws : List ℕ) (d : ℕ) {at to sp lg len : ℕ} {l : Walk} (len1 k : ℕ) → Room (length ws) at (tops to sp lg) len → len1 ≡ len
     → Went 1 k (at + 1) to lg l → ExprAt sig ws d (at + 1 + k) → There sig ws d sp len1 l
 right_there sig ws d {at} {l = l} len1 k r e g b =
     let n = g.next in

@@ -87,8 +87,8 @@ passed_start {most} {ws} {at} {n} inside =
 
 module _ {most : ℕ} {ws : List ℕ} {at n k : ℕ} (p : Passed most ws at n k) where
   -- no word is left
-  pub passed_end : n ≤ k → k ≡ leaves_up_to most (part ws at n)
-  passed_end h =
+  pub passed_end : n ≤ k → k ≤ n → n ≡ leaves_up_to most (part ws at n)
+  passed_end h all =
       let z : n - k ≡ 0 = omega arith in
       let left : leaves_up_to most (part ws (at + k) (n - k)) ≡ 0 = ap (λ (j : ℕ). leaves_up_to most (part ws (at + k) j)) z ∙ none most in
       omega (arith, p.count)

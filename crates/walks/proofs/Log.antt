@@ -6,11 +6,12 @@ use native.Mathlib.Numerals.{add-one}
 use native.Mathlib.Omega.{arith}
 use lib.ListN.{length, get_or, set}
 use lib.Seq.{set-set, set-get_or, set_out}
-use borrow.Author.Tests.{lt-ltb, le-ltb}
+use borrow.Author.Tests.{lt-ltb}
 use Rattle.octets.specs.Regions.{part}
 use Rattle.octets.proofs.Splice.{part_more}
 use Rattle.rules.specs.Words.{limit12, limit16, fresh_word}
 use Rattle.rules.specs.ToQuery.{count, fresh}
+use Rattle.std.specs.Prelude.{Ok}
 use Rattle.walks.specs.Log.{used_head, used_count, undone, total, Taken}
 
 pub undone_append : (xs ys cs : List ℕ) → undone (xs ++ ys) cs ≡ undone xs (undone ys cs)
@@ -56,14 +57,9 @@ module _ {cs : List ℕ} {h c : ℕ} (k : Counter cs h c) (lg : ℕ) (s : List �
   counts : c ≡ count cs h
   counts = k.is ∙ sym (count_in_lem cs h k.inside)
 
-  -- it is used up
-  pub full : limit16 ≤ c → (p : ℕ) → Taken (fresh p h cs) p lg s cs s cs 0
-  full high p =
-      let big : limit16 ≤ count cs h = omega (arith, counts) in
-      rw (le-ltb (count cs h) limit16 big) (record { nine = refl; here = refl; none = refl; counters = refl; scratch = refl })
-
-  -- it is not: it grows, and the variable is logged
-  pub took : c < limit16 → {s1 cs1 : List ℕ} → cs1 ≡ set cs h (c + 1) → s1 ≡ set s lg (fresh_word h c) → (p : ℕ) → Taken (fresh p h cs) p lg s cs s1 cs1 (fresh_word h c)
+  -- where it is not used up it grows, and the variable is logged
+  pub took : c < limit16 → {s1 cs1 : List ℕ} → cs1 ≡ set cs h (c + 1) → s1 ≡ set s lg (fresh_word h c) → (p : ℕ)
+      → Taken (fresh p h cs) lg s cs s1 cs1 (Ok (fresh_word h c))
   took low {s1} {cs1} grown logged p =
       let small : count cs h < limit16 = omega (arith, counts) in
       rw (lt-ltb (count cs h) limit16 small)

@@ -1,9 +1,12 @@
 -- 01, "Turned back": a refusal leaves the counters as they were. Each use of a counter is logged by the fresh variable's own word, which
 -- says the head and what its counter was. Assumes nothing: these are definitions.
-use Rattle.std.specs.Prelude.{◌≡◌, List, [], ◌∷◌, ℕ, ◌+◌, ◌/◌, ◌%◌, ◌≤◌, set}
+use Rattle.std.specs.Prelude.{◌≡◌, List, [], ◌∷◌, ℕ, ◌+◌, ◌/◌, ◌%◌, ◌≤◌, set, Result}
+use Rattle.std.specs.Prelude.{Ok, Err}
 use Rattle.rules.specs.Words.{limit16, fresh_base}
 use Rattle.rules.specs.Refusals.{Res, ok, refuse, used_up}
 use Rattle.rules.specs.ToQuery.{Fresh}
+use Rattle.refusals.specs.Numbers.{number_of}
+use Rattle.walks.specs.declared.Stopped.{Stopped}
 
 -- the head and the count of a fresh variable
 abbrev pub used_head : ℕ → ℕ
@@ -31,14 +34,21 @@ pub record Took (f : Fresh) (lg : ℕ) (s cs s' cs' : List ℕ) (r : ℕ) : Type
   pub logged : s' ≡ set s lg r
   pub undo : set cs' (used_head r) (used_count r) ≡ cs
 
--- the counter is used up: nothing changed, and the answer is 0
-pub record Full (number place p : ℕ) (s cs s' cs' : List ℕ) (r : ℕ) : Type 0 where
-  pub nine : number ≡ used_up
-  pub here : place ≡ p
-  pub none : r ≡ 0
+-- a refusal with this number at this place
+pub record Refuses (n p : ℕ) (e : Stopped) : Type 0 where
+  pub number : number_of e.refusal.reason ≡ n
+  pub place : e.refusal.place ≡ p
+
+-- the counter is used up: nothing changed, and that is the refusal
+pub record Full (n p lg : ℕ) (s cs s' cs' : List ℕ) (e : Stopped) : Type 0 where
+  pub nine : n ≡ used_up
+  pub refuses : Refuses n p e
+  pub log : e.log ≡ lg
   pub counters : cs' ≡ cs
   pub scratch : s' ≡ s
 
-abbrev pub Taken : Res Fresh → ℕ → ℕ → List ℕ → List ℕ → List ℕ → List ℕ → ℕ → Type 0
-Taken (ok f) p lg s cs s' cs' r = Took f lg s cs s' cs' r
-Taken (refuse n q) p lg s cs s' cs' r = Full n q p s cs s' cs' r
+abbrev pub Taken : Res Fresh → ℕ → List ℕ → List ℕ → List ℕ → List ℕ → Result ℕ Stopped → Type 0
+Taken (ok f) lg s cs s' cs' (Ok v) = Took f lg s cs s' cs' v
+Taken (ok f) lg s cs s' cs' (Err e) = ⊥
+Taken (refuse n q) lg s cs s' cs' (Ok v) = ⊥
+Taken (refuse n q) lg s cs s' cs' (Err e) = Full n q lg s cs s' cs' e

@@ -1,14 +1,17 @@
 -- What a walk over a written rule asks, and what it leaves of the scratch, the counters and its answer. The scratch has three regions that
 -- grow: words written from `to` on, which stay below te; the stack from sp on, below se; the log from lg on, up to le.
 -- Assumes nothing: these are definitions.
-use Rattle.std.specs.Prelude.{◌≡◌, List, [], ◌∷◌, ◌++◌, ℕ, ◌+◌, ◌*◌, ◌<◌, ◌≤◌, length, get_or}
+use Rattle.std.specs.Prelude.{◌≡◌, List, [], ◌∷◌, ◌++◌, ℕ, ◌+◌, ◌*◌, ◌<◌, ◌≤◌, length, get_or, Result}
+use Rattle.std.specs.Prelude.{Ok, Err}
 use Rattle.octets.specs.Regions.{part}
 use Rattle.rules.specs.Words.{limit12, head_base, head_of}
 use Rattle.rules.specs.Refusals.{Res, ok, refuse, ◌>>=◌}
 use Rattle.rules.specs.Signature.{Sig, heads}
 use Rattle.rules.specs.Written.{Reader, read_expr, read_many}
-use Rattle.walks.specs.Log.{undone, total}
+use Rattle.walks.specs.Log.{undone, total, Refuses}
 use Rattle.walks.specs.declared.Walk.{Walk}
+use Rattle.walks.specs.declared.Stopped.{Stopped}
+use Rattle.walks.specs.declared.Tops.{Tops}
 
 -- ---- what a walk makes
 
@@ -50,38 +53,42 @@ pub record Kept (to te sp se lg le : ℕ) (s cs s' cs' : List ℕ) (log : ℕ) :
 
 -- a piece was made of k words, which end at nx: its words stand from t on, and with its m terms they are at most four for each word read
 pub record PieceStands (m : ℕ) (p : Piece) (k nx t : ℕ) (s' cs' : List ℕ) (r : Walk) : Type 0 where
-  pub fine : r.refused ≡ 0
   pub next : r.next ≡ nx
   pub to : r.to ≡ t + length p.words
   pub counters : cs' ≡ p.next
   pub written : part s' t (length p.words) ≡ p.words
   pub fits : length p.words + m ≤ 4 * k
 
--- the answer of a walk that is not refused
+-- the answer of a walk that has come to these places
 abbrev pub reached_at : (next to log term : ℕ) → Walk
-reached_at p t l v = record { next = p; to = t; log = l; term = v; refused = 0 }
+reached_at p t l v = record { next = p; to = t; log = l; term = v }
 
 -- an answer without its term
 abbrev pub untold : Walk → Walk
-untold a = record { next = a.next; to = a.to; log = a.log; term = 0; refused = a.refused }
+untold a = record { next = a.next; to = a.to; log = a.log; term = 0 }
 
--- the answer of a refusal: its number and place, and the end of the log, by which the counters are put back
-abbrev pub stopped_at : (place log number : ℕ) → Walk
-stopped_at p l n = record { next = p; to = 0; log = l; term = 0; refused = n }
+-- where a walk goes on, by its places, and behind the walk a, with the stack up to sp
+abbrev pub tops : (to sp log : ℕ) → Tops
+tops t p l = record { to = t; sp = p; log = l }
 
--- `Kept` says where the log ends
-pub record Stopped (n p : ℕ) (r : Walk) : Type 0 where
-  pub is : r ≡ stopped_at p r.log n
-  pub some : 0 < n
+abbrev pub tops_at : Walk → ℕ → Tops
+tops_at a sp = tops a.to sp a.log
 
--- where the terms of a piece are: T says it
-abbrev pub Ended : ℕ → (Piece → Type 0) → Res Piece → ℕ → ℕ → ℕ → List ℕ → List ℕ → Walk → Type 0
-Ended m T (ok p) k nx t s' cs' r = PieceStands m p k nx t s' cs' r × T p
-Ended m T (refuse n q) k nx t s' cs' r = Stopped n q r
+-- where the log ends, of either answer
+abbrev pub log_of : Result Walk Stopped → ℕ
+log_of (Ok a) = a.log
+log_of (Err e) = e.log
+
+-- where the terms of a piece are: T says it of an answer. A refusal has the number and the place of that of the definitions
+abbrev pub Ended : ℕ → (Walk → Piece → Type 0) → Res Piece → ℕ → ℕ → ℕ → List ℕ → List ℕ → Result Walk Stopped → Type 0
+Ended m T (ok p) k nx t s' cs' (Ok a) = PieceStands m p k nx t s' cs' a × T a p
+Ended m T (ok p) k nx t s' cs' (Err e) = ⊥
+Ended m T (refuse n q) k nx t s' cs' (Ok a) = ⊥
+Ended m T (refuse n q) k nx t s' cs' (Err e) = Refuses n q e
 
 -- the k words from `at` on were walked with this result
-pub record Walked (m : ℕ) (T : Piece → Type 0) (x : Res Piece) (k at to sp lg : ℕ) (s cs s' cs' : List ℕ) (r : Walk) : Type 0 where
-  pub kept : Kept to (to + 4 * k) sp (sp + k) lg (lg + k) s cs s' cs' r.log
+pub record Walked (m : ℕ) (T : Walk → Piece → Type 0) (x : Res Piece) (k at to sp lg : ℕ) (s cs s' cs' : List ℕ) (r : Result Walk Stopped) : Type 0 where
+  pub kept : Kept to (to + 4 * k) sp (sp + k) lg (lg + k) s cs s' cs' (log_of r)
   pub ended : Ended m T x k (at + k) to s' cs' r
 
 -- the term is in the answer. Each call has used one counter and given one atom or action
@@ -108,8 +115,7 @@ NoTerms r p = (p.terms ≡ []) × (r.term ≡ 0)
 pub record Termed (front at to size n sp lg : ℕ) (x : Res Piece) (s cs s1 cs1 : List ℕ) (a : Walk) : Type 0 where
   pub behind : ℕ
   pub whole : size ≡ front + behind
-  pub walk : Walked n (OnStack sp n lg s1 a) x behind (at + front) to sp lg s cs s1 cs1 a
-  pub fine : a.refused ≡ 0
+  pub walk : Walked n (OnStack sp n lg s1) x behind (at + front) to sp lg s cs s1 cs1 (Ok a)
   pub many : n ≤ behind
   pub words : to + 4 * size ≤ sp
   pub stack : sp + size ≤ lg
@@ -117,11 +123,11 @@ pub record Termed (front at to size n sp lg : ℕ) (x : Res Piece) (s cs s1 cs1 
 
 -- ---- what it asks
 
--- room for what the words from `at` on can need: four words written, one on the stack and one in the log for each
-pub record Room (n at to sp lg len : ℕ) : Type 0 where
-  pub words : to + 4 * n ≤ sp + 4 * at
-  pub stack : sp + n ≤ lg + at
-  pub log : lg + n ≤ len + at
+-- room for what the words from `at` on can need, up to `n`: four words written, one on the stack and one in the log for each
+pub record Room (n at : ℕ) (t : Tops) (len : ℕ) : Type 0 where
+  pub words : t.to + 4 * n ≤ t.sp + 4 * at
+  pub stack : t.sp + n ≤ t.log + at
+  pub log : t.log + n ≤ len + at
 
 -- a signature under which something is so
 pub record Under (P : Sig → Type 0) : Type 0 where
@@ -132,6 +138,11 @@ pub record Under (P : Sig → Type 0) : Type 0 where
 pub record Counted (sig : Sig) (cs : List ℕ) : Type 0 where
   pub few : heads sig ≤ limit12
   pub fits : heads sig ≤ length cs
+
+-- what a walk of the words from `at` on asks: a signature under which P is so, with a counter for each of its heads, and room
+pub record Asks (P : Sig → Type 0) (ws : List ℕ) (at : ℕ) (t : Tops) (s cs : List ℕ) : Type 0 where
+  pub under : Under (λ sig. P sig × Counted sig cs)
+  pub room : Room (length ws) at t (length s)
 
 -- behind the walk a, whose n terms are on the stack, the kind 3 word w has a counter and room: for one use in the log, and for `own` words before the stack
 pub record UseFits (own w n sp : ℕ) (a : Walk) (s cs : List ℕ) : Type 0 where

@@ -9,79 +9,70 @@ ghost use Rattle.rules.specs.Words.{limit12};
 ghost use Rattle.rules.specs.ToQuery.{fresh};
 ghost use Rattle.walks.specs.Log.{Taken, undone};
 ghost use Rattle.walks.specs.Leaves.{leaves_up_to};
-ghost use Rattle.walks.specs.Steps.{reached_at, stopped_at, untold};
+ghost use Rattle.walks.specs.Steps.{tops_at};
 
-// The refusals that a walk can meet.
-pub const UNBOUND: u32 = 7;
+use refusals::{Reason, Refusal};
 
-pub const ALREADY_DEFINED: u32 = 8;
+// Where a walk goes on: the places of the next word written, the next term on the stack and the next use of a counter. They lie in one scratch,
+// which stays a parameter beside them, as the counters do: a struct that held both would need a clause for each in every contract.
+#[derive(Clone, Copy)]
+pub struct Tops {
+    pub to: usize,
+    pub sp: usize,
+    pub log: usize,
+}
 
-pub const USED_UP: u32 = 9;
-
-// The answer of a walk. Where `refused` is 0: the places behind what was read, behind what was written and behind what was logged, and the
-// term. Else `refused` is the refusal's number, `next` its place and `log` the end of the log, by which the counters are put back; the others are 0.
+// The answer of a walk: the places behind what was read, behind what was written and behind what was logged, and the term, or 0 where there is none.
 #[derive(Clone, Copy)]
 pub struct Walk {
     pub next: usize,
     pub to: usize,
     pub log: usize,
     pub term: u32,
-    pub refused: u32,
 }
 
-// The answer of a walk that has come to these places; the term stands for what it read.
-pub fn reached(next: usize, to: usize, log: usize, term: u32) -> Walk
-    ensures { result ≡ reached_at next to log term }
-{
-    Walk {
-        next,
-        to,
-        log,
-        term,
-        refused: 0,
+// A walk that is refused, and the end of the log, by which the counters are put back.
+#[derive(Clone, Copy)]
+pub struct Stopped {
+    pub refusal: Refusal,
+    pub log: usize,
+}
+
+impl Walk {
+    // Where a walk behind this one goes on, with the stack up to sp.
+    pub fn tops(self, sp: usize) -> Tops
+        ensures { result ≡ tops_at self sp }
+    {
+        Tops {
+            to: self.to,
+            sp,
+            log: self.log,
+        }
     }
 }
 
-// The answer of a walk that is refused with this number at this place.
-pub fn stopped(place: usize, log: usize, number: u32) -> Walk
-    ensures { result ≡ stopped_at place log number }
-{
-    Walk {
-        next: place,
-        to: 0,
-        log,
-        term: 0,
-        refused: number,
-    }
-}
-
-// The same answer without its term, where none was asked for.
-pub fn without_term(walk: Walk) -> Walk
-    ensures { result ≡ untold walk }
-{
-    Walk {
-        next: walk.next,
-        to: walk.to,
-        log: walk.log,
-        term: 0,
-        refused: walk.refused,
-    }
-}
-
-// The next fresh variable of the head h, logged at `log`; 0 where its counter is used up.
-pub fn take(counters: &mut [u8], scratch: &mut [u8], log: usize, h: u32) -> u32
+// The next fresh variable of the head h, logged at `log`. Where its counter is used up, it is refused at `place`.
+pub fn take(
+    counters: &mut [u8],
+    scratch: &mut [u8],
+    log: usize,
+    h: u32,
+    place: usize,
+) -> Result<u32, Stopped>
     requires { (h < limit12) × (h < length (words counters.old)) × (log < length (words scratch.old)) }
-    ensures { (p : ℕ) → Taken (fresh p h (words counters.old)) p log
-        (words scratch.old) (words counters.old) (words scratch.new) (words counters.new) result }
+    ensures { Taken (fresh place h (words counters.old)) log (words scratch.old) (words counters.old) (words scratch.new) (words counters.new) result }
 {
     let c = octets::get(counters, h as usize);
     if words::LIMIT_16 <= c {
-        return 0;
+        return Err(Stopped {
+            refusal: Reason::UsedUp.at(place),
+            log,
+        });
     }
     let v = words::FRESH_BASE + h * words::LIMIT_16 + c;
     octets::put(counters, h as usize, c + 1);
     octets::put(scratch, log, v);
-    v
+    Ok(v)
 }
 
 // Takes back the n uses that are logged from `from` on. The last one goes first, since a head may have been used more than once.
@@ -89,9 +80,7 @@ pub fn restore(counters: &mut [u8], scratch: &[u8], from: usize, n: usize)
     requires { from + n ≤ length (words scratch.now) }
     ensures { words counters.new ≡ undone (part (words scratch.now) from n) (words counters.old) }
 {
-    let mut k = n;
-    while 0 < k {
-        k -= 1;
+    for k in (0..n).rev() {
         let v = octets::get(scratch, from + k);
         let h = (v / words::LIMIT_16 % 32768) as usize;
         if h < octets::count(counters) {
@@ -106,8 +95,7 @@ pub fn leaves(rule: &[u8], at: usize, n: usize, most: u32, scratch: &mut [u8], t
     ensures { (result ≡ leaves_up_to most (part (words rule.now) at n))
         × (words scratch.new ≡ splice (words scratch.old) to (part (words rule.now) at result)) }
 {
-    let mut k = 0;
-    while k < n {
+    for k in 0..n {
         let w = octets::get(rule, at + k);
         if w < words::LITERAL_BASE {
             return k;
@@ -116,7 +104,6 @@ pub fn leaves(rule: &[u8], at: usize, n: usize, most: u32, scratch: &mut [u8], t
             return k;
         }
         octets::put(scratch, to + k, w);
-        k += 1;
     }
-    k
+    n
 }

@@ -7,7 +7,7 @@ use lib.ListN.{length}
 use Rattle.octets.specs.Words.{words}
 use Rattle.octets.proofs.Words.{length_words}
 use Rattle.octets.proofs.Splice.{part_more}
-use Rattle.octets.proofs.Filling.{filled_start, filled_next, filled_count}
+use Rattle.octets.proofs.Filling.{filled_start, filled_next, filled_count, filled_end}
 use Rattle.walks.proofs.LeavesUpTo.{passed_start, passed_next, passed_below, passed_above, passed_end}
 use Rattle.walks.proofs.leaves.Goals as goal
 
@@ -47,4 +47,7 @@ loop-k-preserved c =
     )
 
 pub returns : goal.returns
-returns c = let l = c.loop-k in (passed_end l.invariant.1 c.loop-k-test.false, l.invariant.0.made)
+returns c =
+    let l = c.loop-k in
+    let done = c.loop-k-test.false in
+    (passed_end l.invariant.1 done l.auto.k-end, filled_end l.invariant.0 done)

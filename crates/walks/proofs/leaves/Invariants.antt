@@ -1,4 +1,4 @@
-use Prim.Native.Nat.{ℕ, ◌-◌}
+use Prim.Native.Nat.{ℕ}
 use Rattle.octets.specs.Regions.{part}
 use Rattle.octets.specs.Words.{words}
 use Rattle.octets.proofs.Filling.{Filled}
@@ -7,6 +7,3 @@ use Rattle.walks.proofs.leaves.Given as goal
 
 abbrev pub invariant-loop-k : goal.invariant-loop-k
 invariant-loop-k l = Filled (λ (i : ℕ). part (words l.rule) l.at i) l.initial.scratch l.scratch l.to l.n l.k × Passed l.most (words l.rule) l.at l.n l.k
-
-abbrev pub decreases-loop-k : goal.decreases-loop-k
-decreases-loop-k l = l.n - l.k
