@@ -5,21 +5,23 @@ use mathlib.Core.List.{List, [], ◌∷◌, ◌++◌}
 use Prim.Native.Nat.{ℕ, zero, suc, ◌+◌, ◌-◌, ◌*◌, ◌≤◌, ◌<◌}
 use native.Mathlib.Omega.{arith}
 use lib.ListN.{length, get_or, set}
+use Rattle.std.specs.Prelude.{Result, Ok}
 use Rattle.octets.specs.Regions.{splice, part}
 use Rattle.octets.proofs.Splice.{length_part, splice_nil, splice_itself, splice_one, splice_put, splice_carry}
 use Rattle.rules.specs.Words.{limit12, literal_base}
 use Rattle.rules.specs.Refusals.{Res, ok}
 use Rattle.rules.specs.Signature.{Sig, heads}
 use Rattle.rules.specs.Written.{Exprs, leaf, ◌then◌}
-use Rattle.walks.specs.Steps.{Piece, Kept, Walked, OnStack, ExprsAt}
+use Rattle.walks.specs.Steps.{Piece, Kept, reached_at, Walked, OnStack, Room, ExprsAt}
 use Rattle.walks.specs.Leaves.{leaves_up_to}
 use Rattle.walks.specs.declared.Walk.{Walk}
+use Rattle.walks.specs.declared.Stopped.{Stopped}
 use Rattle.walks.proofs.Frames.{kept_none, kept_then, kept_put, spliced}
 use Rattle.walks.proofs.Read.{exprs_many, leaf_cases, first_cases, none_cases, recount}
 use Rattle.walks.proofs.LeavesUpTo.{part_first, leaves_each}
 use Rattle.query.specs.Flattened.{flattened_all}
 use Rattle.query.proofs.Pieces.{flattened_leaf, flattened_row}
-use Rattle.query.proofs.Spots.{Spot, RoomAt}
+use Rattle.query.proofs.Spots.{Spot}
 
 -- ---- a row of names and literals: they are their own terms, and nothing is written
 
@@ -78,9 +80,9 @@ around l m k at head n out room size first last =
 -- room for its atom, which has two words more than it has arguments
 pub record AtomRoom (p : Spot) (n : ℕ) : Type 0 where
   pub inside : p.at + 1 + n ≤ length p.ws
-  pub words : p.to + n + 2 ≤ length p.s
+  pub words : p.tops.to + n + 2 ≤ length p.s
 
-pub atom_room : (p : Spot) (sig : Sig) (d n : ℕ) → ExprsAt sig p.ws d n (p.at + 1) → RoomAt p → AtomRoom p n
+pub atom_room : (p : Spot) (sig : Sig) (d n : ℕ) → ExprsAt sig p.ws d n (p.at + 1) → Room (length p.ws) p.at p.tops (length p.s) → AtomRoom p n
 atom_room p sig d n es room =
     let i = es.inside in
     let m = exprs_many sig p.ws d n (p.at + 1) es in
@@ -88,9 +90,9 @@ atom_room p sig d n es room =
 
 -- from p on n arguments stand. k of them are written one word behind p's `to`, which leaves s1, and all are yet to be walked
 pub record Behind (p : Spot) (n k : ℕ) (s1 : List ℕ) : Type 0 where
-  pub room : RoomAt p
+  pub room : Room (length p.ws) p.at p.tops (length p.s)
   pub most : k ≤ n
-  pub put : s1 ≡ splice p.s (p.to + 1) (part p.ws p.at k)
+  pub put : s1 ≡ splice p.s (p.tops.to + 1) (part p.ws p.at k)
 
 module _ {p : Spot} {n k : ℕ} {s1 : List ℕ} (b : Behind p n k s1) (sig : Sig) (d : ℕ) (es : ExprsAt sig p.ws d n p.at) where
   within : (p.at + n ≤ length p.ws) × (n ≤ es.size)
@@ -100,33 +102,33 @@ module _ {p : Spot} {n k : ℕ} {s1 : List ℕ} (b : Behind p n k s1) (sig : Sig
       (omega arith, m)
 
   abbrev Left-alone : List ℕ → Type 0
-  Left-alone x = Kept p.to (p.to + 4 * es.size) p.sp (p.sp + es.size) p.lg (p.lg + es.size) p.s p.cs x p.cs p.lg
+  Left-alone x = Kept p.tops.to (p.tops.to + 4 * es.size) p.tops.sp (p.tops.sp + es.size) p.tops.log (p.tops.log + es.size) p.s p.cs x p.cs p.tops.log
 
-  leaves_kept : (k : ℕ) → k ≤ n → s1 ≡ splice p.s (p.to + 1) (part p.ws p.at k) → Left-alone s1
+  leaves_kept : (k : ℕ) → k ≤ n → s1 ≡ splice p.s (p.tops.to + 1) (part p.ws p.at k) → Left-alone s1
   leaves_kept zero h e =
-      subst Left-alone (sym (e ∙ splice_nil p.s (p.to + 1)))
-      (kept_none p.to (p.to + 4 * es.size) p.sp (p.sp + es.size) p.lg (p.lg + es.size) p.s p.cs (omega arith))
+      subst Left-alone (sym (e ∙ splice_nil p.s (p.tops.to + 1)))
+      (kept_none p.tops.to (p.tops.to + 4 * es.size) p.tops.sp (p.tops.sp + es.size) p.tops.log (p.tops.log + es.size) p.s p.cs (omega arith))
   leaves_kept (suc j) h e =
       let r = b.room in
       let i = es.inside in
       let w = within in
       let l = length_part p.ws p.at (suc j) (omega (arith, w.0)) in
-      kept_put p.to (p.to + 4 * es.size) p.sp (p.sp + es.size) p.lg (p.lg + es.size) (p.to + 1) (part p.ws p.at (suc j)) p.s p.cs s1
+      kept_put p.tops.to (p.tops.to + 4 * es.size) p.tops.sp (p.tops.sp + es.size) p.tops.log (p.tops.log + es.size) (p.tops.to + 1) (part p.ws p.at (suc j)) p.s p.cs s1
       (omega arith) (omega (arith, w.1)) (omega (arith, r.words)) (omega arith) (omega (arith, r.stack, r.log)) (omega arith) e
 
   -- a walk of them writes over these words
-  pub walked_anew : {m : ℕ} {T : Piece → Type 0} {x : Res Piece} {s2 cs2 : List ℕ} {a : Walk}
-      → Walked m T x es.size p.at p.to p.sp p.lg s1 p.cs s2 cs2 a
-      → Walked m T x es.size p.at p.to p.sp p.lg p.s p.cs s2 cs2 a
+  pub walked_anew : {m : ℕ} {T : Walk → Piece → Type 0} {x : Res Piece} {s2 cs2 : List ℕ} {r : Result Walk Stopped}
+      → Walked m T x es.size p.at p.tops.to p.tops.sp p.tops.log s1 p.cs s2 cs2 r
+      → Walked m T x es.size p.at p.tops.to p.tops.sp p.tops.log p.s p.cs s2 cs2 r
   walked_anew w =
       let r = b.room in
       let i = es.inside in
       record { kept = kept_then (omega (arith, r.stack)) (leaves_kept k b.most b.put) w.kept; ended = w.ended }
 
   -- where these are all, they are walked: their terms stand there
-  pub leaves_walked : (bound : ℕ) → heads sig ≤ limit12 → p.to + 1 ≤ length p.s → k ≡ leaves_up_to bound (part p.ws p.at n) → k ≡ n
-      → let a : Walk = record { next = p.at + k; to = p.to; log = p.lg; term = 0; refused = 0 } in
-      Walked n (OnStack (p.to + 1) n p.lg s1 a) (flattened_all es.value p.cs) es.size p.at p.to p.sp p.lg p.s p.cs s1 p.cs a
+  pub leaves_walked : (bound : ℕ) → heads sig ≤ limit12 → p.tops.to + 1 ≤ length p.s → k ≡ leaves_up_to bound (part p.ws p.at n) → k ≡ n
+      → Walked n (OnStack (p.tops.to + 1) n p.tops.log s1) (flattened_all es.value p.cs) es.size p.at p.tops.to p.tops.sp p.tops.log p.s p.cs s1 p.cs
+      (Ok (reached_at (p.at + k) p.tops.to p.tops.log 0))
   leaves_walked bound few more run all =
       let i = es.inside in
       let w = within in
@@ -136,13 +138,13 @@ module _ {p : Spot} {n k : ℕ} {s1 : List ℕ} (b : Behind p n k s1) (sig : Sig
       let l = leaves_row sig p.ws few d n p.at es low in
       let z = length_part p.ws p.at n w.0 in
       let e = l.each in
-      let there : part s1 (p.to + 1) (length row) ≡ row =
-      spliced p.s s1 row (p.to + 1) more (b.put ∙ ap (λ (j : ℕ). splice p.s (p.to + 1) (part p.ws p.at j)) all) in
+      let there : part s1 (p.tops.to + 1) (length row) ≡ row =
+      spliced p.s s1 row (p.tops.to + 1) more (b.put ∙ ap (λ (j : ℕ). splice p.s (p.tops.to + 1) (part p.ws p.at j)) all) in
       rw (l.flat p.cs)
       (record {
         kept = leaves_kept k b.most b.put;
         ended = (
-          record { fine = refl; next = omega arith; to = omega arith; counters = refl; written = refl; fits = omega arith },
-          record { size = z; terms = ap (part s1 (p.to + 1)) (sym z) ∙ there; uses = omega arith },
+          record { next = omega arith; to = omega arith; counters = refl; written = refl; fits = omega arith },
+          record { size = z; terms = ap (part s1 (p.tops.to + 1)) (sym z) ∙ there; uses = omega arith },
         );
       })

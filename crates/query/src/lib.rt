@@ -9,10 +9,10 @@ ghost use Rattle.std.specs.Prelude.{◌≡◌, ◌∷◌, [], ◌++◌, ◌+◌,
 ghost use Rattle.octets.specs.Words.{words};
 ghost use Rattle.octets.specs.Regions.{splice, part};
 ghost use Rattle.rules.specs.Words.{literal_base};
-ghost use Rattle.walks.specs.Steps.{Room, Under, Counted, ExprAt, ExprsAt};
-ghost use Rattle.query.specs.Flattened.{FactAt, FactsAt, FlattensExpr, FlattensExprs, FlattensFact, FlattensFacts};
+ghost use Rattle.query.specs.Flattened.{AsksExpr, AsksExprs, AsksFact, AsksFacts};
+ghost use Rattle.query.specs.Flattened.{FlattensExpr, FlattensExprs, FlattensFact, FlattensFacts};
 
-use walks::Walk;
+use walks::{Stopped, Tops, Walk};
 use words::{EQUALITY, MAX_DEPTH};
 
 // Flattens the expression at `at`, which is at most `depth` deep. A name or a literal is its own term.
@@ -22,20 +22,21 @@ fn flatten(
     depth: u32,
     counters: &mut [u8],
     scratch: &mut [u8],
-    to: usize,
-    sp: usize,
-    log: usize,
-) -> Walk
-    requires under { Under (λ sig. ExprAt sig (words rule.now) depth at × Counted sig (words counters.old)) }
-    requires room { Room (length (words rule.now)) at to sp log (length (words scratch.old)) }
-    ensures { FlattensExpr (words rule.now) depth at to sp log (words scratch.old) (words counters.old)
-        (words scratch.new) (words counters.new) result }
+    tops: Tops,
+) -> Result<Walk, Stopped>
+    requires { AsksExpr (words rule.now) depth at tops (words scratch.old) (words counters.old) }
+    ensures { FlattensExpr (words rule.now) depth at tops (words scratch.old) (words counters.old) (words scratch.new) (words counters.new) result }
 {
     let w = octets::get(rule, at);
     if words::is_leaf(w) {
-        return walks::reached(at + 1, to, log, w);
+        return Ok(Walk {
+            next: at + 1,
+            to: tops.to,
+            log: tops.log,
+            term: w,
+        });
     }
-    flatten_call(rule, at, w, depth, counters, scratch, to, sp, log)
+    flatten_call(rule, at, w, depth, counters, scratch, tops)
 }
 
 // Makes an atom of the n words that stand behind the one at `at`: its head word goes before them, and its output behind. Returns the place
@@ -62,35 +63,37 @@ fn flatten_call(
     depth: u32,
     counters: &mut [u8],
     scratch: &mut [u8],
-    to: usize,
-    sp: usize,
-    log: usize,
-) -> Walk
-    requires under { Under (λ sig. ExprAt sig (words rule.now) depth at × Counted sig (words counters.old)) }
-    requires room { Room (length (words rule.now)) at to sp log (length (words scratch.old)) }
-    requires w_value { (w ≡ get_or (words rule.now) at 0) × (w < literal_base) }
-    ensures { FlattensExpr (words rule.now) depth at to sp log (words scratch.old) (words counters.old)
-        (words scratch.new) (words counters.new) result }
+    tops: Tops,
+) -> Result<Walk, Stopped>
+    requires asks { AsksExpr (words rule.now) depth at tops (words scratch.old) (words counters.old) }
+    requires call { (w ≡ get_or (words rule.now) at 0) × (w < literal_base) }
+    ensures { FlattensExpr (words rule.now) depth at tops (words scratch.old) (words counters.old) (words scratch.new) (words counters.new) result }
 {
     let call = words::head_word(w);
     let n = call.count as usize;
-    let v = walks::take(counters, scratch, log, call.head);
-    if v == 0 {
-        return walks::stopped(at, log, walks::USED_UP);
-    }
+    let v = walks::take(counters, scratch, tops.log, call.head, at)?;
+    let tops = Tops {
+        log: tops.log + 1,
+        ..tops
+    };
     let first = at + 1;
-    let k = walks::leaves(rule, first, n, u32::MAX, scratch, to + 1);
+    let k = walks::leaves(rule, first, n, u32::MAX, scratch, tops.to + 1);
     if k == n {
-        let end = put_around(scratch, to, w + 1, n, v);
-        return walks::reached(first + k, end, log + 1, v);
+        let to = put_around(scratch, tops.to, w + 1, n, v);
+        return Ok(Walk {
+            next: first + k,
+            to,
+            log: tops.log,
+            term: v,
+        });
     }
-    let less = depth - 1;
-    let args = flatten_all(rule, first, n, less, counters, scratch, to, sp, log + 1);
-    if args.refused != 0 {
-        return args;
-    }
-    let end = octets::rows::put_atom(scratch, args.to, w + 1, sp, n, v);
-    walks::reached(args.next, end, args.log, v)
+    let args = flatten_all(rule, first, n, depth - 1, counters, scratch, tops)?;
+    let to = octets::rows::put_atom(scratch, args.to, w + 1, tops.sp, n, v);
+    Ok(Walk {
+        to,
+        term: v,
+        ..args
+    })
 }
 
 // Flattens the n expressions from `at` on; their terms go onto the stack. Most are names and literals, so these are dealt with in the loop.
@@ -102,37 +105,28 @@ fn flatten_all(
     depth: u32,
     counters: &mut [u8],
     scratch: &mut [u8],
-    to: usize,
-    sp: usize,
-    log: usize,
-) -> Walk
-    requires { Under (λ sig. ExprsAt sig (words rule.now) depth n at × Counted sig (words counters.old)) × Room (length (words rule.now)) at to sp log (length (words scratch.old)) }
-    ensures { FlattensExprs (words rule.now) depth n at to sp log (words scratch.old) (words counters.old)
-        (words scratch.new) (words counters.new) result }
+    tops: Tops,
+) -> Result<Walk, Stopped>
+    requires { AsksExprs (words rule.now) depth n at tops (words scratch.old) (words counters.old) }
+    ensures { FlattensExprs (words rule.now) depth n at tops (words scratch.old) (words counters.old) (words scratch.new) (words counters.new) result }
 {
-    let mut next = at;
-    let mut end = to;
-    let mut top = sp;
-    let mut uses = log;
-    while top < sp + n {
-        let w = octets::get(rule, next);
+    let mut walk = Walk {
+        next: at,
+        to: tops.to,
+        log: tops.log,
+        term: 0,
+    };
+    for top in tops.sp..tops.sp + n {
+        let w = octets::get(rule, walk.next);
         if words::is_leaf(w) {
             octets::put(scratch, top, w);
-            next += 1;
-            top += 1;
+            walk.next += 1;
             continue;
         }
-        let walk = flatten_call(rule, next, w, depth, counters, scratch, end, top, uses);
-        if walk.refused != 0 {
-            return walk;
-        }
+        walk = flatten_call(rule, walk.next, w, depth, counters, scratch, walk.tops(top))?;
         octets::put(scratch, top, walk.term);
-        next = walk.next;
-        end = walk.to;
-        uses = walk.log;
-        top += 1;
     }
-    walks::reached(next, end, uses, 0)
+    Ok(Walk { term: 0, ..walk })
 }
 
 // Flattens the fact at `at`. The atom of an equality comes behind those of its left and of its right side; a bare name or literal has none.
@@ -141,32 +135,31 @@ fn flatten_fact(
     at: usize,
     counters: &mut [u8],
     scratch: &mut [u8],
-    to: usize,
-    sp: usize,
-    log: usize,
-) -> Walk
-    requires under { Under (λ sig. FactAt sig (words rule.now) at × Counted sig (words counters.old)) }
-    requires room { Room (length (words rule.now)) at to sp log (length (words scratch.old)) }
-    ensures { FlattensFact (words rule.now) at to sp log (words scratch.old) (words counters.old)
-        (words scratch.new) (words counters.new) result }
+    tops: Tops,
+) -> Result<Walk, Stopped>
+    requires { AsksFact (words rule.now) at tops (words scratch.old) (words counters.old) }
+    ensures { FlattensFact (words rule.now) at tops (words scratch.old) (words counters.old) (words scratch.new) (words counters.new) result }
 {
     let w = octets::get(rule, at);
     if w != EQUALITY {
-        let e = flatten(rule, at, MAX_DEPTH, counters, scratch, to, sp, log);
-        return walks::without_term(e);
+        let e = flatten(rule, at, MAX_DEPTH, counters, scratch, tops)?;
+        return Ok(Walk { term: 0, ..e });
     }
-    let left = flatten(rule, at + 1, MAX_DEPTH, counters, scratch, to, sp, log);
-    if left.refused != 0 {
-        return left;
-    }
+    let left = flatten(rule, at + 1, MAX_DEPTH, counters, scratch, tops)?;
     let right = flatten(
-        rule, left.next, MAX_DEPTH, counters, scratch, left.to, sp, left.log,
-    );
-    if right.refused != 0 {
-        return right;
-    }
-    let end = octets::rows::put_three(scratch, right.to, EQUALITY, left.term, right.term);
-    walks::reached(right.next, end, right.log, 0)
+        rule,
+        left.next,
+        MAX_DEPTH,
+        counters,
+        scratch,
+        left.tops(tops.sp),
+    )?;
+    let to = octets::rows::put_three(scratch, right.to, EQUALITY, left.term, right.term);
+    Ok(Walk {
+        to,
+        term: 0,
+        ..right
+    })
 }
 
 // Flattens the n facts from `at` on.
@@ -176,23 +169,19 @@ pub fn to_query(
     n: usize,
     counters: &mut [u8],
     scratch: &mut [u8],
-    to: usize,
-    sp: usize,
-    log: usize,
-) -> Walk
-    requires under { Under (λ sig. FactsAt sig (words rule.now) n at × Counted sig (words counters.old)) }
-    requires room { Room (length (words rule.now)) at to sp log (length (words scratch.old)) }
-    ensures { FlattensFacts (words rule.now) n at to sp log (words scratch.old) (words counters.old)
-        (words scratch.new) (words counters.new) result }
+    tops: Tops,
+) -> Result<Walk, Stopped>
+    requires { AsksFacts (words rule.now) n at tops (words scratch.old) (words counters.old) }
+    ensures { FlattensFacts (words rule.now) n at tops (words scratch.old) (words counters.old) (words scratch.new) (words counters.new) result }
 {
-    let mut left = n;
-    let mut walk = walks::reached(at, to, log, 0);
-    while 0 < left {
-        walk = flatten_fact(rule, walk.next, counters, scratch, walk.to, sp, walk.log);
-        if walk.refused != 0 {
-            return walk;
-        }
-        left -= 1;
+    let mut walk = Walk {
+        next: at,
+        to: tops.to,
+        log: tops.log,
+        term: 0,
+    };
+    for _ in 0..n {
+        walk = flatten_fact(rule, walk.next, counters, scratch, walk.tops(tops.sp))?;
     }
-    walk
+    Ok(walk)
 }
