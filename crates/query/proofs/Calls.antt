@@ -2,93 +2,113 @@
 -- that each step leaves, and the ways out. Assumes nothing.
 use mathlib.Core.Path.{◌≡◌, refl, sym, ap, ◌∙◌, subst}
 use mathlib.Core.List.{List, [], ◌∷◌, ◌++◌}
-use Prim.Native.Nat.{ℕ, ◌+◌, ◌-◌, ◌≤◌}
+use Prim.Native.Nat.{ℕ, ◌+◌, ◌-◌, ◌≤◌, ◌<◌}
 use native.Mathlib.Omega.{arith}
-use lib.ListN.{length}
+use lib.ListN.{length, get_or}
 use Rattle.std.specs.Prelude.{Result, Ok, Err}
 use Rattle.octets.specs.Regions.{splice, part}
-use Rattle.rules.specs.Words.{count_of}
+use Rattle.rules.specs.Words.{literal_base, count_of}
+use Rattle.words.specs.Word.{head_word_of}
+use Rattle.words.specs.declared.HeadWord.{HeadWord}
 use Rattle.walks.specs.Leaves.{leaves_up_to}
 use Rattle.walks.specs.Steps.{reached_at}
 use Rattle.walks.specs.declared.Walk.{Walk}
 use Rattle.walks.specs.declared.Stopped.{Stopped}
+use Rattle.walks.specs.declared.Tops.{Tops}
 use Rattle.walks.proofs.Asks.{counted_kept}
 use Rattle.walks.proofs.LeavesUpTo.{leaves_most}
-use Rattle.query.proofs.Spots.{Spot, ExprsAsked, ExprAnswers, ExprsAnswers}
+use Rattle.walks.proofs.Words.{head_says, count_says}
+use Rattle.query.specs.Flattened.{AsksExpr}
+use Rattle.query.proofs.Spots.{Spot, spot_of, ExprsAsked, ExprAnswers, ExprsAnswers}
 use Rattle.query.proofs.Direct.{Behind, walked_anew, leaves_walked}
-use Rattle.query.proofs.Exprs.{Begun, Named, inner, inner_room, Walked-on, walked_stop, walked_room, walked_done}
+use Rattle.query.proofs.Exprs.{Begun, begun, Asked, Named, named, inner, inner_room, Walked-on, walked_stop, walked_room, walked_done}
 
--- ---- of its arguments k, which are names and literals, are written behind the place of its head word, which leaves sl
+-- ---- of its n arguments k, which are names and literals, are written behind the place of its head word, which leaves sl
 
-pub record Fronted {p : Spot} {d w : ℕ} {g : Begun p d w} {v : ℕ} {s1 cs1 : List ℕ} (o : Named g v s1 cs1) (k : ℕ) (sl : List ℕ) : Type 0 where
+pub record Fronted (p : Spot) (d w v n k : ℕ) (s1 cs1 sl : List ℕ) : Type 0 where
+  pub start : Begun p d w
+  pub own : Named start v s1 cs1
+  pub count : n ≡ count_of w
   pub bound : ℕ
   pub run : k ≡ leaves_up_to bound (part p.ws (p.at + 1) (count_of w))
   pub put : sl ≡ splice s1 (p.tops.to + 1) (part p.ws (p.at + 1) k)
   pub left : length sl ≡ length s1
 
--- so it is where the count of the word is told as n
-pub fronted : {p : Spot} {d w : ℕ} {g : Begun p d w} {v : ℕ} {s1 cs1 : List ℕ} (o : Named g v s1 cs1) {n k : ℕ} {sl : List ℕ} (bound : ℕ) → n ≡ count_of w
-    → k ≡ leaves_up_to bound (part p.ws (p.at + 1) n) → sl ≡ splice s1 (p.tops.to + 1) (part p.ws (p.at + 1) k) → length sl ≡ length s1 → Fronted o k sl
-fronted {p} o bound count run put left =
-    record { bound = bound; run = run ∙ ap (λ (i : ℕ). leaves_up_to bound (part p.ws (p.at + 1) i)) count; put = put; left = left }
+-- so it is by what is asked of the call, its word, its variable and the arguments in front
+pub fronted : {ws s cs : List ℕ} {at d w v k : ℕ} {t : Tops} {q : HeadWord} (s1 cs1 sl : List ℕ) (bound : ℕ) → AsksExpr ws d at t s cs → (w ≡ get_or ws at 0) × (w < literal_base)
+    → q ≡ head_word_of w → Asked (spot_of ws s cs at t) q.head (Ok v) s1 cs1 → length cs1 ≡ length cs → length s1 ≡ length s
+    → (k ≡ leaves_up_to bound (part ws (at + 1) q.count)) × (sl ≡ splice s1 (t.to + 1) (part ws (at + 1) k)) → length sl ≡ length s1
+    → Fronted (spot_of ws s cs at t) d w v q.count k s1 cs1 sl
+fronted {ws} {at = at} s1 cs1 sl bound asks word is asked counters scratch leaves left =
+    let begins = begun asks word in
+    let count = count_says is in
+    record {
+      start = begins;
+      own = named begins s1 cs1 (head_says is) asked counters scratch;
+      count = count;
+      bound = bound;
+      run = leaves.0 ∙ ap (λ (i : ℕ). leaves_up_to bound (part ws (at + 1) i)) count;
+      put = leaves.1;
+      left = left;
+    }
 
 -- the words of an atom around those that stand at `from`
 abbrev atom_of : (w v from : ℕ) → List ℕ → ℕ → List ℕ
 atom_of w v from l n = (w + 1) ∷ (part l from n ++ (v ∷ []))
 
-module _ {p : Spot} {d w : ℕ} {g : Begun p d w} {v : ℕ} {s1 cs1 : List ℕ} {o : Named g v s1 cs1} {k : ℕ} {sl : List ℕ} (f : Fronted o k sl) {n : ℕ} (count : n ≡ count_of w) where
-  behind : Behind (inner o s1) (count_of w) k sl
+module _ {p : Spot} {d w v n k : ℕ} {s1 cs1 sl : List ℕ} (f : Fronted p d w v n k s1 cs1 sl) where
+  behind : Behind (inner f.own s1) (count_of w) k sl
   behind =
-      let m = leaves_most f.bound p.ws (p.at + 1) (count_of w) g.atom.inside in
-      record { room = inner_room o s1 refl; most = omega (arith, f.run); put = f.put }
+      let m = leaves_most f.bound p.ws (p.at + 1) (count_of w) f.start.atom.inside in
+      record { room = inner_room f.own s1 refl; most = omega (arith, f.run); put = f.put }
 
   -- the atom around them has room
   pub around_room : p.tops.to + n + 2 ≤ length sl
-  around_room = omega (arith, g.atom.words, f.left, o.scratch)
+  around_room = omega (arith, f.start.atom.words, f.left, f.own.scratch)
 
   -- where these are all, they are walked
-  whole : k ≡ n → Walked-on o (p.tops.to + 1) sl cs1 (Ok (reached_at (p.at + 1 + k) p.tops.to (p.tops.log + 1) 0))
+  whole : k ≡ n → Walked-on f.own (p.tops.to + 1) sl cs1 (Ok (reached_at (p.at + 1 + k) p.tops.to (p.tops.log + 1) 0))
   whole all =
       let r = around_room in
       let hl = f.left in
-      record { walk = λ sig es c. leaves_walked behind sig (d - 1) es f.bound c.few (omega arith) f.run (all ∙ count) }
+      record { walk = λ sig es c. leaves_walked behind sig (d - 1) es f.bound c.few (omega arith) f.run (all ∙ f.count) }
 
   -- and the atom around them is the call's
   pub leaves_answer : (s3 : List ℕ) (e : ℕ) → k ≡ n → e ≡ p.tops.to + n + 2 → s3 ≡ splice sl p.tops.to (atom_of w v (p.tops.to + 1) sl n)
       → ExprAnswers p d s3 cs1 (Ok (reached_at (p.at + 1 + k) e (p.tops.log + 1) v))
   leaves_answer s3 e all there put =
-      walked_done o (whole all) s3 e (omega arith) (omega (arith, around_room)) (put ∙ ap (λ (i : ℕ). splice sl p.tops.to (atom_of w v (p.tops.to + 1) sl i)) count)
+      walked_done f.own (whole all) s3 e (omega arith) (omega (arith, around_room)) (put ∙ ap (λ (i : ℕ). splice sl p.tops.to (atom_of w v (p.tops.to + 1) sl i)) f.count)
 
   -- what the walk of all arguments asks, where a call stands among them
-  pub args_asked : ExprsAsked (inner o sl) (d - 1) n
+  pub args_asked : ExprsAsked (inner f.own sl) (d - 1) n
   args_asked =
-      subst (ExprsAsked (inner o sl) (d - 1)) (sym count)
+      subst (ExprsAsked (inner f.own sl) (d - 1)) (sym f.count)
       (record {
-        under = record { sig = g.asks.under.sig; known = (g.facts.args, counted_kept g.asks.under.known.1 o.counters) };
-        room = inner_room o sl f.left;
+        under = record { sig = f.start.asks.under.sig; known = (f.start.facts.args, counted_kept f.start.asks.under.known.1 f.own.counters) };
+        room = inner_room f.own sl f.left;
       })
 
   -- ---- all arguments are walked, over what was written of them, with s2 and cs2 left behind
 
   module _ {s2 cs2 : List ℕ} where
-    anew : {r : Result Walk Stopped} → ExprsAnswers (inner o sl) (d - 1) n s2 cs2 r → Walked-on o p.tops.sp s2 cs2 r
+    anew : {r : Result Walk Stopped} → ExprsAnswers (inner f.own sl) (d - 1) n s2 cs2 r → Walked-on f.own p.tops.sp s2 cs2 r
     anew {r} walk =
-        let all = subst (λ (i : ℕ). ExprsAnswers (inner o sl) (d - 1) i s2 cs2 r) count walk in
-        record { walk = λ sig es c. walked_anew behind sig (d - 1) es (all sig es (counted_kept c o.counters)) }
+        let all = subst (λ (i : ℕ). ExprsAnswers (inner f.own sl) (d - 1) i s2 cs2 r) f.count walk in
+        record { walk = λ sig es c. walked_anew behind sig (d - 1) es (all sig es (counted_kept c f.own.counters)) }
 
     -- an argument that is refused refuses the call
-    pub args_refused : {e : Stopped} → ExprsAnswers (inner o sl) (d - 1) n s2 cs2 (Err e) → ExprAnswers p d s2 cs2 (Err e)
-    args_refused walk = walked_stop o (anew walk)
+    pub args_refused : {e : Stopped} → ExprsAnswers (inner f.own sl) (d - 1) n s2 cs2 (Err e) → ExprAnswers p d s2 cs2 (Err e)
+    args_refused walk = walked_stop f.own (anew walk)
 
-    module _ {a : Walk} (walk : ExprsAnswers (inner o sl) (d - 1) n s2 cs2 (Ok a)) (scratch : length s2 ≡ length sl) where
+    module _ {a : Walk} (walk : ExprsAnswers (inner f.own sl) (d - 1) n s2 cs2 (Ok a)) (scratch : length s2 ≡ length sl) where
       room : (a.to + 2 ≤ p.tops.sp) × (p.tops.sp + count_of w ≤ length s2)
-      room = walked_room o (anew walk) (scratch ∙ f.left ∙ o.scratch)
+      room = walked_room f.own (anew walk) (scratch ∙ f.left ∙ f.own.scratch)
 
       -- what the atom asks, whose arguments are on the stack
       pub atom_asks : (a.to + 2 ≤ p.tops.sp) × (p.tops.sp + n ≤ length s2)
-      atom_asks = let r = room in (r.0, omega (arith, r.1, count))
+      atom_asks = let r = room in (r.0, omega (arith, r.1, f.count))
 
       -- and with it the call is flattened
       pub call_answer : (s3 : List ℕ) (e : ℕ) → e ≡ a.to + n + 2 → s3 ≡ splice s2 a.to (atom_of w v p.tops.sp s2 n) → ExprAnswers p d s3 cs2 (Ok (reached_at a.next e a.log v))
       call_answer s3 e there put =
-          walked_done o (anew walk) s3 e (omega (arith, count)) room.1 (put ∙ ap (λ (i : ℕ). splice s2 a.to (atom_of w v p.tops.sp s2 i)) count)
+          walked_done f.own (anew walk) s3 e (omega (arith, f.count)) room.1 (put ∙ ap (λ (i : ℕ). splice s2 a.to (atom_of w v p.tops.sp s2 i)) f.count)

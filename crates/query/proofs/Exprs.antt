@@ -87,7 +87,7 @@ module _ {p : Spot} {d w : ℕ} (g : Begun p d w) where
 
 -- ---- a variable is asked for, which answers v and leaves s1 and cs1
 
-abbrev Asked : Spot → ℕ → Result ℕ Stopped → List ℕ → List ℕ → Type 0
+abbrev pub Asked : Spot → ℕ → Result ℕ Stopped → List ℕ → List ℕ → Type 0
 Asked p h v s1 cs1 = Taken (fresh p.at h p.cs) p.tops.log p.s p.cs s1 cs1 v
 
 -- there is none. The head h that was asked is that of w

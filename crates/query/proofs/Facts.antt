@@ -18,14 +18,14 @@ use Rattle.rules.specs.Written.{Expr, Fact, holds, equal, Read, read_expr, read_
 use Rattle.meaning.proofs.Results.{bind_ok, ok_inj}
 use Rattle.meaning.proofs.Lists.{and_right}
 use Rattle.meaning.proofs.Reading.{expr_reads}
-use Rattle.walks.specs.Steps.{Piece, reached_at, untold, both, and_then, Walked, NoTerms, Counted, ExprAt}
+use Rattle.walks.specs.Steps.{Piece, reached_at, tops_at, untold, both, and_then, Walked, NoTerms, Counted, ExprAt}
 use Rattle.walks.specs.declared.Walk.{Walk}
 use Rattle.walks.specs.declared.Stopped.{Stopped}
 use Rattle.walks.specs.declared.Tops.{Tops}
 use Rattle.walks.proofs.Steps.{went, stop, with_terms, placed, walk_then, Own, written}
 use Rattle.walks.proofs.Read.{moved, expr_at}
 use Rattle.walks.proofs.Asks.{counted_kept, There, right_there}
-use Rattle.query.specs.Flattened.{flattened, flattened_fact, FactAt, AsksFact}
+use Rattle.query.specs.Flattened.{flattened, flattened_fact, FactAt, AsksFact, FlattensExpr}
 use Rattle.query.proofs.Pieces.{silent, equated, flattened_holds, flattened_equal}
 use Rattle.query.proofs.Spots.{Spot, spot_of, onward, FactAsked, ExprAsked, ExprAnswers, FactWalked, FactAnswers}
 
@@ -202,20 +202,25 @@ module _ {p : Spot} {w : ℕ} (g : Begun p w) where
 
 -- ---- the left side of an equality is flattened: l, with s1 and cs1 left behind
 
-pub record Lefted {p : Spot} {w : ℕ} (g : Begun p w) (s1 cs1 : List ℕ) (l : Walk) : Type 0 where
+pub record Lefted (p : Spot) (w : ℕ) (s1 cs1 : List ℕ) (l : Walk) : Type 0 where
+  pub start : Begun p w
   pub eq : w ≡ equality_word
   pub walk : ExprAnswers (behind p) max_depth s1 cs1 (Ok l)
   pub counters : length cs1 ≡ length p.cs
   pub scratch : length s1 ≡ length p.s
 
-module _ {p : Spot} {w : ℕ} {g : Begun p w} {s1 cs1 : List ℕ} {l : Walk} (m : Lefted g s1 cs1 l) where
+pub lefted : {ws s cs s1 cs1 : List ℕ} {at w : ℕ} {t : Tops} {l : Walk} → AsksFact ws at t s cs → w ≡ get_or ws at 0 → w ≡ equality_word
+    → FlattensExpr ws max_depth (at + 1) t s cs s1 cs1 (Ok l) → length cs1 ≡ length cs → length s1 ≡ length s → Lefted (spot_of ws s cs at t) w s1 cs1 l
+lefted asks is eq walk counters scratch = record { start = begun asks is; eq = eq; walk = walk; counters = counters; scratch = scratch }
+
+module _ {p : Spot} {w : ℕ} {s1 cs1 : List ℕ} {l : Walk} (m : Lefted p w s1 cs1 l) where
   -- the right side stands behind it
   pub right_asked : ExprAsked (onward p s1 cs1 p.tops.sp l) max_depth
   right_asked =
-      let q = g.asks.under in
+      let q = m.start.asks.under in
       let there =
-      by_sides g m.eq (λ f k. There q.sig p.ws max_depth p.tops.sp (length s1) l) q.sig q.known.0
-      (λ a b. right_there q.sig p.ws max_depth (length s1) a.size g.asks.room m.scratch (went (flattened a.value p.cs) (m.walk q.sig a q.known.1)) b) in
+      by_sides m.start m.eq (λ f k. There q.sig p.ws max_depth p.tops.sp (length s1) l) q.sig q.known.0
+      (λ a b. right_there q.sig p.ws max_depth (length s1) a.size m.start.asks.room m.scratch (went (flattened a.value p.cs) (m.walk q.sig a q.known.1)) b) in
       record { under = record { sig = q.sig; known = (there.expr, counted_kept q.known.1 m.counters) }; room = there.room }
 
   -- it is flattened, with s2 and cs2 left behind
@@ -223,57 +228,62 @@ module _ {p : Spot} {w : ℕ} {g : Begun p w} {s1 cs1 : List ℕ} {l : Walk} (m 
     abbrev Both : Walk → Piece → Type 0
     Both a q = q.terms ≡ l.term ∷ a.term ∷ []
 
-    sides : (sig : Sig) (a : Left g m.eq sig) (b : Right g m.eq sig a) → Counted sig p.cs
+    sides : (sig : Sig) (a : Left m.start m.eq sig) (b : Right m.start m.eq sig a) → Counted sig p.cs
         → Walked 2 Both (and_then (flattened a.value p.cs) (flattened b.value)) (a.size + b.size) (p.at + 1) p.tops.to p.tops.sp p.tops.log p.s p.cs s2 cs2 r
     sides sig a b c =
         let g1 = went (flattened a.value p.cs) (m.walk sig a c) in
         let b2 = moved (read_expr sig p.ws max_depth) p.ws (p.at + 1 + a.size) l.next (sym g1.next) b in
         let i = b.inside in
         walk_then a.size b.size (p.at + 1) p.tops.to p.tops.sp p.tops.sp p.tops.log p.s p.cs s1 cs1 s2 cs2 l
-        (omega (arith, g.asks.room.stack)) (omega arith) (omega arith) 2 Both
+        (omega (arith, m.start.asks.room.stack)) (omega arith) (omega arith) 2 Both
         (flattened a.value p.cs) (flattened b.value) (omega arith) (m.walk sig a c) (walk sig b2 (counted_kept c m.counters))
         (λ d q u t v. λ i. t.term i ++ v.term i)
 
   pub right_refused : {s2 cs2 : List ℕ} {e : Stopped} → ExprAnswers (onward p s1 cs1 p.tops.sp l) max_depth s2 cs2 (Err e) → FactAnswers p s2 cs2 (Err e)
   right_refused {s2} {cs2} {e} walk =
-      answer g m.eq s2 cs2 (Err e)
+      answer m.start m.eq s2 cs2 (Err e)
       (λ sig a b c. stop (1 + (a.size + b.size)) p.at (and_then (flattened a.value p.cs) (flattened b.value)) (λ q. ok (equated q))
       (sides walk sig a b c) (omega arith))
 
 -- ---- both are: r, with s2 and cs2 left behind
 
-pub record Righted {p : Spot} {w : ℕ} {g : Begun p w} {s1 cs1 : List ℕ} {l : Walk} (m : Lefted g s1 cs1 l) (s2 cs2 : List ℕ) (r : Walk) : Type 0 where
+pub record Righted (p : Spot) (w : ℕ) (s1 cs1 : List ℕ) (l : Walk) (s2 cs2 : List ℕ) (r : Walk) : Type 0 where
+  pub left : Lefted p w s1 cs1 l
   pub walk : ExprAnswers (onward p s1 cs1 p.tops.sp l) max_depth s2 cs2 (Ok r)
   pub scratch : length s2 ≡ length p.s
 
-module _ {p : Spot} {w : ℕ} {g : Begun p w} {s1 cs1 : List ℕ} {l : Walk} {m : Lefted g s1 cs1 l} {s2 cs2 : List ℕ} {r : Walk} (o : Righted m s2 cs2 r) where
+pub righted : {p : Spot} {w : ℕ} {s1 cs1 s2 cs2 : List ℕ} {l r : Walk} → Lefted p w s1 cs1 l → FlattensExpr p.ws max_depth l.next (tops_at l p.tops.sp) s1 cs1 s2 cs2 (Ok r)
+    → length s2 ≡ length p.s → Righted p w s1 cs1 l s2 cs2 r
+righted left walk scratch = record { left = left; walk = walk; scratch = scratch }
+
+module _ {p : Spot} {w : ℕ} {s1 cs1 : List ℕ} {l : Walk} {s2 cs2 : List ℕ} {r : Walk} (o : Righted p w s1 cs1 l s2 cs2 r) where
   -- the equality has room
   pub three_room : r.to + 3 ≤ length s2
-  three_room = by_sides g m.eq (λ f k. r.to + 3 ≤ length s2) g.asks.under.sig g.asks.under.known.0 (λ a b. fits a b)
+  three_room = by_sides o.left.start o.left.eq (λ f k. r.to + 3 ≤ length s2) o.left.start.asks.under.sig o.left.start.asks.under.known.0 (λ a b. fits a b)
     where
-      fits : (a : Left g m.eq g.asks.under.sig) (b : Right g m.eq g.asks.under.sig a) → r.to + 3 ≤ length s2
+      fits : (a : Left o.left.start o.left.eq o.left.start.asks.under.sig) (b : Right o.left.start o.left.eq o.left.start.asks.under.sig a) → r.to + 3 ≤ length s2
       fits a b =
-          let u = went (and_then (flattened a.value p.cs) (flattened b.value)) (sides m o.walk g.asks.under.sig a b g.asks.under.known.1) in
+          let u = went (and_then (flattened a.value p.cs) (flattened b.value)) (sides o.left o.walk o.left.start.asks.under.sig a b o.left.start.asks.under.known.1) in
           let i = b.inside in
-          omega (arith, u.up_to, g.asks.room, o.scratch)
+          omega (arith, u.up_to, o.left.start.asks.room, o.scratch)
 
   -- and it is written, up to e, which leaves s3
   pub equal_answer : (s3 : List ℕ) (e : ℕ) → e ≡ r.to + 3 → s3 ≡ splice s2 r.to (equality_word ∷ l.term ∷ r.term ∷ [])
       → FactAnswers p s3 cs2 (Ok (reached_at r.next e r.log 0))
-  equal_answer s3 e there put = answer g m.eq s3 cs2 (Ok (reached_at r.next e r.log 0)) (λ sig a b c. done sig a b c)
+  equal_answer s3 e there put = answer o.left.start o.left.eq s3 cs2 (Ok (reached_at r.next e r.log 0)) (λ sig a b c. done sig a b c)
     where
       ys : List ℕ
       ys = equality_word ∷ l.term ∷ r.term ∷ []
 
-      own : (q : Piece) → Both m o.walk r q → Own (NoTerms (reached_at r.next e r.log 0)) q ys q.next (equated q)
+      own : (q : Piece) → Both o.left o.walk r q → Own (NoTerms (reached_at r.next e r.log 0)) q ys q.next (equated q)
       own q t = record { words = λ i. q.words ++ equality_word ∷ t i; counters = refl; terms = (refl, refl) }
 
-      done : (sig : Sig) (a : Left g m.eq sig) (b : Right g m.eq sig a) → Counted sig p.cs
+      done : (sig : Sig) (a : Left o.left.start o.left.eq sig) (b : Right o.left.start o.left.eq sig a) → Counted sig p.cs
           → FactWalked p (equality a.value b.value p.cs) (1 + (a.size + b.size)) s3 cs2 (Ok (reached_at r.next e r.log 0))
       done sig a b c =
           let i = b.inside in
-          let room = g.asks.room in
+          let room = o.left.start.asks.room in
           written 0 NoTerms (a.size + b.size) (1 + (a.size + b.size)) (p.at + 1) p.at p.tops.to p.tops.sp p.tops.log p.s p.cs s2 cs2 s3 ys r e 0
           (and_then (flattened a.value p.cs) (flattened b.value)) equated
           (omega (arith, room.words)) (omega (arith, room.stack)) (omega (arith, room.log)) (omega arith) (omega arith) (omega arith)
-          (sides m o.walk sig a b c) put (omega arith) own
+          (sides o.left o.walk sig a b c) put (omega arith) own

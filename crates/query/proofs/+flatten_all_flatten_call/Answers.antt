@@ -9,7 +9,7 @@ use Rattle.walks.specs.Steps.{tops_at}
 use Rattle.walks.proofs.Words.{leaf_high, call_low, head_says, count_says}
 use Rattle.query.proofs.Spots.{spot_of}
 use Rattle.query.proofs.Arguments.{row_start, row_fits, row_turn, row_asked, row_done, row_stop, row_next}
-use Rattle.query.proofs.Exprs.{leaf_answer, begun, none_left, named}
+use Rattle.query.proofs.Exprs.{leaf_answer, begun, none_left}
 use Rattle.query.proofs.Calls.{fronted, around_room, leaves_answer, args_asked, args_refused, atom_asks, call_answer}
 use Rattle.query.proofs.+flatten_all_flatten_call.Goals as goal
 
@@ -93,12 +93,11 @@ flatten_call-leaves-k-requires t c =
 
 pub flatten_call-put_around-to-requires : goal.flatten_call-put_around-to-requires
 flatten_call-put_around-to-requires t c =
-    let start = begun c.requires.asks c.requires.call in
     let v = c.take in
-    let own = named start _ _ (head_says c.head_word-call.ensures) c.in_ok-v.ensures (length_words_kept _ _ v.auto.counters) (length_words_kept _ _ v.auto.scratch) in
-    let count = count_says c.head_word-call.ensures in
-    let front = fronted {g = start} own (2 ^ 32 - 1) count c.leaves-k.ensures.0 c.leaves-k.ensures.1 (length_words_kept _ _ c.leaves-k.auto.scratch) in
-    around_room {g = start} {o = own} front count
+    let front =
+    fronted _ _ _ (2 ^ 32 - 1) c.requires.asks c.requires.call c.head_word-call.ensures c.in_ok-v.ensures (length_words_kept _ _ v.auto.counters) (length_words_kept _ _ v.auto.scratch)
+    c.leaves-k.ensures (length_words_kept _ _ c.leaves-k.auto.scratch) in
+    around_room front
 
 pub flatten_call-overflow_add-result : goal.flatten_call-overflow_add-result
 flatten_call-overflow_add-result t c =
@@ -107,51 +106,46 @@ flatten_call-overflow_add-result t c =
 
 pub flatten_call-returns-then-k-n : goal.flatten_call-returns-then-k-n
 flatten_call-returns-then-k-n t c =
-    let start = begun c.requires.asks c.requires.call in
     let v = c.take in
-    let own = named start _ _ (head_says c.head_word-call.ensures) c.in_ok-v.ensures (length_words_kept _ _ v.auto.counters) (length_words_kept _ _ v.auto.scratch) in
-    let count = count_says c.head_word-call.ensures in
-    let front = fronted {g = start} own (2 ^ 32 - 1) count c.leaves-k.ensures.0 c.leaves-k.ensures.1 (length_words_kept _ _ c.leaves-k.auto.scratch) in
+    let front =
+    fronted _ _ _ (2 ^ 32 - 1) c.requires.asks c.requires.call c.head_word-call.ensures c.in_ok-v.ensures (length_words_kept _ _ v.auto.counters) (length_words_kept _ _ v.auto.scratch)
+    c.leaves-k.ensures (length_words_kept _ _ c.leaves-k.auto.scratch) in
     let e = c.put_around-to.ensures in
-    leaves_answer {g = start} {o = own} front count _ _ c.if-k-n.true e.0 e.1
+    leaves_answer front _ _ c.if-k-n.true e.0 e.1
 
 -- ---- a call stands among them
 
 pub flatten_call-flatten_all-requires : goal.flatten_call-flatten_all-requires
 flatten_call-flatten_all-requires t c =
-    let start = begun c.requires.asks c.requires.call in
     let v = c.take in
-    let own = named start _ _ (head_says c.head_word-call.ensures) c.in_ok-v.ensures (length_words_kept _ _ v.auto.counters) (length_words_kept _ _ v.auto.scratch) in
-    let count = count_says c.head_word-call.ensures in
-    let front = fronted {g = start} own (2 ^ 32 - 1) count c.leaves-k.ensures.0 c.leaves-k.ensures.1 (length_words_kept _ _ c.leaves-k.auto.scratch) in
-    let f = start.facts in
-    (omega (arith, c.decreases, f.inside, f.deep), args_asked {g = start} {o = own} front count)
+    let front =
+    fronted _ _ _ (2 ^ 32 - 1) c.requires.asks c.requires.call c.head_word-call.ensures c.in_ok-v.ensures (length_words_kept _ _ v.auto.counters) (length_words_kept _ _ v.auto.scratch)
+    c.leaves-k.ensures (length_words_kept _ _ c.leaves-k.auto.scratch) in
+    let f = front.start.facts in
+    (omega (arith, c.decreases, f.inside, f.deep), args_asked front)
 
 pub flatten_call-returns-in_err-args : goal.flatten_call-returns-in_err-args
 flatten_call-returns-in_err-args t c =
-    let start = begun c.requires.asks c.requires.call in
     let v = c.take in
-    let own = named start _ _ (head_says c.head_word-call.ensures) c.in_ok-v.ensures (length_words_kept _ _ v.auto.counters) (length_words_kept _ _ v.auto.scratch) in
-    let count = count_says c.head_word-call.ensures in
-    let front = fronted {g = start} own (2 ^ 32 - 1) count c.leaves-k.ensures.0 c.leaves-k.ensures.1 (length_words_kept _ _ c.leaves-k.auto.scratch) in
+    let front =
+    fronted _ _ _ (2 ^ 32 - 1) c.requires.asks c.requires.call c.head_word-call.ensures c.in_ok-v.ensures (length_words_kept _ _ v.auto.counters) (length_words_kept _ _ v.auto.scratch)
+    c.leaves-k.ensures (length_words_kept _ _ c.leaves-k.auto.scratch) in
     let p = err_from_is_err_and c.from_residual-in_err-args.result c.from_residual-in_err-args.ensures.1 in
-    rw (p.1, p.2) (args_refused {g = start} {o = own} front count c.in_err-args.ensures)
+    rw (p.1, p.2) (args_refused front c.in_err-args.ensures)
 
 pub flatten_call-put_atom-to-requires : goal.flatten_call-put_atom-to-requires
 flatten_call-put_atom-to-requires t c =
-    let start = begun c.requires.asks c.requires.call in
     let v = c.take in
-    let own = named start _ _ (head_says c.head_word-call.ensures) c.in_ok-v.ensures (length_words_kept _ _ v.auto.counters) (length_words_kept _ _ v.auto.scratch) in
-    let count = count_says c.head_word-call.ensures in
-    let front = fronted {g = start} own (2 ^ 32 - 1) count c.leaves-k.ensures.0 c.leaves-k.ensures.1 (length_words_kept _ _ c.leaves-k.auto.scratch) in
-    atom_asks {g = start} {o = own} front count c.in_ok-args.ensures (length_words_kept _ _ c.flatten_all.auto.scratch)
+    let front =
+    fronted _ _ _ (2 ^ 32 - 1) c.requires.asks c.requires.call c.head_word-call.ensures c.in_ok-v.ensures (length_words_kept _ _ v.auto.counters) (length_words_kept _ _ v.auto.scratch)
+    c.leaves-k.ensures (length_words_kept _ _ c.leaves-k.auto.scratch) in
+    atom_asks front c.in_ok-args.ensures (length_words_kept _ _ c.flatten_all.auto.scratch)
 
 pub flatten_call-returns : goal.flatten_call-returns
 flatten_call-returns t c =
-    let start = begun c.requires.asks c.requires.call in
     let v = c.take in
-    let own = named start _ _ (head_says c.head_word-call.ensures) c.in_ok-v.ensures (length_words_kept _ _ v.auto.counters) (length_words_kept _ _ v.auto.scratch) in
-    let count = count_says c.head_word-call.ensures in
-    let front = fronted {g = start} own (2 ^ 32 - 1) count c.leaves-k.ensures.0 c.leaves-k.ensures.1 (length_words_kept _ _ c.leaves-k.auto.scratch) in
+    let front =
+    fronted _ _ _ (2 ^ 32 - 1) c.requires.asks c.requires.call c.head_word-call.ensures c.in_ok-v.ensures (length_words_kept _ _ v.auto.counters) (length_words_kept _ _ v.auto.scratch)
+    c.leaves-k.ensures (length_words_kept _ _ c.leaves-k.auto.scratch) in
     let e = c.put_atom-to.ensures in
-    call_answer {g = start} {o = own} front count c.in_ok-args.ensures (length_words_kept _ _ c.flatten_all.auto.scratch) _ _ e.0 e.1
+    call_answer front c.in_ok-args.ensures (length_words_kept _ _ c.flatten_all.auto.scratch) _ _ e.0 e.1

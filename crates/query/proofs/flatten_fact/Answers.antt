@@ -3,10 +3,9 @@
 use native.Mathlib.Omega.{arith}
 use Rattle.std.proofs.lemmas.Result.{err_from_is_err_and}
 use mathlib.Core.Path.{◌∙◌}
-use Rattle.octets.specs.Words.{words}
 use Rattle.octets.proofs.Words.{length_words, length_words_kept}
 use Rattle.query.proofs.Facts.{begun, holds_asked, holds_refused, holds_answer, left_asked, left_refused}
-use Rattle.query.proofs.Facts.{Lefted, right_asked, right_refused, Righted, three_room, equal_answer}
+use Rattle.query.proofs.Facts.{lefted, right_asked, right_refused, righted, three_room, equal_answer}
 use Rattle.query.proofs.flatten_fact.Goals as goal
 
 pub flatten-requires : goal.flatten-requires
@@ -38,15 +37,15 @@ returns-in_err-left c =
 pub flatten-requires-3 : goal.flatten-requires-3
 flatten-requires-3 c =
     let l = c.flatten-2 in
-    let left : Lefted (begun c.requires c.get-w.ensures.is) (words l.new.scratch) (words l.new.counters) c.in_ok-left.left =
-    record { eq = c.if-w-ne-EQUALITY.false; walk = c.in_ok-left.ensures; counters = length_words_kept _ _ l.auto.counters; scratch = length_words_kept _ _ l.auto.scratch } in
+    let left =
+    lefted c.requires c.get-w.ensures.is c.if-w-ne-EQUALITY.false c.in_ok-left.ensures (length_words_kept _ _ l.auto.counters) (length_words_kept _ _ l.auto.scratch) in
     rw c.tops.ensures (right_asked left)
 
 pub returns-in_err-right : goal.returns-in_err-right
 returns-in_err-right c =
     let l = c.flatten-2 in
-    let left : Lefted (begun c.requires c.get-w.ensures.is) (words l.new.scratch) (words l.new.counters) c.in_ok-left.left =
-    record { eq = c.if-w-ne-EQUALITY.false; walk = c.in_ok-left.ensures; counters = length_words_kept _ _ l.auto.counters; scratch = length_words_kept _ _ l.auto.scratch } in
+    let left =
+    lefted c.requires c.get-w.ensures.is c.if-w-ne-EQUALITY.false c.in_ok-left.ensures (length_words_kept _ _ l.auto.counters) (length_words_kept _ _ l.auto.scratch) in
     let p = err_from_is_err_and c.from_residual-in_err-right.result c.from_residual-in_err-right.ensures.1 in
     rw (p.1, p.2) (right_refused left (rw c.tops.ensures at c.in_err-right.ensures))
 
@@ -55,20 +54,18 @@ returns-in_err-right c =
 pub put_three-to-requires : goal.put_three-to-requires
 put_three-to-requires c =
     let l = c.flatten-2 in
-    let left : Lefted (begun c.requires c.get-w.ensures.is) (words l.new.scratch) (words l.new.counters) c.in_ok-left.left =
-    record { eq = c.if-w-ne-EQUALITY.false; walk = c.in_ok-left.ensures; counters = length_words_kept _ _ l.auto.counters; scratch = length_words_kept _ _ l.auto.scratch } in
+    let left =
+    lefted c.requires c.get-w.ensures.is c.if-w-ne-EQUALITY.false c.in_ok-left.ensures (length_words_kept _ _ l.auto.counters) (length_words_kept _ _ l.auto.scratch) in
     let r = c.flatten-3 in
-    let right : Righted left (words r.new.scratch) (words r.new.counters) c.in_ok-right.right =
-    record { walk = rw c.tops.ensures at c.in_ok-right.ensures; scratch = length_words_kept _ _ (r.auto.scratch ∙ l.auto.scratch) } in
+    let right = righted left (rw c.tops.ensures at c.in_ok-right.ensures) (length_words_kept _ _ (r.auto.scratch ∙ l.auto.scratch)) in
     three_room right
 
 pub returns : goal.returns
 returns c =
     let l = c.flatten-2 in
-    let left : Lefted (begun c.requires c.get-w.ensures.is) (words l.new.scratch) (words l.new.counters) c.in_ok-left.left =
-    record { eq = c.if-w-ne-EQUALITY.false; walk = c.in_ok-left.ensures; counters = length_words_kept _ _ l.auto.counters; scratch = length_words_kept _ _ l.auto.scratch } in
+    let left =
+    lefted c.requires c.get-w.ensures.is c.if-w-ne-EQUALITY.false c.in_ok-left.ensures (length_words_kept _ _ l.auto.counters) (length_words_kept _ _ l.auto.scratch) in
     let r = c.flatten-3 in
-    let right : Righted left (words r.new.scratch) (words r.new.counters) c.in_ok-right.right =
-    record { walk = rw c.tops.ensures at c.in_ok-right.ensures; scratch = length_words_kept _ _ (r.auto.scratch ∙ l.auto.scratch) } in
+    let right = righted left (rw c.tops.ensures at c.in_ok-right.ensures) (length_words_kept _ _ (r.auto.scratch ∙ l.auto.scratch)) in
     let e = c.put_three-to.ensures in
     equal_answer right _ _ e.0 e.1
