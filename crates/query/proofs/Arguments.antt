@@ -73,7 +73,8 @@ module _ {p : Spot} {d n top : ℕ} {s1 cs1 : List ℕ} {w : Walk} (row : Row p 
         left top s1 cs1 (here w) (row.rest sig x c) m.some m.room s2 cs2 e (λ f. walk sig f (counted_kept c m.counters))
 
     -- and behind any other, whose term is pushed, one less is left
-    pub row_next : {s2 cs2 : List ℕ} {a : Walk} (s3 : List ℕ) → ExprAnswers (onward p s1 cs1 top w) d s2 cs2 (Ok a) → s3 ≡ set s2 top a.term → Row p d n (top + 1) s3 cs2 a
+    pub row_next : {s2 cs2 : List ℕ} {a : Walk} (s3 : List ℕ) → ExprAnswers (onward p s1 cs1 top w) d s2 cs2 (Ok a) → s3 ≡ set s2 top a.term
+        → Row p d n (top + 1) s3 cs2 a
     row_next {s2} {cs2} {a} s3 walk put =
         let q = row.asks.under in
         let m = row_turn in

@@ -35,7 +35,8 @@ pub record Fronted (p : Spot) (d w v n k : ℕ) (s1 cs1 sl : List ℕ) : Type 0 
   pub left : length sl ≡ length s1
 
 -- so it is by what is asked of the call, its word, its variable and the arguments in front
-pub fronted : {ws s cs : List ℕ} {at d w v k : ℕ} {t : Tops} {q : HeadWord} (s1 cs1 sl : List ℕ) (bound : ℕ) → AsksExpr ws d at t s cs → (w ≡ get_or ws at 0) × (w < literal_base)
+pub fronted : {ws s cs : List ℕ} {at d w v k : ℕ} {t : Tops} {q : HeadWord} (s1 cs1 sl : List ℕ) (bound : ℕ) → AsksExpr ws d at t s cs
+    → (w ≡ get_or ws at 0) × (w < literal_base)
     → q ≡ head_word_of w → Asked (spot_of ws s cs at t) q.head (Ok v) s1 cs1 → length cs1 ≡ length cs → length s1 ≡ length s
     → (k ≡ leaves_up_to bound (part ws (at + 1) q.count)) × (sl ≡ splice s1 (t.to + 1) (part ws (at + 1) k)) → length sl ≡ length s1
     → Fronted (spot_of ws s cs at t) d w v q.count k s1 cs1 sl
@@ -77,7 +78,8 @@ module _ {p : Spot} {d w v n k : ℕ} {s1 cs1 sl : List ℕ} (f : Fronted p d w 
   pub leaves_answer : (s3 : List ℕ) (e : ℕ) → k ≡ n → e ≡ p.tops.to + n + 2 → s3 ≡ splice sl p.tops.to (atom_of w v (p.tops.to + 1) sl n)
       → ExprAnswers p d s3 cs1 (Ok (reached_at (p.at + 1 + k) e (p.tops.log + 1) v))
   leaves_answer s3 e all there put =
-      walked_done f.own (whole all) s3 e (omega arith) (omega (arith, around_room)) (put ∙ ap (λ (i : ℕ). splice sl p.tops.to (atom_of w v (p.tops.to + 1) sl i)) f.count)
+      walked_done f.own (whole all) s3 e (omega arith) (omega (arith, around_room))
+      (put ∙ ap (λ (i : ℕ). splice sl p.tops.to (atom_of w v (p.tops.to + 1) sl i)) f.count)
 
   -- what the walk of all arguments asks, where a call stands among them
   pub args_asked : ExprsAsked (inner f.own sl) (d - 1) n
@@ -109,6 +111,7 @@ module _ {p : Spot} {d w v n k : ℕ} {s1 cs1 sl : List ℕ} (f : Fronted p d w 
       atom_asks = let r = room in (r.0, omega (arith, r.1, f.count))
 
       -- and with it the call is flattened
-      pub call_answer : (s3 : List ℕ) (e : ℕ) → e ≡ a.to + n + 2 → s3 ≡ splice s2 a.to (atom_of w v p.tops.sp s2 n) → ExprAnswers p d s3 cs2 (Ok (reached_at a.next e a.log v))
+      pub call_answer : (s3 : List ℕ) (e : ℕ) → e ≡ a.to + n + 2 → s3 ≡ splice s2 a.to (atom_of w v p.tops.sp s2 n)
+          → ExprAnswers p d s3 cs2 (Ok (reached_at a.next e a.log v))
       call_answer s3 e there put =
           walked_done f.own (anew walk) s3 e (omega (arith, f.count)) room.1 (put ∙ ap (λ (i : ℕ). splice s2 a.to (atom_of w v p.tops.sp s2 i)) f.count)

@@ -113,7 +113,8 @@ module _ {p : Spot} {n k : ℕ} {s1 : List ℕ} (b : Behind p n k s1) (sig : Sig
       let i = es.inside in
       let w = within in
       let l = length_part p.ws p.at (suc j) (omega (arith, w.0)) in
-      kept_put p.tops.to (p.tops.to + 4 * es.size) p.tops.sp (p.tops.sp + es.size) p.tops.log (p.tops.log + es.size) (p.tops.to + 1) (part p.ws p.at (suc j)) p.s p.cs s1
+      kept_put p.tops.to (p.tops.to + 4 * es.size) p.tops.sp (p.tops.sp + es.size) p.tops.log (p.tops.log + es.size)
+      (p.tops.to + 1) (part p.ws p.at (suc j)) p.s p.cs s1
       (omega arith) (omega (arith, w.1)) (omega (arith, r.words)) (omega arith) (omega (arith, r.stack, r.log)) (omega arith) e
 
   -- a walk of them writes over these words

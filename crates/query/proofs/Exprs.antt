@@ -91,7 +91,8 @@ abbrev pub Asked : Spot → ℕ → Result ℕ Stopped → List ℕ → List ℕ
 Asked p h v s1 cs1 = Taken (fresh p.at h p.cs) p.tops.log p.s p.cs s1 cs1 v
 
 -- there is none. The head h that was asked is that of w
-pub none_left : {p : Spot} {d w h : ℕ} (g : Begun p d w) {e : Stopped} (s1 cs1 : List ℕ) → h ≡ head_of w → Asked p h (Err e) s1 cs1 → ExprAnswers p d s1 cs1 (Err e)
+pub none_left : {p : Spot} {d w h : ℕ} (g : Begun p d w) {e : Stopped} (s1 cs1 : List ℕ) → h ≡ head_of w → Asked p h (Err e) s1 cs1
+    → ExprAnswers p d s1 cs1 (Err e)
 none_left {p} {d} {w} g {e} s1 cs1 is asked =
     answer g s1 cs1 (Err e)
     (λ sig es c high. full_first (1 + es.size) p.at p.tops.to p.tops.sp p.tops.log p.s p.cs s1 cs1 e (fresh p.at (head_of w) p.cs) _
@@ -103,7 +104,8 @@ pub record Named {p : Spot} {d w : ℕ} (g : Begun p d w) (v : ℕ) (s1 cs1 : Li
   pub scratch : length s1 ≡ length p.s
 
 -- it is v
-pub named : {p : Spot} {d w h : ℕ} (g : Begun p d w) {v : ℕ} (s1 cs1 : List ℕ) → h ≡ head_of w → Asked p h (Ok v) s1 cs1 → length cs1 ≡ length p.cs → length s1 ≡ length p.s
+pub named : {p : Spot} {d w h : ℕ} (g : Begun p d w) {v : ℕ} (s1 cs1 : List ℕ) → h ≡ head_of w → Asked p h (Ok v) s1 cs1 → length cs1 ≡ length p.cs
+    → length s1 ≡ length p.s
     → Named g v s1 cs1
 named {p} g {v} s1 cs1 is asked counters scratch =
     record { asked = subst (λ (i : ℕ). Asked p i (Ok v) s1 cs1) is asked; counters = counters; scratch = scratch }
@@ -118,7 +120,8 @@ module _ {p : Spot} {d w : ℕ} {g : Begun p d w} {v : ℕ} {s1 cs1 : List ℕ} 
 
 -- ---- its arguments are walked: r, with s2 and cs2 left behind, and their terms stand at `from`: on the stack, or where the atom goes
 
-pub record Walked-on {p : Spot} {d w : ℕ} {g : Begun p d w} {v : ℕ} {s1 cs1 : List ℕ} (o : Named g v s1 cs1) (from : ℕ) (s2 cs2 : List ℕ) (r : Result Walk Stopped) : Type 0 where
+pub record Walked-on {p : Spot} {d w : ℕ} {g : Begun p d w} {v : ℕ} {s1 cs1 : List ℕ} (o : Named g v s1 cs1) (from : ℕ) (s2 cs2 : List ℕ)
+    (r : Result Walk Stopped) : Type 0 where
   pub walk : (sig : Sig) (es : ExprsAt sig p.ws (d - 1) (count_of w) (p.at + 1)) → Counted sig p.cs
       → Walked (count_of w) (OnStack from (count_of w) (p.tops.log + 1) s2) (flattened_all es.value cs1) es.size
       (p.at + 1) p.tops.to p.tops.sp (p.tops.log + 1) s1 cs1 s2 cs2 r

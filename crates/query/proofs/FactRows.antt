@@ -65,7 +65,8 @@ module _ {p : Spot} {n done : ℕ} {s1 cs1 : List ℕ} {w : Walk} (row : Row p n
   row_done all sig x c =
       let l = row.rest sig x c in
       l.whole s1 cs1 (Ok w)
-      (no_row_cases (read_fact sig p.ws) p.ws (fact_on sig p.ws) (λ fs k. WalkedFrom (onward p s1 cs1 p.tops.sp w) fs k s1 cs1 (Ok w)) left w.next l.rest (omega arith)
+      (no_row_cases (read_fact sig p.ws) p.ws (fact_on sig p.ws) (λ fs k. WalkedFrom (onward p s1 cs1 p.tops.sp w) fs k s1 cs1 (Ok w))
+      left w.next l.rest (omega arith)
       (rw (query_none cs1) (none_walked p.tops.sp s1 cs1 w (refl, row.silent))))
 
   next_room : let q = onward p s1 cs1 p.tops.sp w in Room (length p.ws) q.at q.tops (length s1)
@@ -93,7 +94,13 @@ module _ {p : Spot} {n done : ℕ} {s1 cs1 : List ℕ} {w : Walk} (row : Row p n
 
     -- and behind any other, one less is left
     pub row_next : {s2 cs2 : List ℕ} {a : Walk} → FactAnswers (onward p s1 cs1 p.tops.sp w) s2 cs2 (Ok a) → Row p n (done + 1) s2 cs2 a
-    row_next {s2} {cs2} {a} walk = record { asks = row.asks; going = further; silent = quiet; rest = λ sig x c. subst (λ (j : ℕ). Left p n sig x j s2 cs2 a) less (one_less sig x c) }
+    row_next {s2} {cs2} {a} walk =
+        record {
+          asks = row.asks;
+          going = further;
+          silent = quiet;
+          rest = λ sig x c. subst (λ (j : ℕ). Left p n sig x j s2 cs2 a) less (one_less sig x c);
+        }
       where
         less : left - 1 ≡ n - (done + 1)
         less = omega arith
@@ -114,7 +121,8 @@ module _ {p : Spot} {n done : ℕ} {s1 cs1 : List ℕ} {w : Walk} (row : Row p n
         one_less sig x c =
             let l = row.rest sig x c in
             by_first_lem sig p.ws
-            (λ fs k. ((s' cs' : List ℕ) (r : Result Walk Stopped) → WalkedFrom (onward p s1 cs1 p.tops.sp w) fs k s' cs' r → WalkedFrom p x.value x.size s' cs' r)
+            (λ fs k. ((s' cs' : List ℕ) (r : Result Walk Stopped) → WalkedFrom (onward p s1 cs1 p.tops.sp w) fs k s' cs' r
+            → WalkedFrom p x.value x.size s' cs' r)
             → Left p n sig x (left - 1) s2 cs2 a) left w.next l.rest (omega arith) (λ f fs wh. from_here f fs wh) l.whole
           where
             from_here : (f : FactAt sig p.ws w.next) (fs : FactsAt sig p.ws (left - 1) (w.next + f.size))

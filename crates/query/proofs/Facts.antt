@@ -130,7 +130,8 @@ module _ {p : Spot} {w : ℕ} (g : Begun p w) where
   -- it is no equality's: the fact is an expression, whose term goes nowhere
   module _ (ne : w ≡ equality_word → ⊥) where
     -- a law of the fact, from the expression
-    by_expr : (P : Fact → ℕ → Type 0) (sig : Sig) (x : FactAt sig p.ws p.at) → ((e : ExprAt sig p.ws max_depth p.at) → P (holds e.value) e.size) → P x.value x.size
+    by_expr : (P : Fact → ℕ → Type 0) (sig : Sig) (x : FactAt sig p.ws p.at) → ((e : ExprAt sig p.ws max_depth p.at) → P (holds e.value) e.size)
+        → P x.value x.size
     by_expr P sig x = holds_cases sig p.ws P p.at w x g.is ne
 
     pub holds_asked : ExprAsked p max_depth
@@ -252,7 +253,8 @@ pub record Righted (p : Spot) (w : ℕ) (s1 cs1 : List ℕ) (l : Walk) (s2 cs2 :
   pub walk : ExprAnswers (onward p s1 cs1 p.tops.sp l) max_depth s2 cs2 (Ok r)
   pub scratch : length s2 ≡ length p.s
 
-pub righted : {p : Spot} {w : ℕ} {s1 cs1 s2 cs2 : List ℕ} {l r : Walk} → Lefted p w s1 cs1 l → FlattensExpr p.ws max_depth l.next (tops_at l p.tops.sp) s1 cs1 s2 cs2 (Ok r)
+pub righted : {p : Spot} {w : ℕ} {s1 cs1 s2 cs2 : List ℕ} {l r : Walk} → Lefted p w s1 cs1 l
+    → FlattensExpr p.ws max_depth l.next (tops_at l p.tops.sp) s1 cs1 s2 cs2 (Ok r)
     → length s2 ≡ length p.s → Righted p w s1 cs1 l s2 cs2 r
 righted left walk scratch = record { left = left; walk = walk; scratch = scratch }
 
@@ -261,9 +263,12 @@ module _ {p : Spot} {w : ℕ} {s1 cs1 : List ℕ} {l : Walk} {s2 cs2 : List ℕ}
   pub three_room : r.to + 3 ≤ length s2
   three_room = by_sides o.left.start o.left.eq (λ f k. r.to + 3 ≤ length s2) o.left.start.asks.under.sig o.left.start.asks.under.known.0 (λ a b. fits a b)
     where
-      fits : (a : Left o.left.start o.left.eq o.left.start.asks.under.sig) (b : Right o.left.start o.left.eq o.left.start.asks.under.sig a) → r.to + 3 ≤ length s2
+      fits : (a : Left o.left.start o.left.eq o.left.start.asks.under.sig) (b : Right o.left.start o.left.eq o.left.start.asks.under.sig a)
+          → r.to + 3 ≤ length s2
       fits a b =
-          let u = went (and_then (flattened a.value p.cs) (flattened b.value)) (sides o.left o.walk o.left.start.asks.under.sig a b o.left.start.asks.under.known.1) in
+          let u =
+          went (and_then (flattened a.value p.cs) (flattened b.value))
+          (sides o.left o.walk o.left.start.asks.under.sig a b o.left.start.asks.under.known.1) in
           let i = b.inside in
           omega (arith, u.up_to, o.left.start.asks.room, o.scratch)
 

@@ -40,7 +40,8 @@ going_start at to sp lg t s cs =
       kept = kept_none to (to + 4 * 0) sp (sp + 0) lg (lg + 0) s cs (omega arith);
     }
 
-pub going_room : {at to sp lg top : ℕ} {s cs s1 cs1 : List ℕ} {w : Walk} (n len : ℕ) → Room n at (tops to sp lg) (length s) → len ≡ length s → Going at to sp lg s cs top s1 cs1 w
+pub going_room : {at to sp lg top : ℕ} {s cs s1 cs1 : List ℕ} {w : Walk} (n len : ℕ) → Room n at (tops to sp lg) (length s) → len ≡ length s
+    → Going at to sp lg s cs top s1 cs1 w
     → Room n w.next (tops_at w top) len
 going_room n len r e g =
     let a = g.next in
@@ -52,7 +53,8 @@ going_room n len r e g =
     record { words = omega (arith, r.words); stack = omega (arith, r.stack); log = omega (arith, r.log) }
 
 -- k words more are read, and t of them pushed
-pub going_next : {at to sp lg top m : ℕ} {s cs s1 cs1 s2 cs2 : List ℕ} {w a : Walk} (n k t : ℕ) → Room n at (tops to sp lg) (length s) → Going at to sp lg s cs top s1 cs1 w → w.next + k ≤ n
+pub going_next : {at to sp lg top m : ℕ} {s cs s1 cs1 s2 cs2 : List ℕ} {w a : Walk} (n k t : ℕ) → Room n at (tops to sp lg) (length s)
+    → Going at to sp lg s cs top s1 cs1 w → w.next + k ≤ n
     → Went m k w.next w.to w.log a → Kept w.to (w.to + 4 * k) top (top + k) w.log (w.log + k) s1 cs1 s2 cs2 a.log → t ≤ k
     → Going at to sp lg s cs (top + t) s2 cs2 a
 going_next {at} {to} {sp} {lg} {top} {m} {s} {cs} {s1} {cs1} {s2} {cs2} {w} {a} n k t r g i h kp le =
@@ -142,12 +144,14 @@ module _ (one : Expr → List ℕ → Res Piece) (all : Exprs → List ℕ → R
               whole =
                   λ s' cs' r z. wh s' cs' r
                   (rw (rowed.more f.value fs.value cs1)
-                  (walk_then f.size fs.size w.next w.to top (top + 1) w.log s1 cs1 s3 cs2 s' cs' a r2 (omega arith) (omega arith) left (OnStack top left w.log s')
+                  (walk_then f.size fs.size w.next w.to top (top + 1) w.log s1 cs1 s3 cs2 s' cs' a r2 (omega arith) (omega arith)
+                  left (OnStack top left w.log s')
                   (one f.value cs1) (all fs.value) (omega arith) first z
                   (λ b p q u v. stacked b p q left (omega arith) (omega (arith, g.up_to)) refl z.kept u v)));
             }
 
-    pub left_going : (a : Walk) → First (Ok a) → (s3 : List ℕ) → Room (length ws) at (tops to sp lg) (length s) → Going at to sp lg s cs top s1 cs1 w → s3 ≡ set s2 top a.term
+    pub left_going : (a : Walk) → First (Ok a) → (s3 : List ℕ) → Room (length ws) at (tops to sp lg) (length s) → Going at to sp lg s cs top s1 cs1 w
+        → s3 ≡ set s2 top a.term
         → Going at to sp lg s cs (top + 1) s3 cs2 a
     left_going a walk s3 start g put =
         first_cases sig ws (λ es k. Going at to sp lg s cs (top + 1) s3 cs2 a) d left w.next l.rest some (λ f fs. next f)

@@ -53,7 +53,8 @@ stop {to = to} {sp = sp} {lg = lg} k' at' (refuse n q) f w h =
 
 -- another reading of where the terms are
 pub with_terms : {m m' k at to sp lg : ℕ} {T T' : Walk → Piece → Type 0} {s cs s1 cs1 : List ℕ} {a : Walk} (x : Res Piece) (g : Piece → Piece)
-    → Walked m T x k at to sp lg s cs s1 cs1 (Ok a) → m' ≤ m → ((p : Piece) → ((g p).words ≡ p.words) × ((g p).next ≡ p.next)) → ((p : Piece) → T a p → T' a (g p))
+    → Walked m T x k at to sp lg s cs s1 cs1 (Ok a) → m' ≤ m → ((p : Piece) → ((g p).words ≡ p.words) × ((g p).next ≡ p.next))
+    → ((p : Piece) → T a p → T' a (g p))
     → Walked m' T' (◌>>=◌ x (λ p. ok (g p))) k at to sp lg s cs s1 cs1 (Ok a)
 with_terms {to = to} {s1 = s1} (ok p) g w h same j =
     let o = w.ended.0 in
@@ -86,7 +87,8 @@ placed {m} {k} {at} {to} {sp} {lg} {T} {T'} {s} {cs} {s1} {cs1} {a} at' b (ok p)
     }
 
 -- nothing is walked
-pub none_walked : {T : Walk → Piece → Type 0} (sp : ℕ) (s cs : List ℕ) (a : Walk) → T a (nothing cs) → Walked 0 T (ok (nothing cs)) 0 a.next a.to sp a.log s cs s cs (Ok a)
+pub none_walked : {T : Walk → Piece → Type 0} (sp : ℕ) (s cs : List ℕ) (a : Walk) → T a (nothing cs)
+    → Walked 0 T (ok (nothing cs)) 0 a.next a.to sp a.log s cs s cs (Ok a)
 none_walked sp s cs a h =
     record {
       kept = kept_none a.to (a.to + 4 * 0) sp (sp + 0) a.log (a.log + 0) s cs (omega arith);
@@ -111,7 +113,8 @@ module _ (k1 k2 at to sp sp2 lg : ℕ) (s cs s1 cs1 s2 cs2 : List ℕ) (a : Walk
       (kept_wide to (to + 4 * (k1 + k2)) sp (sp + (k1 + k2)) (lg + (k1 + k2)) one (omega arith) (omega arith) (omega arith) (omega arith) (omega arith))
       (kept_wide to (to + 4 * (k1 + k2)) sp (sp + (k1 + k2)) (lg + (k1 + k2)) (rest one u two) f (omega arith) (omega arith) (omega arith) (omega arith))
 
-  pub walk_then : {m1 m2 : ℕ} {T1 T2 : Walk → Piece → Type 0} {r : Result Walk Stopped} (m : ℕ) (T : Walk → Piece → Type 0) (x : Res Piece) (y : List ℕ → Res Piece)
+  pub walk_then : {m1 m2 : ℕ} {T1 T2 : Walk → Piece → Type 0} {r : Result Walk Stopped} (m : ℕ) (T : Walk → Piece → Type 0) (x : Res Piece)
+      (y : List ℕ → Res Piece)
       → m ≡ m1 + m2 → Walked m1 T1 x k1 at to sp lg s cs s1 cs1 (Ok a)
       → Walked m2 T2 (y cs1) k2 a.next a.to sp2 a.log s1 cs1 s2 cs2 r
       → ((b : Walk) (p q : Piece) → T1 a p → T2 b q → T b (both p q)) → Walked m T (and_then x y) (k1 + k2) at to sp lg s cs s2 cs2 r
@@ -148,7 +151,8 @@ module _ (k1 k2 at to sp sp2 lg : ℕ) (s cs s1 cs1 s2 cs2 : List ℕ) (a : Walk
 -- ---- the stack
 
 -- a word goes onto it
-pub stored : {m k at to sp lg : ℕ} {T T' : Walk → Piece → Type 0} {s cs s1 cs1 s2 : List ℕ} {a : Walk} (v : ℕ) (x : Res Piece) → Walked m T x k at to sp lg s cs s1 cs1 (Ok a)
+pub stored : {m k at to sp lg : ℕ} {T T' : Walk → Piece → Type 0} {s cs s1 cs1 s2 : List ℕ} {a : Walk} (v : ℕ) (x : Res Piece)
+    → Walked m T x k at to sp lg s cs s1 cs1 (Ok a)
     → s2 ≡ set s1 sp v → 0 < k → to + 4 * k ≤ sp → sp + k ≤ lg → lg + k ≤ length s → ((p : Piece) → get_or s2 sp 0 ≡ v → sp < length s2 → T a p → T' a p)
     → Walked m T' x k at to sp lg s cs s2 cs1 (Ok a)
 stored v (refuse n q) w put h r1 r2 r3 j = absurd w.ended
@@ -185,7 +189,8 @@ pushed {sp = sp} {s2 = s2} {a = a} x w put h r1 r2 r3 =
     (λ p here room t. record { size = ap length t.term; terms = part_one s2 sp a.term room here ∙ sym t.term; uses = t.uses })
 
 -- terms below those of a walk that follows stay where they are
-pub stacked : {to te sp m1 m2 se lg l1 le : ℕ} {s1 cs1 s2 cs2 : List ℕ} {a : Walk} {log : ℕ} (b : Walk) (p q : Piece) (n : ℕ) → n ≡ m1 + m2 → te ≤ sp → l1 ≡ a.log
+pub stacked : {to te sp m1 m2 se lg l1 le : ℕ} {s1 cs1 s2 cs2 : List ℕ} {a : Walk} {log : ℕ} (b : Walk) (p q : Piece) (n : ℕ) → n ≡ m1 + m2 → te ≤ sp
+    → l1 ≡ a.log
     → Kept to te (sp + m1) se l1 le s1 cs1 s2 cs2 log → OnStack sp m1 lg s1 a p → OnStack (sp + m1) m2 l1 s2 b q → OnStack sp n lg s2 b (both p q)
 stacked {sp = sp} {m1 = m1} {m2 = m2} {s1 = s1} {s2 = s2} b p q n e h el k u v =
     let l = length-append p.terms q.terms in
@@ -236,7 +241,8 @@ module _ (m K at to sp lg w log e t : ℕ) (s cs s2 cs2 s3 ys next : List ℕ) (
       }
 
 -- K words were read in all, of which the walk read k
-pub written : {m1 : ℕ} {T1 : Walk → Piece → Type 0} (m : ℕ) (T : Walk → Piece → Type 0) (k K at1 at to sp lg : ℕ) (s cs s1 cs1 s2 ys : List ℕ) (a : Walk) (e t : ℕ) (x : Res Piece)
+pub written : {m1 : ℕ} {T1 : Walk → Piece → Type 0} (m : ℕ) (T : Walk → Piece → Type 0) (k K at1 at to sp lg : ℕ) (s cs s1 cs1 s2 ys : List ℕ) (a : Walk)
+    (e t : ℕ) (x : Res Piece)
     (g : Piece → Piece) → to + 4 * K ≤ sp → sp + K ≤ lg → lg + K ≤ length s → k ≤ K → at1 + k ≡ at + K → 4 * k + (length ys + m) ≤ m1 + 4 * K
     → Walked m1 T1 x k at1 to sp lg s cs s1 cs1 (Ok a) → s2 ≡ splice s1 a.to ys → e ≡ a.to + length ys
     → ((p : Piece) → T1 a p → Own (T (reached_at a.next e a.log t)) p ys p.next (g p))
@@ -251,7 +257,8 @@ written m T k K at1 at to sp lg s cs s1 cs1 s2 ys a e t (ok p) g r1 r2 r3 h ha f
 -- ---- a fresh variable
 
 -- its counter is used up, before anything else
-pub full_first : {m : ℕ} {T : Walk → Piece → Type 0} (k at to sp lg : ℕ) (s cs s1 cs1 : List ℕ) (e : Stopped) (x : Res Fresh) (f : Fresh → Res Piece) → Taken x lg s cs s1 cs1 (Err e)
+pub full_first : {m : ℕ} {T : Walk → Piece → Type 0} (k at to sp lg : ℕ) (s cs s1 cs1 : List ℕ) (e : Stopped) (x : Res Fresh) (f : Fresh → Res Piece)
+    → Taken x lg s cs s1 cs1 (Err e)
     → Walked m T (◌>>=◌ x f) k at to sp lg s cs s1 cs1 (Err e)
 full_first k at to sp lg s cs s1 cs1 e (ok g) f u = absurd u
 full_first k at to sp lg s cs s1 cs1 e (refuse n p) f u =
@@ -271,7 +278,8 @@ module _ (k at to sp lg v : ℕ) (s cs s1 cs1 s2 cs2 : List ℕ)
       (kept_wide to (to + 4 * (1 + k)) sp (sp + (1 + k)) (lg + (1 + k)) w (omega arith) (omega arith) (omega arith) (omega arith) (omega arith))
 
   -- what follows is refused
-  pub first_stop : {m m' : ℕ} {T T' : Walk → Piece → Type 0} {e : Stopped} (x : Res Fresh) (y : List ℕ → Res Piece) (g : Fresh → Piece → Piece) → Taken x lg s cs s1 cs1 (Ok v)
+  pub first_stop : {m m' : ℕ} {T T' : Walk → Piece → Type 0} {e : Stopped} (x : Res Fresh) (y : List ℕ → Res Piece) (g : Fresh → Piece → Piece)
+      → Taken x lg s cs s1 cs1 (Ok v)
       → Walked m T (y cs1) k (at + 1) to sp (lg + 1) s1 cs1 s2 cs2 (Err e)
       → Walked m' T' (◌>>=◌ x (λ f. ◌>>=◌ (y f.next) (λ p. ok (g f p)))) (1 + k) at to sp lg s cs s2 cs2 (Err e)
   first_stop (refuse n p) y g u w = absurd u
@@ -284,7 +292,8 @@ module _ (k at to sp lg v : ℕ) (s cs s1 cs1 s2 cs2 : List ℕ)
       go (refuse n p) w = record { kept = entered f u w.kept; ended = w.ended }
 
   -- the words ys are written behind it
-  pub first_done : {n : ℕ} {T : Walk → Piece → Type 0} (m : ℕ) (T' : Walk → Piece → Type 0) (s3 ys : List ℕ) (a : Walk) (e t : ℕ) (x : Res Fresh) (y : List ℕ → Res Piece)
+  pub first_done : {n : ℕ} {T : Walk → Piece → Type 0} (m : ℕ) (T' : Walk → Piece → Type 0) (s3 ys : List ℕ) (a : Walk) (e t : ℕ) (x : Res Fresh)
+      (y : List ℕ → Res Piece)
       (g : Fresh → Piece → Piece) → length ys + m ≤ n + 4 → Taken x lg s cs s1 cs1 (Ok v)
       → Walked n T (y cs1) k (at + 1) to sp (lg + 1) s1 cs1 s2 cs2 (Ok a) → s3 ≡ splice s2 a.to ys → e ≡ a.to + length ys
       → ((f : Fresh) (p : Piece) → v ≡ f.var → T a p → Own (T' (reached_at a.next e a.log t)) p ys p.next (g f p))
@@ -304,7 +313,8 @@ module _ (k at to sp lg v : ℕ) (s cs s1 cs1 s2 cs2 : List ℕ)
 -- it is taken after a walk: K words were read in all, of which the walk read k. The place of the kind 3 word is q
 module _ (k K at1 at to sp lg h q : ℕ) (s cs s1 cs1 s2 cs2 : List ℕ) (a : Walk) where
   -- its counter is used up
-  pub full_last : {n m : ℕ} {T T' : Walk → Piece → Type 0} {e : Stopped} (x : Res Piece) (g : Piece → Fresh → Piece) → k ≤ K → Walked n T x k at1 to sp lg s cs s1 cs1 (Ok a)
+  pub full_last : {n m : ℕ} {T T' : Walk → Piece → Type 0} {e : Stopped} (x : Res Piece) (g : Piece → Fresh → Piece) → k ≤ K
+      → Walked n T x k at1 to sp lg s cs s1 cs1 (Ok a)
       → Taken (fresh q h cs1) a.log s1 cs1 s2 cs2 (Err e)
       → Walked m T' (◌>>=◌ x (λ p. ◌>>=◌ (fresh q h p.next) (λ f. ok (g p f)))) K at to sp lg s cs s2 cs2 (Err e)
   full_last (refuse i p) g le w u = absurd w.ended
@@ -322,7 +332,8 @@ module _ (k K at1 at to sp lg h q : ℕ) (s cs s1 cs1 s2 cs2 : List ℕ) (a : Wa
           }
 
   -- the words ys are written behind what the walk wrote
-  module _ (v n m : ℕ) (T : Walk → Piece → Type 0) (s3 ys : List ℕ) (e t : ℕ) (wordsRoom : to + 4 * K ≤ sp) (stackRoom : sp + K ≤ lg) (logRoom : lg + K ≤ length s)
+  module _ (v n m : ℕ) (T : Walk → Piece → Type 0) (s3 ys : List ℕ) (e t : ℕ) (wordsRoom : to + 4 * K ≤ sp) (stackRoom : sp + K ≤ lg)
+      (logRoom : lg + K ≤ length s)
       (less : 1 + k ≤ K) (many : n ≤ k) (ends : at1 + k ≡ at + K) (few : 4 * k + (length ys + m) ≤ n + 4 * K) (hc : length cs2 ≡ length cs1)
       (put : s3 ≡ splice s2 a.to ys) (there : e ≡ a.to + length ys) where
     logs : (f : Fresh) → Taken (ok f) a.log s1 cs1 s2 cs2 (Ok v) → Kept to (to + 4 * k) sp (sp + k) lg (lg + k) s cs s1 cs1 a.log → a.to ≤ sp
@@ -364,19 +375,22 @@ module _ (k K at1 at to sp lg h q : ℕ) (s cs s1 cs1 s2 cs2 : List ℕ) (a : Wa
             {T = T} a.next (omega (arith, o.next)) u.next (own p f on u.var)
 
 -- a walk that is done tells no term where its piece says so
-pub none_told : {m k at to sp lg : ℕ} {T : Walk → Piece → Type 0} {s cs s1 cs1 : List ℕ} {a : Walk} (x : Res Piece) → Walked m T x k at to sp lg s cs s1 cs1 (Ok a)
+pub none_told : {m k at to sp lg : ℕ} {T : Walk → Piece → Type 0} {s cs s1 cs1 : List ℕ} {a : Walk} (x : Res Piece)
+    → Walked m T x k at to sp lg s cs s1 cs1 (Ok a)
     → ((p : Piece) → T a p → a.term ≡ 0) → a.term ≡ 0
 none_told (ok p) w j = j p w.ended.1
 none_told (refuse n q) w j = absurd w.ended
 
 -- of a walk that is refused nothing is said of a piece
-pub halted : {m m' k at to sp lg : ℕ} {T T' : Walk → Piece → Type 0} {s cs s1 cs1 : List ℕ} {e : Stopped} (x : Res Piece) → Walked m T x k at to sp lg s cs s1 cs1 (Err e)
+pub halted : {m m' k at to sp lg : ℕ} {T T' : Walk → Piece → Type 0} {s cs s1 cs1 : List ℕ} {e : Stopped} (x : Res Piece)
+    → Walked m T x k at to sp lg s cs s1 cs1 (Err e)
     → Walked m' T' x k at to sp lg s cs s1 cs1 (Err e)
 halted (ok p) w = absurd w.ended
 halted (refuse n q) w = record { kept = w.kept; ended = w.ended }
 
 -- the same walk, more said of its piece
-pub retold : {m k at to sp lg : ℕ} {T T' : Walk → Piece → Type 0} {s cs s1 cs1 : List ℕ} {r : Result Walk Stopped} (x : Res Piece) → Walked m T x k at to sp lg s cs s1 cs1 r
+pub retold : {m k at to sp lg : ℕ} {T T' : Walk → Piece → Type 0} {s cs s1 cs1 : List ℕ} {r : Result Walk Stopped} (x : Res Piece)
+    → Walked m T x k at to sp lg s cs s1 cs1 r
     → ((a : Walk) (p : Piece) → T a p → T' a p) → Walked m T' x k at to sp lg s cs s1 cs1 r
 retold {r = Ok a} (ok p) w j = record { kept = w.kept; ended = (w.ended.0, j a p w.ended.1) }
 retold {r = Err e} (refuse n q) w j = record { kept = w.kept; ended = w.ended }

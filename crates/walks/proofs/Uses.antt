@@ -42,7 +42,8 @@ module _ {own w n sp q : ℕ} {s1 cs1 : List ℕ} {a : Walk} {s2 cs2 : List ℕ}
   used_none o g = full_last t.behind size (at + front) at to sp lg (head_of w) q s cs s1 cs1 s2 cs2 a x g (omega (arith, t.whole)) t.walk o.taken
 
   -- the own words xs and the terms are written, up to e, which leaves s3
-  pub used_done : {v : ℕ} (o : Used own w n sp q s1 cs1 a s2 cs2 (Ok v)) (m : ℕ) (T : Walk → Piece → Type 0) (s3 xs : List ℕ) (e u : ℕ) (g : Piece → Fresh → Piece)
+  pub used_done : {v : ℕ} (o : Used own w n sp q s1 cs1 a s2 cs2 (Ok v)) (m : ℕ) (T : Walk → Piece → Type 0) (s3 xs : List ℕ) (e u : ℕ)
+      (g : Piece → Fresh → Piece)
       → own ≡ length xs → 1 ≤ front → own + m ≤ 4 * front → (e ≡ a.to + own + n) × (s3 ≡ splice s2 a.to (xs ++ part s2 sp n))
       → ((p : Piece) (f : Fresh) → OnStack sp n lg s2 a p → v ≡ f.var → Own (T (reached_at a.next e (a.log + 1) u)) p (xs ++ part s2 sp n) f.next (g p f))
       → Walked m T (and_use q (head_of w) x g) size at to sp lg s cs s3 cs2 (Ok (reached_at a.next e (a.log + 1) u))

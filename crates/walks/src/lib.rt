@@ -22,7 +22,8 @@ pub struct Tops {
     pub log: usize,
 }
 
-// The answer of a walk: the places behind what was read, behind what was written and behind what was logged, and the term, or 0 where there is none.
+// The answer of a walk: the places behind what was read, behind what was written and behind what was logged, and the term of an expression. Of a row it
+// is 0: in an `Option` each walk over an expression would take out what it knows to be there.
 #[derive(Clone, Copy)]
 pub struct Walk {
     pub next: usize,

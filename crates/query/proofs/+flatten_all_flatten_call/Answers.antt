@@ -18,7 +18,8 @@ use Rattle.query.proofs.+flatten_all_flatten_call.Goals as goal
 pub flatten_all-overflow_add-top-end : goal.flatten_all-overflow_add-top-end
 flatten_all-overflow_add-top-end t c =
     let a = c.args in
-    omega (arith, row_fits {p = spot_of (words a.rule.now) (words a.scratch.now) (words a.counters.now) a.at a.tops} a.depth a.n c.requires, length_words a.scratch.now)
+    let spot = spot_of (words a.rule.now) (words a.scratch.now) (words a.counters.now) a.at a.tops in
+    omega (arith, row_fits {p = spot} a.depth a.n c.requires, length_words a.scratch.now)
 
 pub flatten_all-loop-top-init : goal.flatten_all-loop-top-init
 flatten_all-loop-top-init t c = row_start c.requires
@@ -95,8 +96,8 @@ pub flatten_call-put_around-to-requires : goal.flatten_call-put_around-to-requir
 flatten_call-put_around-to-requires t c =
     let v = c.take in
     let front =
-    fronted _ _ _ (2 ^ 32 - 1) c.requires.asks c.requires.call c.head_word-call.ensures c.in_ok-v.ensures (length_words_kept _ _ v.auto.counters) (length_words_kept _ _ v.auto.scratch)
-    c.leaves-k.ensures (length_words_kept _ _ c.leaves-k.auto.scratch) in
+    fronted _ _ _ (2 ^ 32 - 1) c.requires.asks c.requires.call c.head_word-call.ensures c.in_ok-v.ensures
+    (length_words_kept _ _ v.auto.counters) (length_words_kept _ _ v.auto.scratch) c.leaves-k.ensures (length_words_kept _ _ c.leaves-k.auto.scratch) in
     around_room front
 
 pub flatten_call-overflow_add-result : goal.flatten_call-overflow_add-result
@@ -108,8 +109,8 @@ pub flatten_call-returns-then-k-n : goal.flatten_call-returns-then-k-n
 flatten_call-returns-then-k-n t c =
     let v = c.take in
     let front =
-    fronted _ _ _ (2 ^ 32 - 1) c.requires.asks c.requires.call c.head_word-call.ensures c.in_ok-v.ensures (length_words_kept _ _ v.auto.counters) (length_words_kept _ _ v.auto.scratch)
-    c.leaves-k.ensures (length_words_kept _ _ c.leaves-k.auto.scratch) in
+    fronted _ _ _ (2 ^ 32 - 1) c.requires.asks c.requires.call c.head_word-call.ensures c.in_ok-v.ensures
+    (length_words_kept _ _ v.auto.counters) (length_words_kept _ _ v.auto.scratch) c.leaves-k.ensures (length_words_kept _ _ c.leaves-k.auto.scratch) in
     let e = c.put_around-to.ensures in
     leaves_answer front _ _ c.if-k-n.true e.0 e.1
 
@@ -119,8 +120,8 @@ pub flatten_call-flatten_all-requires : goal.flatten_call-flatten_all-requires
 flatten_call-flatten_all-requires t c =
     let v = c.take in
     let front =
-    fronted _ _ _ (2 ^ 32 - 1) c.requires.asks c.requires.call c.head_word-call.ensures c.in_ok-v.ensures (length_words_kept _ _ v.auto.counters) (length_words_kept _ _ v.auto.scratch)
-    c.leaves-k.ensures (length_words_kept _ _ c.leaves-k.auto.scratch) in
+    fronted _ _ _ (2 ^ 32 - 1) c.requires.asks c.requires.call c.head_word-call.ensures c.in_ok-v.ensures
+    (length_words_kept _ _ v.auto.counters) (length_words_kept _ _ v.auto.scratch) c.leaves-k.ensures (length_words_kept _ _ c.leaves-k.auto.scratch) in
     let f = front.start.facts in
     (omega (arith, c.decreases, f.inside, f.deep), args_asked front)
 
@@ -128,8 +129,8 @@ pub flatten_call-returns-in_err-args : goal.flatten_call-returns-in_err-args
 flatten_call-returns-in_err-args t c =
     let v = c.take in
     let front =
-    fronted _ _ _ (2 ^ 32 - 1) c.requires.asks c.requires.call c.head_word-call.ensures c.in_ok-v.ensures (length_words_kept _ _ v.auto.counters) (length_words_kept _ _ v.auto.scratch)
-    c.leaves-k.ensures (length_words_kept _ _ c.leaves-k.auto.scratch) in
+    fronted _ _ _ (2 ^ 32 - 1) c.requires.asks c.requires.call c.head_word-call.ensures c.in_ok-v.ensures
+    (length_words_kept _ _ v.auto.counters) (length_words_kept _ _ v.auto.scratch) c.leaves-k.ensures (length_words_kept _ _ c.leaves-k.auto.scratch) in
     let p = err_from_is_err_and c.from_residual-in_err-args.result c.from_residual-in_err-args.ensures.1 in
     rw (p.1, p.2) (args_refused front c.in_err-args.ensures)
 
@@ -137,15 +138,15 @@ pub flatten_call-put_atom-to-requires : goal.flatten_call-put_atom-to-requires
 flatten_call-put_atom-to-requires t c =
     let v = c.take in
     let front =
-    fronted _ _ _ (2 ^ 32 - 1) c.requires.asks c.requires.call c.head_word-call.ensures c.in_ok-v.ensures (length_words_kept _ _ v.auto.counters) (length_words_kept _ _ v.auto.scratch)
-    c.leaves-k.ensures (length_words_kept _ _ c.leaves-k.auto.scratch) in
+    fronted _ _ _ (2 ^ 32 - 1) c.requires.asks c.requires.call c.head_word-call.ensures c.in_ok-v.ensures
+    (length_words_kept _ _ v.auto.counters) (length_words_kept _ _ v.auto.scratch) c.leaves-k.ensures (length_words_kept _ _ c.leaves-k.auto.scratch) in
     atom_asks front c.in_ok-args.ensures (length_words_kept _ _ c.flatten_all.auto.scratch)
 
 pub flatten_call-returns : goal.flatten_call-returns
 flatten_call-returns t c =
     let v = c.take in
     let front =
-    fronted _ _ _ (2 ^ 32 - 1) c.requires.asks c.requires.call c.head_word-call.ensures c.in_ok-v.ensures (length_words_kept _ _ v.auto.counters) (length_words_kept _ _ v.auto.scratch)
-    c.leaves-k.ensures (length_words_kept _ _ c.leaves-k.auto.scratch) in
+    fronted _ _ _ (2 ^ 32 - 1) c.requires.asks c.requires.call c.head_word-call.ensures c.in_ok-v.ensures
+    (length_words_kept _ _ v.auto.counters) (length_words_kept _ _ v.auto.scratch) c.leaves-k.ensures (length_words_kept _ _ c.leaves-k.auto.scratch) in
     let e = c.put_atom-to.ensures in
     call_answer front c.in_ok-args.ensures (length_words_kept _ _ c.flatten_all.auto.scratch) _ _ e.0 e.1

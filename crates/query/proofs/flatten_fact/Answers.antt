@@ -1,5 +1,5 @@
--- Flattening a fact: one that is no equality is flattened as an expression, whose term is not told; of an equality the left side, then the right one from where the left one
--- ended, and its own atom behind both. What is known at a place of the code is said once, as a record of `Facts`. Assumes nothing.
+-- Flattening a fact: one that is no equality is flattened as an expression, whose term is not told; of an equality the left side, then the right one
+-- from where the left one ended, and its own atom behind both. What is known at a place of the code is said once, as a record of `Facts`. Assumes nothing.
 use native.Mathlib.Omega.{arith}
 use Rattle.std.proofs.lemmas.Result.{err_from_is_err_and}
 use mathlib.Core.Path.{◌∙◌}
@@ -38,14 +38,16 @@ pub flatten-requires-3 : goal.flatten-requires-3
 flatten-requires-3 c =
     let l = c.flatten-2 in
     let left =
-    lefted c.requires c.get-w.ensures.is c.if-w-ne-EQUALITY.false c.in_ok-left.ensures (length_words_kept _ _ l.auto.counters) (length_words_kept _ _ l.auto.scratch) in
+    lefted c.requires c.get-w.ensures.is c.if-w-ne-EQUALITY.false c.in_ok-left.ensures (length_words_kept _ _ l.auto.counters)
+    (length_words_kept _ _ l.auto.scratch) in
     rw c.tops.ensures (right_asked left)
 
 pub returns-in_err-right : goal.returns-in_err-right
 returns-in_err-right c =
     let l = c.flatten-2 in
     let left =
-    lefted c.requires c.get-w.ensures.is c.if-w-ne-EQUALITY.false c.in_ok-left.ensures (length_words_kept _ _ l.auto.counters) (length_words_kept _ _ l.auto.scratch) in
+    lefted c.requires c.get-w.ensures.is c.if-w-ne-EQUALITY.false c.in_ok-left.ensures (length_words_kept _ _ l.auto.counters)
+    (length_words_kept _ _ l.auto.scratch) in
     let p = err_from_is_err_and c.from_residual-in_err-right.result c.from_residual-in_err-right.ensures.1 in
     rw (p.1, p.2) (right_refused left (rw c.tops.ensures at c.in_err-right.ensures))
 
@@ -55,7 +57,8 @@ pub put_three-to-requires : goal.put_three-to-requires
 put_three-to-requires c =
     let l = c.flatten-2 in
     let left =
-    lefted c.requires c.get-w.ensures.is c.if-w-ne-EQUALITY.false c.in_ok-left.ensures (length_words_kept _ _ l.auto.counters) (length_words_kept _ _ l.auto.scratch) in
+    lefted c.requires c.get-w.ensures.is c.if-w-ne-EQUALITY.false c.in_ok-left.ensures (length_words_kept _ _ l.auto.counters)
+    (length_words_kept _ _ l.auto.scratch) in
     let r = c.flatten-3 in
     let right = righted left (rw c.tops.ensures at c.in_ok-right.ensures) (length_words_kept _ _ (r.auto.scratch ∙ l.auto.scratch)) in
     three_room right
@@ -64,7 +67,8 @@ pub returns : goal.returns
 returns c =
     let l = c.flatten-2 in
     let left =
-    lefted c.requires c.get-w.ensures.is c.if-w-ne-EQUALITY.false c.in_ok-left.ensures (length_words_kept _ _ l.auto.counters) (length_words_kept _ _ l.auto.scratch) in
+    lefted c.requires c.get-w.ensures.is c.if-w-ne-EQUALITY.false c.in_ok-left.ensures (length_words_kept _ _ l.auto.counters)
+    (length_words_kept _ _ l.auto.scratch) in
     let r = c.flatten-3 in
     let right = righted left (rw c.tops.ensures at c.in_ok-right.ensures) (length_words_kept _ _ (r.auto.scratch ∙ l.auto.scratch)) in
     let e = c.put_three-to.ensures in
