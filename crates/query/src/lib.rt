@@ -36,7 +36,9 @@ fn flatten(
             term: w,
         });
     }
-    flatten_call(rule, at, w, depth, counters, scratch, tops)
+    // Taken out and given anew: were it handed through, a leaf's answer would be made in memory too, and waited for there.
+    let walk = flatten_call(rule, at, w, depth, counters, scratch, tops)?;
+    Ok(walk)
 }
 
 // Makes an atom of the n words that stand behind the one at `at`: its head word goes before them, and its output behind. Returns the place

@@ -1,5 +1,6 @@
 -- Flattening an expression: a name or a literal is its own term, and a call is flattened as its own contract says. Assumes nothing.
 use native.Mathlib.Omega.{arith}
+use Rattle.std.proofs.lemmas.Result.{err_from_is_err_and}
 use Rattle.octets.specs.Words.{words}
 use Rattle.octets.proofs.Words.{length_words}
 use Rattle.walks.proofs.Asks.{expr_inside}
@@ -24,3 +25,8 @@ returns-then-is_leaf c =
 
 pub flatten_call-requires : goal.flatten_call-requires
 flatten_call-requires c = record { asks = c.requires; call = (c.get-w.ensures.is, call_low c.is_leaf.ensures c.if-is_leaf.false) }
+
+pub returns-in_err-walk : goal.returns-in_err-walk
+returns-in_err-walk c =
+    let p = err_from_is_err_and c.from_residual.result c.from_residual.ensures.1 in
+    rw (p.1, p.2) c.in_err-walk.ensures
