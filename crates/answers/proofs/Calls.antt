@@ -12,7 +12,9 @@ use Rattle.octets.proofs.Words.{length_words_kept}
 use Rattle.rules.specs.Refusals.{Res, ok, refuse, ◌>>=◌, demand, short_output, ragged}
 use Rattle.rules.specs.Signature.{Sig}
 use Rattle.rules.specs.Calls.{Result, output_fits, whole_words, Outcome, outcome_of}
-use Rattle.refusals.specs.Numbers.{told}
+use Rattle.refusals.specs.Numbers.{number_of, told}
+use Rattle.refusals.specs.declared.Reason.{Reason}
+use Rattle.refusals.specs.declared.Refusal.{Refusal}
 use Rattle.signature.specs.Signature.{sign_of}
 use Rattle.signature.specs.declared.Signature.{Signature}
 use Rattle.free_vars.specs.Head.{WroteIfRoom}
@@ -21,6 +23,11 @@ use Rattle.answers.specs.Answers.{refused_with, answer_of, GivesBoth}
 use Rattle.meaning.proofs.Results.{ok_inj}
 use Rattle.answers.proofs.Tests.{Front, tested, front, Passed, Fate, fate}
 use Rattle.answers.proofs.Ends.{ends_short, ends_written}
+
+-- an answer that is made of a refusal
+pub from_refusal : {r : Refusal} {m : Reason} {p : ℕ} {a : Answer} → (r.reason ≡ m) × (r.place ≡ p) → a ≡ refused_with (number_of r.reason) r.place
+    → a ≡ refused_with (number_of m) p
+from_refusal is e = rw (is.0, is.1) at e
 
 -- the bytes that a call is lent; those that it has no use for are none
 pub record Given : Type 0 where

@@ -48,7 +48,7 @@ module _ (k : Given) where
     good = record { few = (signature_sound (words k.signature) y.sig y.passed.signature).few_heads; read = y.passed.reads }
 
     globals : g.globals ≡ y.sig.globals
-    globals = ap (λ (x : Signature). x.globals) y.told
+    globals = ap (λ (x : Signature). x.globals) y.told_of
 
     pub free_asks : GoodUnder (words k.rule) g.globals
     free_asks = record { some = record { sig = y.sig; rule = y.passed.rule; good = good }; globals = globals }

@@ -14,6 +14,7 @@ use Rattle.rules.specs.Written.{Rule}
 use Rattle.rules.specs.ToCoreActions.{CoreRule, to_core_rule}
 use Rattle.rules.specs.RemoveDupVars.{settle}
 use Rattle.rules.specs.Calls.{Result, settled_result, lower_rule, whole_words, lower}
+use Rattle.refusals.specs.Numbers.{told}
 use Rattle.signature.specs.Signature.{sign_of}
 use Rattle.signature.specs.declared.Signature.{Signature}
 use Rattle.answers.specs.declared.Answer.{Answer}
@@ -54,19 +55,19 @@ module _ (k : Given) where
       record { all = all; output = every_whole (lowering k).lengths all 3; counters = every_whole (lowering k).lengths all 2 }
 
   -- m counters and n words of scratch are counted
-  pub lower_front : {m n : ℕ} → m ≡ length (words k.counters) → n ≡ length (words k.scratch) → {g : Signature}
-      → g ≡ sign_of (written_front (words k.signature) (words k.rule) m n) → g ≡ sign_of (front (lowering k).tests)
+  pub lower_front : {m n : ℕ} → m ≡ length (words k.counters) → n ≡ length (words k.scratch) → {x : Res Signature}
+      → x ≡ told sign_of (written_front (words k.signature) (words k.rule) m n) → x ≡ told sign_of (front (lowering k).tests)
   lower_front {m} {n} em en is =
-      is ∙ ap (λ (i : ℕ). sign_of (written_front (words k.signature) (words k.rule) i n)) em
-      ∙ ap (λ (i : ℕ). sign_of (written_front (words k.signature) (words k.rule) (length (words k.counters)) i)) (en ∙ length_words k.scratch)
+      is ∙ ap (λ (i : ℕ). told sign_of (written_front (words k.signature) (words k.rule) i n)) em
+      ∙ ap (λ (i : ℕ). told sign_of (written_front (words k.signature) (words k.rule) (length (words k.counters)) i)) (en ∙ length_words k.scratch)
 
   module _ {g : Signature} (y : Ready (lowering k) g) where
     under : WrittenUnder (words k.signature) (words k.rule) g y.sig y.passed.rule
     under =
         record {
           signed = y.passed.signature;
-          globals = ap (λ (x : Signature). x.globals) y.told;
-          equals = ap (λ (x : Signature). x.equals) y.told;
+          globals = ap (λ (x : Signature). x.globals) y.told_of;
+          equals = ap (λ (x : Signature). x.equals) y.told_of;
           written = y.passed.reads;
           short = y.passed.short;
         }

@@ -4,13 +4,14 @@
 ghost use Rattle.std.specs.Prelude.{◌≡◌, [], ◌∷◌, length};
 ghost use Rattle.octets.specs.Words.{words};
 ghost use Rattle.rules.specs.Calls.{whole_words, lower};
-ghost use Rattle.answers.specs.Answers.{GivesBoth, scratch_written, Beyond};
+ghost use Rattle.answers.specs.Answers.{GivesBoth, scratch_written, Beyond, refused_with};
 ghost use Rattle.lower_call.specs.Lower.{LowerAsks, LowersRead, not_lowered, accepted_with, answer_of};
 
 use answers::fronts::written_front;
-use answers::{Answer, RAGGED, SHORT_OUTPUT, all_whole, refused, whole};
+use answers::{Answer, all_whole, whole};
 use bodies::terms::Sign;
 use emitting::Actions;
+use refusals::Reason;
 use signature::Signature;
 
 // The bytes of scratch that are lent on for each word of the rule: 32 words.
@@ -50,6 +51,19 @@ fn accepted(needed: usize, replacements: usize, passes: usize) -> Lowered
         needed,
         replacements,
         passes,
+    }
+}
+
+// What the call answers where lowering refuses.
+fn refused(number: u32, place: usize) -> Answer
+    ensures { result ≡ refused_with number place }
+{
+    Answer {
+        number: number as u64,
+        place: place as u64,
+        words: 0,
+        replacements: 0,
+        passes: 0,
     }
 }
 
@@ -110,10 +124,7 @@ fn lower_good(
 fn both_whole(a: &[u8], b: &[u8]) -> bool
     ensures { result ≡ whole_words (length a.now ∷ length b.now ∷ []) }
 {
-    if !whole(a) {
-        return false;
-    }
-    whole(b)
+    whole(a) && whole(b)
 }
 
 // A written rule, lowered and settled. The scratch is cut before it is lent on, so that nothing behind the cut can be read or written.
@@ -131,14 +142,14 @@ pub fn lower_bytes(
 {
     let rest = both_whole(output, scratch);
     if !all_whole(signature, rule, counters, rest) {
-        return refused(RAGGED, 0);
+        return Answer::from(Reason::Ragged.at(0));
     }
     let many = octets::count(counters);
     let room = octets::count(scratch);
-    let sign = written_front(signature, rule, many, room);
-    if sign.refused != 0 {
-        return refused(sign.refused, sign.place);
-    }
+    let sign = match written_front(signature, rule, many, room) {
+        Ok(sign) => sign,
+        Err(refusal) => return Answer::from(refusal),
+    };
     let size = octets::count(rule);
     let lowered = lower_good(
         signature,
@@ -149,10 +160,10 @@ pub fn lower_bytes(
         &mut scratch[..LENT * size],
     );
     if lowered.refused != 0 {
-        return refused(lowered.refused as usize, lowered.place);
+        return refused(lowered.refused, lowered.place);
     }
     if octets::count(output) < lowered.needed {
-        return refused(SHORT_OUTPUT, lowered.needed);
+        return Answer::from(Reason::ShortOutput.at(lowered.needed));
     }
     answer(lowered)
 }

@@ -18,12 +18,14 @@ use Rattle.rules.specs.Written.{read_word, read_row}
 use Rattle.rules.specs.Flat.{Atom, FlatRule, atom_words, action_words, words_of, read_atom, read_core_action, read_flat}
 use Rattle.rules.specs.RemoveDupVars as rules
 use Rattle.words.proofs.Ranges.{within_true}
-use Rattle.meaning.proofs.Results.{bind_ok, demand_ok}
+use Rattle.meaning.proofs.Results.{ok_inj, bind_ok, demand_ok}
 use Rattle.meaning.proofs.ReadSizes.{row_size, word_size}
 use Rattle.meaning.proofs.ReadFlatSizes.{total_words, atom_size_lem, flat_size}
 use Rattle.meaning.proofs.ResultBounds.{settled_counts}
-use Rattle.written.specs.Written.{with_heads, ending, ending_of}
-use Rattle.written.specs.declared.Ending.{Ending}
+use Rattle.std.specs.Prelude.{Result, Ok, Err, IsOk}
+use Rattle.refusals.specs.Numbers.{said}
+use Rattle.refusals.specs.declared.Refusal.{Refusal}
+use Rattle.written.specs.Written.{with_heads, ending_of}
 use Rattle.signature.specs.declared.Signature.{Signature}
 use Rattle.records.proofs.FlatWords.{word_read, row_spelled, atom_spelled, action_spelled, flat_spelled}
 use Rattle.records.proofs.FlatWhole.{flat_with}
@@ -43,7 +45,7 @@ record Parted (t : Sig) (ws : List ℕ) (f : FlatRule) : Type 0 where
   header : is_header_word (get_or ws 0 0) ≡ true
   atoms : length f.atoms ≡ facts_of (get_or ws 0 0)
   actions : length f.actions ≡ actions_of (get_or ws 0 0)
-  ends : ending_of (read_row (read_atom t ws) (facts_of (get_or ws 0 0)) 1) ≡ ending 0 (1 + length (words_of atom_words f.atoms))
+  ends : ending_of (read_row (read_atom t ws) (facts_of (get_or ws 0 0)) 1) ≡ ok (1 + length (words_of atom_words f.atoms))
 
 parted : (t : Sig) (ws : List ℕ) (f : FlatRule) → read_flat t ws ≡ ok f → Parted t ws f
 parted t ws f e =
@@ -65,7 +67,7 @@ parted t ws f e =
       ends =
           ap (λ (n : ℕ). ending_of (read_row (read_atom t ws) (facts_of n) 1)) (sym k.0)
           ∙ ap (λ (n : ℕ). ending_of (read_row (read_atom t ws) (facts_of h.0.value) n)) (sym k.1)
-          ∙ ap ending_of a.1 ∙ ap (ending 0) at-is;
+          ∙ ap ending_of a.1 ∙ ap ok at-is;
     })
 
 at_whole : (l : List ℕ) → At l l 0
@@ -126,13 +128,24 @@ pub record Found {ws : List ℕ} {g : Signature} {l : List ℕ} {w : ℕ} (b : B
   pub short : length ws ≤ max_flat
 
 module _ {ws : List ℕ} {g : Signature} {l : List ℕ} {w : ℕ} (b : Begun ws g l w) where
-  pub found : {r : Ending} → r ≡ ending_of (read_row (read_atom (with_heads g.heads) ws) ((w - header_base) / limit12) 1) → Found b r.at
-  found {r} walked =
-      let ends : (t : SomeFlat ws g) → r.at ≡ 1 + length (atoms_there t) =
-      λ t. ap (λ (v : Ending). v.at) (walked ∙ ap (λ (n : ℕ). ending_of (read_row (read_atom (with_heads g.heads) ws) (facts_of n) 1)) b.is ∙ (known t).ends) in
-      let e = ends b.some in
-      let s = size b.some in
-      record { ends = ends; from = omega arith; inside = omega arith; short = b.some.under.short }
+  module _ (r : Result ℕ Refusal) (walked : said r ≡ ending_of (read_row (read_atom (with_heads g.heads) ws) ((w - header_base) / limit12) 1)) where
+    ends_at : (t : SomeFlat ws g) → said r ≡ ok (1 + length (atoms_there t))
+    ends_at t = walked ∙ ap (λ (n : ℕ). ending_of (read_row (read_atom (with_heads g.heads) ws) (facts_of n) 1)) b.is ∙ (known t).ends
+
+    -- so the walk over them is not refused
+    pub read_well : IsOk r
+    read_well = go r (ends_at b.some)
+      where
+        go : (r : Result ℕ Refusal) → said r ≡ ok (1 + length (atoms_there b.some)) → IsOk r
+        go (Ok e) h = search
+        go (Err n) h = cc
+
+    pub found : {e : ℕ} → r ≡ Ok e → Found b e
+    found {e} is =
+        let ends : (t : SomeFlat ws g) → e ≡ 1 + length (atoms_there t) = λ t. ok_inj _ _ (ap said (sym is) ∙ ends_at t) in
+        let z = ends b.some in
+        let s = size b.some in
+        record { ends = ends; from = omega arith; inside = omega arith; short = b.some.under.short }
 
 module _ {ws : List ℕ} {g : Signature} {l : List ℕ} {w : ℕ} {b : Begun ws g l w} {at : ℕ} (f : Found b at) where
   pub copy_asks : (0 + (at - 1) ≤ length l) × (1 + (at - 1) ≤ length ws)

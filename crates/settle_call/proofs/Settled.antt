@@ -8,7 +8,8 @@ use lib.ListN.{length, take}
 use lib.Dec.{eqb}
 use Rattle.octets.specs.Words.{words}
 use Rattle.octets.proofs.Words.{length_words}
-use Rattle.rules.specs.Refusals.{ok}
+use Rattle.rules.specs.Refusals.{Res, ok}
+use Rattle.refusals.specs.Numbers.{told}
 use Rattle.rules.specs.Signature.{Sig}
 use Rattle.rules.specs.Flat.{FlatRule}
 use Rattle.rules.specs.RemoveDupVars.{settle}
@@ -56,9 +57,9 @@ module _ (k : Given) where
   settle_whole test h = record { all = sym test ∙ h; output = every_whole (settling k).lengths (sym test ∙ h) 2; counters = refl }
 
   -- n words of scratch are counted
-  pub settle_front : {n : ℕ} → n ≡ length (words k.scratch) → {g : Signature} → g ≡ sign_of (flat_front (words k.signature) (words k.rule) n)
-      → g ≡ sign_of (front (settling k).tests)
-  settle_front e is = is ∙ ap (λ (n : ℕ). sign_of (flat_front (words k.signature) (words k.rule) n)) (e ∙ length_words k.scratch)
+  pub settle_front : {n : ℕ} → n ≡ length (words k.scratch) → {x : Res Signature} → x ≡ told sign_of (flat_front (words k.signature) (words k.rule) n)
+      → x ≡ told sign_of (front (settling k).tests)
+  settle_front e is = is ∙ ap (λ (n : ℕ). told sign_of (flat_front (words k.signature) (words k.rule) n)) (e ∙ length_words k.scratch)
 
   module _ {g : Signature} (y : Ready (settling k) g) where
     under : FlatUnder (words k.rule) g y.sig y.passed.rule
@@ -66,9 +67,9 @@ module _ (k : Given) where
         let p = y.passed in
         let sound = signature_sound (words k.signature) y.sig p.signature in
         record {
-          same_heads = ap (λ (x : Signature). x.heads) y.told;
-          same_globals = ap (λ (x : Signature). x.globals) y.told;
-          same_equals = ap (λ (x : Signature). x.equals) y.told;
+          same_heads = ap (λ (x : Signature). x.heads) y.told_of;
+          same_globals = ap (λ (x : Signature). x.globals) y.told_of;
+          same_equals = ap (λ (x : Signature). x.equals) y.told_of;
           few_heads = sound.few_heads;
           few_globals_lem = sound.few_globals_lem;
           known_equals = sound.value_eq_known;

@@ -10,9 +10,10 @@ ghost use Rattle.answers.specs.Answers.{Gives, scratch_flat, Beyond};
 ghost use Rattle.settle_call.specs.Settle.{FlatUnder, SomeFlat, EndedWith};
 
 use answers::fronts::flat_front;
-use answers::{Answer, RAGGED, SHORT_OUTPUT, all_whole, refused, whole};
+use answers::{Answer, all_whole, whole};
 use bodies::terms::Sign;
 use emitting::Actions;
+use refusals::Reason;
 use signature::Signature;
 use words::{HEADER_BASE, LIMIT_12};
 
@@ -35,8 +36,7 @@ fn settle_good(rule: &[u8], sign: Signature, output: &mut [u8], scratch: &mut [u
         → EndedWith s f result output.old output.new }
 {
     let counts = octets::get(rule, 0) - HEADER_BASE;
-    let read = records::atoms(rule, sign.heads, sign.globals, 1, counts / LIMIT_12);
-    let end = read.at;
+    let end = records::atoms(rule, sign.heads, sign.globals, 1, counts / LIMIT_12).unwrap();
     let n = end - 1;
     octets::regions::copy(scratch, 0, rule, 1, n);
     let terms = Sign {
@@ -70,16 +70,16 @@ pub fn settle_bytes(signature: &[u8], rule: &[u8], output: &mut [u8], scratch: &
 {
     let rest = whole(scratch);
     if !all_whole(signature, rule, output, rest) {
-        return refused(RAGGED, 0);
+        return Answer::from(Reason::Ragged.at(0));
     }
-    let sign = flat_front(signature, rule, octets::count(scratch));
-    if sign.refused != 0 {
-        return refused(sign.refused, sign.place);
-    }
+    let sign = match flat_front(signature, rule, octets::count(scratch)) {
+        Ok(sign) => sign,
+        Err(refusal) => return Answer::from(refusal),
+    };
     let n = octets::count(rule);
     let ended = settle_good(rule, sign, output, &mut scratch[..LENT * n]);
     if octets::count(output) < ended.needed {
-        return refused(SHORT_OUTPUT, ended.needed);
+        return Answer::from(Reason::ShortOutput.at(ended.needed));
     }
     Answer {
         number: 0,

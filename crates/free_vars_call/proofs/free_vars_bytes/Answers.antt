@@ -5,10 +5,12 @@ use mathlib.Core.List.{List, []}
 use Prim.Native.Nat.{ℕ}
 use Rattle.std.proofs.Common.{rules}
 use Rattle.rules.specs.Calls.{whole_words}
+use Rattle.rules.specs.Refusals.{ok}
+use Rattle.refusals.specs.Numbers.{told}
 use Rattle.signature.specs.Signature.{sign_of}
 use Rattle.signature.specs.declared.Signature.{Signature}
 use Rattle.answers.proofs.Tests.{front}
-use Rattle.answers.proofs.Calls.{Given, slices_ragged, Ready, front_refuses, ready, too_short, all_written}
+use Rattle.answers.proofs.Calls.{from_refusal, Given, slices_ragged, Ready, front_refuses, ready, too_short, all_written}
 use Rattle.free_vars_call.proofs.FreeVars.{freeing, free_gives, free_whole, free_asks, free_done}
 use Rattle.free_vars_call.proofs.free_vars_bytes.Goals as goal
 
@@ -17,38 +19,38 @@ abbrev given : (signature rule output : List ℕ) → Given
 given s r o = record { signature = s; rule = r; counters = []; output = o; scratch = [] }
 
 -- all tests in front are passed
-tests_passed : (k : Given) {all : Bool} {g : Signature} → all ≡ whole_words (freeing k).lengths → all ≡ true → g ≡ sign_of (front (freeing k).tests) → g.refused ≡ 0
+tests_passed : (k : Given) {all : Bool} {g : Signature} → all ≡ whole_words (freeing k).lengths → all ≡ true → ok g ≡ told sign_of (front (freeing k).tests)
     → Ready (freeing k) g
-tests_passed k test whole sign fine = ready (free_whole k test whole) sign fine
+tests_passed k test whole sign = ready (free_whole k test whole) sign
 
 pub returns-then-not-all_whole : goal.returns-then-not-all_whole
 returns-then-not-all_whole c =
     let k = given c.args.signature.now c.args.rule.now c.args.output.now in
-    free_gives k (slices_ragged (freeing k) c.all_whole.ensures c.if-not-all_whole.true c.refused.ensures)
+    free_gives k (slices_ragged (freeing k) c.all_whole.ensures c.if-not-all_whole.true (from_refusal c.at.ensures c.from.ensures))
 
-pub returns-then-sign-ne0 : goal.returns-then-sign-ne0
-returns-then-sign-ne0 c =
+pub returns-in-Err : goal.returns-in-Err
+returns-in-Err c =
     let k = given c.args.signature.now c.args.rule.now c.args.output.now in
     let whole = free_whole k c.all_whole.ensures c.if-not-all_whole.false in
-    free_gives k (front_refuses whole c.flat_front-sign.ensures c.if-sign-ne0.true c.refused-then-sign-ne0.ensures)
+    free_gives k (front_refuses whole c.in-Err.ensures c.from-in-Err.ensures)
 
 pub get_free_vars-n-requires : goal.get_free_vars-n-requires
 get_free_vars-n-requires c =
     let k = given c.args.signature.now c.args.rule.now c.args.output.now in
-    free_asks k (tests_passed k c.all_whole.ensures c.if-not-all_whole.false c.flat_front-sign.ensures c.if-sign-ne0.false)
+    free_asks k (tests_passed k c.all_whole.ensures c.if-not-all_whole.false c.in-Ok.ensures)
 
 pub returns-then-count-n : goal.returns-then-count-n
 returns-then-count-n c =
     let k = given c.args.signature.now c.args.rule.now c.args.output.now in
-    let passed = tests_passed k c.all_whole.ensures c.if-not-all_whole.false c.flat_front-sign.ensures c.if-sign-ne0.false in
+    let passed = tests_passed k c.all_whole.ensures c.if-not-all_whole.false c.in-Ok.ensures in
     let v = c.get_free_vars-n in
     let done = free_done k passed v.ensures v.auto.out (search rules) (search rules) in
-    free_gives k (too_short {y = passed} done c.count.ensures c.if-count-n.true c.refused-then-count-n.ensures refl)
+    free_gives k (too_short {y = passed} done c.count.ensures c.if-count-n.true (from_refusal c.at-then-count-n.ensures c.from-then-count-n.ensures) refl)
 
 pub returns : goal.returns
 returns c =
     let k = given c.args.signature.now c.args.rule.now c.args.output.now in
-    let passed = tests_passed k c.all_whole.ensures c.if-not-all_whole.false c.flat_front-sign.ensures c.if-sign-ne0.false in
+    let passed = tests_passed k c.all_whole.ensures c.if-not-all_whole.false c.in-Ok.ensures in
     let v = c.get_free_vars-n in
     let done = free_done k passed v.ensures v.auto.out (search rules) (search rules) in
     free_gives k (all_written {y = passed} done c.count.ensures c.if-count-n.false refl)

@@ -9,12 +9,14 @@ use Rattle.std.proofs.Common.{rules}
 use lib.ListN.{length}
 use Rattle.octets.specs.Words.{words}
 use Rattle.rules.specs.Calls.{whole_words}
+use Rattle.rules.specs.Refusals.{ok}
+use Rattle.refusals.specs.Numbers.{told}
 use Rattle.signature.specs.Signature.{sign_of}
 use Rattle.signature.specs.declared.Signature.{Signature}
 use Rattle.answers.specs.Answers.{whole_three}
 use Rattle.answers.specs.Fronts.{written_front}
 use Rattle.answers.proofs.Lent.{lent_size}
-use Rattle.answers.proofs.Calls.{Given, slices_ragged, Ready, front_refuses, ready}
+use Rattle.answers.proofs.Calls.{from_refusal, Given, slices_ragged, Ready, front_refuses, ready}
 use Rattle.lower_call.proofs.LowerCall.{lowering, lower_gives, lower_tested, lower_whole, lower_front, lower_lent, lower_asks}
 use Rattle.lower_call.proofs.LowerCall.{worked, rule_refused, lower_short, lower_written}
 use Rattle.lower_call.proofs.lower_bytes.Goals as goal
@@ -26,24 +28,24 @@ given s r c o t = record { signature = s; rule = r; counters = c; output = o; sc
 -- all tests in front are passed
 tests_passed : (k : Given) {last all : Bool} {many room : ℕ} {g : Signature} → last ≡ whole_words (length k.output ∷ length k.scratch ∷ [])
     → all ≡ whole_three (length k.signature) (length k.rule) (length k.counters) last → all ≡ true
-    → many ≡ length (words k.counters) → room ≡ length (words k.scratch) → g ≡ sign_of (written_front (words k.signature) (words k.rule) many room) → g.refused ≡ 0
+    → many ≡ length (words k.counters) → room ≡ length (words k.scratch) → ok g ≡ told sign_of (written_front (words k.signature) (words k.rule) many room)
     → Ready (lowering k) g
-tests_passed k two three whole many room sign fine = ready (lower_whole k (lower_tested k two three) whole) (lower_front k many room sign) fine
+tests_passed k two three whole many room sign = ready (lower_whole k (lower_tested k two three) whole) (lower_front k many room sign)
 
 pub returns-then-not-all_whole-clause-gives_both : goal.returns-then-not-all_whole-clause-gives_both
 returns-then-not-all_whole-clause-gives_both c =
     let a = c.args in
     let k = given a.signature.now a.rule.now a.counters.now a.output.now a.scratch.now in
     let tested = lower_tested k c.both_whole-rest.ensures c.all_whole.ensures in
-    lower_gives k (slices_ragged (lowering k) tested c.if-not-all_whole.true c.refused.ensures)
+    lower_gives k (slices_ragged (lowering k) tested c.if-not-all_whole.true (from_refusal c.at.ensures c.from.ensures))
 
-pub returns-then-sign-ne0-clause-gives_both : goal.returns-then-sign-ne0-clause-gives_both
-returns-then-sign-ne0-clause-gives_both c =
+pub returns-in-Err-clause-gives_both : goal.returns-in-Err-clause-gives_both
+returns-in-Err-clause-gives_both c =
     let a = c.args in
     let k = given a.signature.now a.rule.now a.counters.now a.output.now a.scratch.now in
     let whole = lower_whole k (lower_tested k c.both_whole-rest.ensures c.all_whole.ensures) c.if-not-all_whole.false in
-    let front = lower_front k c.count-many.ensures c.count-room.ensures c.written_front-sign.ensures in
-    lower_gives k (front_refuses whole front c.if-sign-ne0.true c.refused-then-sign-ne0.ensures)
+    let front = lower_front k c.count-many.ensures c.count-room.ensures c.in-Err.ensures in
+    lower_gives k (front_refuses whole front c.from-in-Err.ensures)
 
 -- ---- a front of the scratch is lent
 
@@ -52,7 +54,7 @@ overflow_mul-size c =
     let a = c.args in
     let k = given a.signature.now a.rule.now a.counters.now a.output.now a.scratch.now in
     let passed = tests_passed k c.both_whole-rest.ensures c.all_whole.ensures c.if-not-all_whole.false
-    c.count-many.ensures c.count-room.ensures c.written_front-sign.ensures c.if-sign-ne0.false in
+    c.count-many.ensures c.count-room.ensures c.in-Ok.ensures in
     omega (arith, (lower_lent k passed c.count-size.ensures).fits)
 
 pub slice_bounds-lower_good-end : goal.slice_bounds-lower_good-end
@@ -60,7 +62,7 @@ slice_bounds-lower_good-end c =
     let a = c.args in
     let k = given a.signature.now a.rule.now a.counters.now a.output.now a.scratch.now in
     let passed = tests_passed k c.both_whole-rest.ensures c.all_whole.ensures c.if-not-all_whole.false
-    c.count-many.ensures c.count-room.ensures c.written_front-sign.ensures c.if-sign-ne0.false in
+    c.count-many.ensures c.count-room.ensures c.in-Ok.ensures in
     (lower_lent k passed c.count-size.ensures).inside
 
 pub slice_bounds-lower_good-end-2 : goal.slice_bounds-lower_good-end-2
@@ -68,7 +70,7 @@ slice_bounds-lower_good-end-2 c =
     let a = c.args in
     let k = given a.signature.now a.rule.now a.counters.now a.output.now a.scratch.now in
     let passed = tests_passed k c.both_whole-rest.ensures c.all_whole.ensures c.if-not-all_whole.false
-    c.count-many.ensures c.count-room.ensures c.written_front-sign.ensures c.if-sign-ne0.false in
+    c.count-many.ensures c.count-room.ensures c.in-Ok.ensures in
     sym (lent_size (lower_lent k passed c.count-size.ensures))
 
 -- ---- the rule is lowered and settled there
@@ -78,7 +80,7 @@ lower_good-lowered-requires c =
     let a = c.args in
     let k = given a.signature.now a.rule.now a.counters.now a.output.now a.scratch.now in
     let passed = tests_passed k c.both_whole-rest.ensures c.all_whole.ensures c.if-not-all_whole.false
-    c.count-many.ensures c.count-room.ensures c.written_front-sign.ensures c.if-sign-ne0.false in
+    c.count-many.ensures c.count-room.ensures c.in-Ok.ensures in
     lower_asks k passed (lower_lent k passed c.count-size.ensures)
 
 pub returns-then-lowered-ne0-clause-gives_both : goal.returns-then-lowered-ne0-clause-gives_both
@@ -86,27 +88,27 @@ returns-then-lowered-ne0-clause-gives_both c =
     let a = c.args in
     let k = given a.signature.now a.rule.now a.counters.now a.output.now a.scratch.now in
     let passed = tests_passed k c.both_whole-rest.ensures c.all_whole.ensures c.if-not-all_whole.false
-    c.count-many.ensures c.count-room.ensures c.written_front-sign.ensures c.if-sign-ne0.false in
+    c.count-many.ensures c.count-room.ensures c.in-Ok.ensures in
     let g = c.lower_good-lowered in
     let done = worked k passed g.ensures g.auto.output g.auto.counters (search rules) (search rules) (search rules) (search rules) in
-    lower_gives k (rule_refused {y = passed} done c.if-lowered-ne0.true c.refused-then-lowered-ne0.ensures)
+    lower_gives k (rule_refused {y = passed} done c.if-lowered-ne0.true c.refused.ensures)
 
 pub returns-then-count-lowered-clause-gives_both : goal.returns-then-count-lowered-clause-gives_both
 returns-then-count-lowered-clause-gives_both c =
     let a = c.args in
     let k = given a.signature.now a.rule.now a.counters.now a.output.now a.scratch.now in
     let passed = tests_passed k c.both_whole-rest.ensures c.all_whole.ensures c.if-not-all_whole.false
-    c.count-many.ensures c.count-room.ensures c.written_front-sign.ensures c.if-sign-ne0.false in
+    c.count-many.ensures c.count-room.ensures c.in-Ok.ensures in
     let g = c.lower_good-lowered in
     let done = worked k passed g.ensures g.auto.output g.auto.counters (search rules) (search rules) (search rules) (search rules) in
-    lower_gives k (lower_short {y = passed} done c.if-lowered-ne0.false c.count.ensures c.if-count-lowered.true c.refused-then-count-lowered.ensures)
+    lower_gives k (lower_short {y = passed} done c.if-lowered-ne0.false c.count.ensures c.if-count-lowered.true (from_refusal c.at-then-count-lowered.ensures c.from-then-count-lowered.ensures))
 
 pub returns-clause-gives_both : goal.returns-clause-gives_both
 returns-clause-gives_both c =
     let a = c.args in
     let k = given a.signature.now a.rule.now a.counters.now a.output.now a.scratch.now in
     let passed = tests_passed k c.both_whole-rest.ensures c.all_whole.ensures c.if-not-all_whole.false
-    c.count-many.ensures c.count-room.ensures c.written_front-sign.ensures c.if-sign-ne0.false in
+    c.count-many.ensures c.count-room.ensures c.in-Ok.ensures in
     let g = c.lower_good-lowered in
     let done = worked k passed g.ensures g.auto.output g.auto.counters (search rules) (search rules) (search rules) (search rules) in
     lower_gives k (lower_written {y = passed} done c.if-lowered-ne0.false c.count.ensures c.if-count-lowered.false c.answer.ensures)

@@ -9,12 +9,14 @@ use Rattle.std.proofs.Common.{rules}
 use lib.Dec.{eqb}
 use lib.ListN.{length}
 use Rattle.octets.specs.Words.{words}
+use Rattle.rules.specs.Refusals.{ok}
+use Rattle.refusals.specs.Numbers.{told}
 use Rattle.signature.specs.Signature.{sign_of}
 use Rattle.signature.specs.declared.Signature.{Signature}
 use Rattle.answers.specs.Answers.{whole_three}
 use Rattle.answers.specs.Fronts.{flat_front}
 use Rattle.answers.proofs.Lent.{lent_size}
-use Rattle.answers.proofs.Calls.{Given, slices_ragged, Ready, front_refuses, ready, too_short, all_written}
+use Rattle.answers.proofs.Calls.{from_refusal, Given, slices_ragged, Ready, front_refuses, ready, too_short, all_written}
 use Rattle.settle_call.proofs.Settled.{settling, settle_gives, settle_tested, settle_whole, settle_front, settle_lent, settle_asks, settle_done}
 use Rattle.settle_call.proofs.settle_bytes.Goals as goal
 
@@ -25,22 +27,22 @@ given s r o t = record { signature = s; rule = r; counters = []; output = o; scr
 -- all tests in front are passed
 tests_passed : (k : Given) {last all : Bool} {room : ℕ} {g : Signature} → last ≡ eqb (length k.scratch % 4) 0
     → all ≡ whole_three (length k.signature) (length k.rule) (length k.output) last → all ≡ true
-    → room ≡ length (words k.scratch) → g ≡ sign_of (flat_front (words k.signature) (words k.rule) room) → g.refused ≡ 0 → Ready (settling k) g
-tests_passed k fourth three whole room sign fine = ready (settle_whole k (settle_tested k fourth three) whole) (settle_front k room sign) fine
+    → room ≡ length (words k.scratch) → ok g ≡ told sign_of (flat_front (words k.signature) (words k.rule) room) → Ready (settling k) g
+tests_passed k fourth three whole room sign = ready (settle_whole k (settle_tested k fourth three) whole) (settle_front k room sign)
 
 pub returns-then-not-all_whole-clause-gives : goal.returns-then-not-all_whole-clause-gives
 returns-then-not-all_whole-clause-gives c =
     let a = c.args in
     let k = given a.signature.now a.rule.now a.output.now a.scratch.now in
-    settle_gives k (slices_ragged (settling k) (settle_tested k c.whole-rest.ensures c.all_whole.ensures) c.if-not-all_whole.true c.refused.ensures)
+    settle_gives k (slices_ragged (settling k) (settle_tested k c.whole-rest.ensures c.all_whole.ensures) c.if-not-all_whole.true (from_refusal c.at.ensures c.from.ensures))
 
-pub returns-then-sign-ne0-clause-gives : goal.returns-then-sign-ne0-clause-gives
-returns-then-sign-ne0-clause-gives c =
+pub returns-in-Err-clause-gives : goal.returns-in-Err-clause-gives
+returns-in-Err-clause-gives c =
     let a = c.args in
     let k = given a.signature.now a.rule.now a.output.now a.scratch.now in
     let whole = settle_whole k (settle_tested k c.whole-rest.ensures c.all_whole.ensures) c.if-not-all_whole.false in
-    let front = settle_front k c.count.ensures c.flat_front-sign.ensures in
-    settle_gives k (front_refuses whole front c.if-sign-ne0.true c.refused-then-sign-ne0.ensures)
+    let front = settle_front k c.count.ensures c.in-Err.ensures in
+    settle_gives k (front_refuses whole front c.from-in-Err.ensures)
 
 -- ---- a front of the scratch is lent
 
@@ -48,21 +50,21 @@ pub overflow_mul-n : goal.overflow_mul-n
 overflow_mul-n c =
     let a = c.args in
     let k = given a.signature.now a.rule.now a.output.now a.scratch.now in
-    let passed = tests_passed k c.whole-rest.ensures c.all_whole.ensures c.if-not-all_whole.false c.count.ensures c.flat_front-sign.ensures c.if-sign-ne0.false in
+    let passed = tests_passed k c.whole-rest.ensures c.all_whole.ensures c.if-not-all_whole.false c.count.ensures c.in-Ok.ensures in
     omega (arith, (settle_lent k passed c.count-n.ensures).fits)
 
 pub slice_bounds-settle_good-end : goal.slice_bounds-settle_good-end
 slice_bounds-settle_good-end c =
     let a = c.args in
     let k = given a.signature.now a.rule.now a.output.now a.scratch.now in
-    let passed = tests_passed k c.whole-rest.ensures c.all_whole.ensures c.if-not-all_whole.false c.count.ensures c.flat_front-sign.ensures c.if-sign-ne0.false in
+    let passed = tests_passed k c.whole-rest.ensures c.all_whole.ensures c.if-not-all_whole.false c.count.ensures c.in-Ok.ensures in
     (settle_lent k passed c.count-n.ensures).inside
 
 pub slice_bounds-settle_good-end-2 : goal.slice_bounds-settle_good-end-2
 slice_bounds-settle_good-end-2 c =
     let a = c.args in
     let k = given a.signature.now a.rule.now a.output.now a.scratch.now in
-    let passed = tests_passed k c.whole-rest.ensures c.all_whole.ensures c.if-not-all_whole.false c.count.ensures c.flat_front-sign.ensures c.if-sign-ne0.false in
+    let passed = tests_passed k c.whole-rest.ensures c.all_whole.ensures c.if-not-all_whole.false c.count.ensures c.in-Ok.ensures in
     sym (lent_size (settle_lent k passed c.count-n.ensures))
 
 -- ---- the rule is settled there
@@ -71,7 +73,7 @@ pub settle_good-ended-requires : goal.settle_good-ended-requires
 settle_good-ended-requires c =
     let a = c.args in
     let k = given a.signature.now a.rule.now a.output.now a.scratch.now in
-    let passed = tests_passed k c.whole-rest.ensures c.all_whole.ensures c.if-not-all_whole.false c.count.ensures c.flat_front-sign.ensures c.if-sign-ne0.false in
+    let passed = tests_passed k c.whole-rest.ensures c.all_whole.ensures c.if-not-all_whole.false c.count.ensures c.in-Ok.ensures in
     let h = settle_asks k passed (settle_lent k passed c.count-n.ensures) in
     record { some_flat = h.0; rule_in_bounds = h.1 }
 
@@ -79,16 +81,16 @@ pub returns-then-count-ended-clause-gives : goal.returns-then-count-ended-clause
 returns-then-count-ended-clause-gives c =
     let a = c.args in
     let k = given a.signature.now a.rule.now a.output.now a.scratch.now in
-    let passed = tests_passed k c.whole-rest.ensures c.all_whole.ensures c.if-not-all_whole.false c.count.ensures c.flat_front-sign.ensures c.if-sign-ne0.false in
+    let passed = tests_passed k c.whole-rest.ensures c.all_whole.ensures c.if-not-all_whole.false c.count.ensures c.in-Ok.ensures in
     let g = c.settle_good-ended in
     let done = settle_done k passed g.ensures g.auto.output (search rules) (search rules) in
-    settle_gives k (too_short {y = passed} done c.count-2.ensures c.if-count-ended.true c.refused-then-count-ended.ensures refl)
+    settle_gives k (too_short {y = passed} done c.count-2.ensures c.if-count-ended.true (from_refusal c.at-then-count-ended.ensures c.from-then-count-ended.ensures) refl)
 
 pub returns-clause-gives : goal.returns-clause-gives
 returns-clause-gives c =
     let a = c.args in
     let k = given a.signature.now a.rule.now a.output.now a.scratch.now in
-    let passed = tests_passed k c.whole-rest.ensures c.all_whole.ensures c.if-not-all_whole.false c.count.ensures c.flat_front-sign.ensures c.if-sign-ne0.false in
+    let passed = tests_passed k c.whole-rest.ensures c.all_whole.ensures c.if-not-all_whole.false c.count.ensures c.in-Ok.ensures in
     let g = c.settle_good-ended in
     let done = settle_done k passed g.ensures g.auto.output (search rules) (search rules) in
     settle_gives k (all_written {y = passed} done c.count-2.ensures c.if-count-ended.false refl)

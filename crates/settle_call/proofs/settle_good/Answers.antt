@@ -3,7 +3,7 @@ use mathlib.Core.Path.{refl}
 use native.Mathlib.Omega.{arith}
 use Rattle.octets.specs.Words.{words}
 use Rattle.octets.proofs.Words.{length_words_kept}
-use Rattle.settle_call.proofs.SettleGood.{some_word, few_globals, known_equals, Begun, begun, Found, found, copy_asks, Copied, copied, Done, is_done, stand, ended}
+use Rattle.settle_call.proofs.SettleGood.{some_word, few_globals, known_equals, Begun, begun, Found, read_well, found, copy_asks, Copied, copied, Done, is_done, stand, ended}
 use Rattle.settle_call.proofs.settle_good.Goals as goal
 
 pub get-counts-requires : goal.get-counts-requires
@@ -15,18 +15,24 @@ overflow_sub-counts c =
     begun c.requires.some_flat c.requires.rule_in_bounds c.get-counts.ensures in
     at_get.header
 
+pub unwrap-end-requires : goal.unwrap-end-requires
+unwrap-end-requires c =
+    let at_get : (let a = c.args in Begun (words a.rule.now) a.sign (words a.scratch.now) c.get-counts.result) =
+    begun c.requires.some_flat c.requires.rule_in_bounds c.get-counts.ensures in
+    read_well at_get c.atoms.result c.atoms.ensures
+
 pub overflow_sub-n : goal.overflow_sub-n
 overflow_sub-n c =
     let at_get : (let a = c.args in Begun (words a.rule.now) a.sign (words a.scratch.now) c.get-counts.result) =
     begun c.requires.some_flat c.requires.rule_in_bounds c.get-counts.ensures in
-    let at_atoms : Found at_get c.atoms-read.result.at = found at_get c.atoms-read.ensures in
+    let at_atoms : Found at_get c.unwrap-end.result = found at_get c.atoms.result c.atoms.ensures c.unwrap-end.ensures in
     at_atoms.from
 
 pub copy-requires : goal.copy-requires
 copy-requires c =
     let at_get : (let a = c.args in Begun (words a.rule.now) a.sign (words a.scratch.now) c.get-counts.result) =
     begun c.requires.some_flat c.requires.rule_in_bounds c.get-counts.ensures in
-    let at_atoms : Found at_get c.atoms-read.result.at = found at_get c.atoms-read.ensures in
+    let at_atoms : Found at_get c.unwrap-end.result = found at_get c.atoms.result c.atoms.ensures c.unwrap-end.ensures in
     copy_asks at_atoms
 
 pub invariant_of-terms : goal.invariant_of-terms
@@ -36,7 +42,7 @@ pub settle-body-requires : goal.settle-body-requires
 settle-body-requires c =
     let at_get : (let a = c.args in Begun (words a.rule.now) a.sign (words a.scratch.now) c.get-counts.result) =
     begun c.requires.some_flat c.requires.rule_in_bounds c.get-counts.ensures in
-    let at_atoms : Found at_get c.atoms-read.result.at = found at_get c.atoms-read.ensures in
+    let at_atoms : Found at_get c.unwrap-end.result = found at_get c.atoms.result c.atoms.ensures c.unwrap-end.ensures in
     let at_copy : Copied at_atoms (words c.copy.new.out) = copied at_atoms (length_words_kept _ _ c.copy.auto.out) c.copy.ensures in
     at_copy.asks
 
@@ -44,14 +50,14 @@ pub overflow_sub-head : goal.overflow_sub-head
 overflow_sub-head c =
     let at_get : (let a = c.args in Begun (words a.rule.now) a.sign (words a.scratch.now) c.get-counts.result) =
     begun c.requires.some_flat c.requires.rule_in_bounds c.get-counts.ensures in
-    let at_atoms : Found at_get c.atoms-read.result.at = found at_get c.atoms-read.ensures in
+    let at_atoms : Found at_get c.unwrap-end.result = found at_get c.atoms.result c.atoms.ensures c.unwrap-end.ensures in
     omega (arith, at_atoms.inside, c.count.ensures)
 
 pub finish-needed-requires : goal.finish-needed-requires
 finish-needed-requires c =
     let at_get : (let a = c.args in Begun (words a.rule.now) a.sign (words a.scratch.now) c.get-counts.result) =
     begun c.requires.some_flat c.requires.rule_in_bounds c.get-counts.ensures in
-    let at_atoms : Found at_get c.atoms-read.result.at = found at_get c.atoms-read.ensures in
+    let at_atoms : Found at_get c.unwrap-end.result = found at_get c.atoms.result c.atoms.ensures c.unwrap-end.ensures in
     let at_copy : Copied at_atoms (words c.copy.new.out) = copied at_atoms (length_words_kept _ _ c.copy.auto.out) c.copy.ensures in
     let at_settle : Done at_copy c.settle-body.result (words c.settle-body.new.s) = is_done at_copy refl refl c.settle-body.ensures in
     stand at_settle c.count.ensures
@@ -60,7 +66,7 @@ pub returns : goal.returns
 returns c =
     let at_get : (let a = c.args in Begun (words a.rule.now) a.sign (words a.scratch.now) c.get-counts.result) =
     begun c.requires.some_flat c.requires.rule_in_bounds c.get-counts.ensures in
-    let at_atoms : Found at_get c.atoms-read.result.at = found at_get c.atoms-read.ensures in
+    let at_atoms : Found at_get c.unwrap-end.result = found at_get c.atoms.result c.atoms.ensures c.unwrap-end.ensures in
     let at_copy : Copied at_atoms (words c.copy.new.out) = copied at_atoms (length_words_kept _ _ c.copy.auto.out) c.copy.ensures in
     let at_settle : Done at_copy c.settle-body.result (words c.settle-body.new.s) = is_done at_copy refl refl c.settle-body.ensures in
     ended at_settle c.count.ensures c.finish-needed.ensures
