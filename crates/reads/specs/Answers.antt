@@ -1,18 +1,18 @@
 -- 01, "Turned back": what becomes of a record that is read by itself. A rule's length (4) is tested before its words.
 -- The readings themselves are those of `rules`.
 -- Assumes nothing: these are definitions.
-use Rattle.std.specs.Prelude.{ℕ, cond, List, eqb}
+use Rattle.std.specs.Prelude.{ℕ, ◌≡◌, List}
 use Rattle.rules.specs.Words.{max_written, max_flat}
-use Rattle.rules.specs.Refusals.{Res, ◌>>=◌}
-use Rattle.rules.specs.Signature.{read_signature}
+use Rattle.rules.specs.Refusals.{Res, ok, refuse, ◌>>=◌}
+use Rattle.rules.specs.Signature.{Sig, heads, read_signature}
 use Rattle.rules.specs.Written.{Rule, read_written}
 use Rattle.rules.specs.Flat.{FlatRule, read_flat}
 use Rattle.rules.specs.Calls.{length_fits}
-use Rattle.signature.specs.declared.Signature.{Signature}
-use Rattle.written.specs.declared.Ending.{Ending}
-use Rattle.signature.specs.Signature.{sign_of}
+use Rattle.refusals.specs.Numbers.{said}
 use Rattle.written.specs.Written.{with_heads, whole_of}
 use Rattle.reads.specs.declared.Answer.{Answer}
+use Rattle.reads.specs.declared.Reader.{Reader}
+use Rattle.reads.specs.declared.Reader.TheVariants.{Signature, Written, Flat}
 
 -- ---- rules by themselves, under a signature of H heads
 
@@ -29,22 +29,17 @@ flat_alone H ws = do
 -- ---- the answers; H is the number of heads before the record
 
 -- a signature that reads well sets H
-abbrev pub signature_answer : ℕ → Signature → Answer
-signature_answer H s = record { refused = s.refused; place = s.place; heads = cond (eqb s.refused 0) s.heads H }
+abbrev pub heads_behind : ℕ → Res Sig → ℕ
+heads_behind H (ok s) = heads s
+heads_behind H (refuse n p) = H
+
+-- the answer is what reading comes to, with h heads behind it
+pub record Says {A : Type 0} (a : Answer) (ws : List ℕ) (reading : Res A) (h : ℕ) : Type 0 where
+  pub read_is : said a.read ≡ whole_of ws reading
+  pub heads_are : a.heads ≡ h
 
 -- a rule leaves H
-abbrev pub rule_answer : ℕ → Ending → Answer
-rule_answer H w = record { refused = w.refused; place = w.at; heads = H }
-
--- the letters of the readers: `s` and `w`; a third reader has all others
-abbrev pub for_signature : ℕ
-for_signature = 115
-
-abbrev pub for_written : ℕ
-for_written = 119
-
-abbrev pub whole_rule : (letter H : ℕ) → List ℕ → Ending
-whole_rule letter H ws = cond (eqb letter for_written) (whole_of ws (written_alone H ws)) (whole_of ws (flat_alone H ws))
-
-abbrev pub answer_of : (letter H : ℕ) → List ℕ → Answer
-answer_of letter H ws = cond (eqb letter for_signature) (signature_answer H (sign_of (read_signature ws))) (rule_answer H (whole_rule letter H ws))
+abbrev pub Answers : Reader → (H : ℕ) → List ℕ → Answer → Type 0
+Answers Signature H ws a = Says a ws (read_signature ws) (heads_behind H (read_signature ws))
+Answers Written H ws a = Says a ws (written_alone H ws) H
+Answers Flat H ws a = Says a ws (flat_alone H ws) H
