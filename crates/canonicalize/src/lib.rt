@@ -47,44 +47,6 @@ pub fn replacement_of(q: Sign, a: u32, b: u32) -> Option<Replacement>
     None
 }
 
-// If the atom at p asks for a replacement, it is made in the n words at `at`, and its binding is put before those at d. Returns where the
-// bindings begin.
-fn replace_step(s: &mut [u8], at: usize, n: usize, p: usize, d: usize, t: Table, q: Sign) -> usize
-    requires { StepAsks (words s.old) at n p d t.at t.count }
-    ensures { (result ≡ place_after (ask_at (sig q) (words s.old) p) d)
-        × Stepped (ask_at (sig q) (words s.old) p) (words s.old) (words s.new) at n d t.at t.count }
-{
-    let atom = good_atom_at(s, p);
-    let HeadOrEq::Eq = atom.head else {
-        return d;
-    };
-    let a = octets::get(s, atom.terms);
-    let b = octets::get(s, atom.terms + 1);
-    let Some(asked) = replacement_of(q, a, b) else {
-        return d;
-    };
-    t.replace(s, at, n, asked);
-    octets::rows::put_three(s, d - 3, LET, asked.old, asked.new);
-    d - 3
-}
-
-// Makes all replacements that the atoms in the n words at `at` ask for. The bindings go before d, the last one first. Returns where they
-// begin.
-fn replace_all(s: &mut [u8], at: usize, n: usize, d: usize, t: Table, q: Sign) -> usize
-    requires { ReplaceAsks (words s.old) at n d t.at t.count }
-    ensures { Replaced (sig q) (words s.old) (words s.new) at n d t.at t.count result }
-{
-    let end = at + n;
-    let mut p = at;
-    let mut e = d;
-    while p < end {
-        let atom = good_atom_at(s, p);
-        e = replace_step(s, at, n, p, e, t, q);
-        p = atom.next;
-    }
-    e
-}
-
 // Writes at `to` what becomes of an equality of a and b that asks for nothing: value-eq of both and Unit, or nothing if they are equal. Returns
 // how many words that are.
 pub fn resolve_terms(s: &mut [u8], to: usize, a: u32, b: u32, q: Sign) -> usize
@@ -124,6 +86,7 @@ fn run(s: &[u8], at: usize, n: usize, equalities: bool) -> usize
     ensures { Runs equalities (words s.now) at n result }
 {
     let mut i = 0;
+    // An iterator over atoms would be longer than the two loops that only read, this one and that of `equalities`.
     while i < n {
         let atom = good_atom_at(s, at + i);
         if is_equality(atom) != equalities {
@@ -142,6 +105,7 @@ fn resolve(s: &mut [u8], from: usize, n: usize, to: usize, q: Sign) -> usize
 {
     let mut i = 0;
     let mut k = 0;
+    // An iterator over the atoms would hold the words that the loop writes, so it walks by their sizes.
     while i < n {
         let r = run(s, from + i, n - i, false);
         octets::regions::carry(s, to + k, from + i, r);
@@ -163,48 +127,96 @@ pub struct Canonical {
     pub binds: usize,
 }
 
-// An equality at p, in front of what is left of a body, with n words from it to the end. If it asks for a replacement, that is made behind
-// it, and it goes; else what becomes of it is written at `to`.
-fn front_one(s: &mut [u8], p: usize, n: usize, to: usize, d: usize, t: Table, q: Sign) -> Canonical
-    requires { FrontOneAsks (sig q) (words s.old) p n to d t.at t.count }
-    ensures { FrontOne (sig q) (words s.old) (words s.new) p n to d t.at t.count result }
-{
-    let next = past_equality(p);
-    let e = replace_step(s, next, n - (next - p), p, d, t, q);
-    if e != d {
-        return Canonical { words: 0, binds: e };
-    }
-    let k = resolve_one(s, p, to, q);
-    Canonical { words: k, binds: d }
+// What a sweep over a body goes by: where terms may stand in it, and the signature.
+#[derive(Clone, Copy)]
+struct Sweep {
+    spans: Table,
+    sign: Sign,
 }
 
-// Canonicalizes the equalities in the e words at `at`, with other atoms in the k words behind them, where their replacements are made. What
-// becomes of the equalities is written at `to`, the bindings before d.
-fn canonicalize_front(
-    s: &mut [u8],
-    at: usize,
-    e: usize,
-    k: usize,
-    to: usize,
-    d: usize,
-    spans: Table,
-    q: Sign,
-) -> Canonical
-    requires { FrontAsks (words s.old) at e k to d spans.at spans.count }
-    ensures { Fronted (sig q) (atoms_in (words s.old) at e) (atoms_in (words s.old) (at + e) k)
-        (words s.old) (words s.new) at e k to d spans.at spans.count result }
-{
-    let mut i = 0;
-    let mut t = Canonical { words: 0, binds: d };
-    while i < e {
-        let one = front_one(s, at + i, e - i + k, to + t.words, t.binds, spans, q);
-        t = Canonical {
-            words: t.words + one.words,
-            ..one
+impl Sweep {
+    // If the atom at p asks for a replacement, it is made in the n words at `at`, and its binding is put before those at d. Returns where the
+    // bindings begin.
+    fn replace_step(self, s: &mut [u8], at: usize, n: usize, p: usize, d: usize) -> usize
+        requires { StepAsks (words s.old) at n p d self.spans.at self.spans.count }
+        ensures { (result ≡ place_after (ask_at (sig self.sign) (words s.old) p) d)
+            × Stepped (ask_at (sig self.sign) (words s.old) p) (words s.old) (words s.new) at n d self.spans.at self.spans.count }
+    {
+        let atom = good_atom_at(s, p);
+        let HeadOrEq::Eq = atom.head else {
+            return d;
         };
-        i = past_equality(at + i) - at;
+        let a = octets::get(s, atom.terms);
+        let b = octets::get(s, atom.terms + 1);
+        let Some(asked) = replacement_of(self.sign, a, b) else {
+            return d;
+        };
+        self.spans.replace(s, at, n, asked);
+        octets::rows::put_three(s, d - 3, LET, asked.old, asked.new);
+        d - 3
     }
-    t
+
+    // Makes all replacements that the atoms in the n words at `at` ask for. The bindings go before d, the last one first. Returns where they
+    // begin.
+    fn replace_all(self, s: &mut [u8], at: usize, n: usize, d: usize) -> usize
+        requires { ReplaceAsks (words s.old) at n d self.spans.at self.spans.count }
+        ensures { Replaced (sig self.sign) (words s.old) (words s.new) at n d self.spans.at self.spans.count result }
+    {
+        let end = at + n;
+        let mut p = at;
+        let mut e = d;
+        // An iterator over the atoms would hold the words that the loop writes, so it walks by their sizes.
+        while p < end {
+            let atom = good_atom_at(s, p);
+            e = self.replace_step(s, at, n, p, e);
+            p = atom.next;
+        }
+        e
+    }
+
+    // An equality at p, in front of what is left of a body, with n words from it to the end. If it asks for a replacement, that is made behind
+    // it, and it goes; else what becomes of it is written at `to`.
+    fn front_one(self, s: &mut [u8], p: usize, n: usize, to: usize, d: usize) -> Canonical
+        requires { FrontOneAsks (sig self.sign) (words s.old) p n to d self.spans.at self.spans.count }
+        ensures { FrontOne (sig self.sign) (words s.old) (words s.new) p n to d self.spans.at self.spans.count result }
+    {
+        let next = past_equality(p);
+        let e = self.replace_step(s, next, n - (next - p), p, d);
+        if e != d {
+            return Canonical { words: 0, binds: e };
+        }
+        let k = resolve_one(s, p, to, self.sign);
+        Canonical { words: k, binds: d }
+    }
+
+    // Canonicalizes the equalities in the e words at `at`, with other atoms in the k words behind them, where their replacements are made. What
+    // becomes of the equalities is written at `to`, the bindings before d.
+    fn canonicalize_front(
+        self,
+        s: &mut [u8],
+        at: usize,
+        e: usize,
+        k: usize,
+        to: usize,
+        d: usize,
+    ) -> Canonical
+        requires { FrontAsks (words s.old) at e k to d self.spans.at self.spans.count }
+        ensures { Fronted (sig self.sign) (atoms_in (words s.old) at e) (atoms_in (words s.old) (at + e) k)
+            (words s.old) (words s.new) at e k to d self.spans.at self.spans.count result }
+    {
+        let mut i = 0;
+        let mut t = Canonical { words: 0, binds: d };
+        // An iterator over the atoms would hold the words that the loop writes, so it walks by their sizes.
+        while i < e {
+            let one = self.front_one(s, at + i, e - i + k, to + t.words, t.binds);
+            t = Canonical {
+                words: t.words + one.words,
+                ..one
+            };
+            i = past_equality(at + i) - at;
+        }
+        t
+    }
 }
 
 // Canonicalizes the atoms in the n words at `at`, with a table of spans in the 2 n words behind them. Those that it leaves are written at `to`,
@@ -214,9 +226,10 @@ pub fn canonicalize(s: &mut [u8], at: usize, n: usize, to: usize, d: usize, q: S
     ensures { CanonicalAt (sig q) (atoms_in (words s.old) at n) (words s.old) (words s.new) at to d result }
 {
     let spans = Table::build(s, at, n, at + n);
+    let sweep = Sweep { spans, sign: q };
     let e = run(s, at, n, true);
-    let t = canonicalize_front(s, at, e, n - e, to, d, spans, q);
-    let binds = replace_all(s, at + e, n - e, t.binds, spans, q);
+    let t = sweep.canonicalize_front(s, at, e, n - e, to, d);
+    let binds = sweep.replace_all(s, at + e, n - e, t.binds);
     let words = t.words + resolve(s, at + e, n - e, to + t.words, q);
     Canonical { words, binds }
 }

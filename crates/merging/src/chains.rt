@@ -44,6 +44,7 @@ impl Pass {
         let count = self.n + 1;
         buckets::fill(s, self.table, count, 0);
         let mut i = 0;
+        // An iterator over the atoms would hold the scratch that the loop writes, so it walks by their sizes.
         while i < self.n {
             i += self.link_one(s, i, count);
         }

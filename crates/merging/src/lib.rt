@@ -141,6 +141,7 @@ impl Pass {
             start: 0,
         };
         let mut i = 0;
+        // An iterator over the atoms would hold the words that the loop writes, so it walks by their sizes.
         while i < self.n {
             let z = size(s, self.from + i);
             t = self.merge_one(s, i, t);

@@ -103,6 +103,7 @@ fn join_all(s: &mut [u8], at: usize, e: usize, area: Area, q: Sign) -> Canonical
         words: 0,
         binds: area.d,
     };
+    // An iterator over the groups would hold the words that the loop writes, so it walks by their sizes.
     while i < e {
         let left = octets::get(s, at + i);
         let m = octets::get(s, at + i + 1) as usize;

@@ -8,14 +8,14 @@ use Rattle.octets.specs.Words.{words}
 use Rattle.words.proofs.AtomLaws.{head_other}
 use Rattle.bodies.specs.Terms.{sig}
 use Rattle.canonicalize.proofs.Replacing.{asks_terms, met, step_none, step_other, step_some}
-use Rattle.canonicalize.proofs.replace_step.Goals as goal
+use Rattle.canonicalize.proofs.Sweep.replace_step.Goals as goal
 
 pub good_atom_at-atom-requires : goal.good_atom_at-atom-requires
 good_atom_at-atom-requires c = c.requires.begins
 
 pub returns-in_default : goal.returns-in_default
 returns-in_default c =
-    step_other (sig c.args.q) c.requires (head_other c.requires.begins.first c.good_atom_at-atom.ensures c.in_default.is)
+    step_other (sig c.args.self.sign) c.requires (head_other c.requires.begins.first c.good_atom_at-atom.ensures c.in_default.is)
 
 pub get-a-requires : goal.get-a-requires
 get-a-requires c =
@@ -30,8 +30,8 @@ get-b-requires c =
 pub returns-in_default-replacement_of : goal.returns-in_default-replacement_of
 returns-in_default-replacement_of c =
     let at_equality = met c.requires c.good_atom_at-atom.ensures c.in-Eq.is in
-    let asked = asks_terms (sig c.args.q) at_equality c.get-a.ensures.is c.get-b.ensures.is c.replacement_of.ensures in
-    step_none (sig c.args.q) c.requires (sym c.in_default-replacement_of.is ∙ asked)
+    let asked = asks_terms (sig c.args.self.sign) at_equality c.get-a.ensures.is c.get-b.ensures.is c.replacement_of.ensures in
+    step_none (sig c.args.self.sign) c.requires (sym c.in_default-replacement_of.is ∙ asked)
 
 pub replace-requires : goal.replace-requires
 replace-requires c = c.requires.spanned
@@ -44,5 +44,5 @@ put_three-requires c =
 pub returns : goal.returns
 returns c =
     let at_equality = met c.requires c.good_atom_at-atom.ensures c.in-Eq.is in
-    let asked = asks_terms (sig c.args.q) at_equality c.get-a.ensures.is c.get-b.ensures.is c.replacement_of.ensures in
-    step_some (sig c.args.q) c.requires (sym c.in-Some.is ∙ asked) c.replace.ensures (length_words_kept _ _ c.replace.auto.s) c.put_three.ensures.1
+    let asked = asks_terms (sig c.args.self.sign) at_equality c.get-a.ensures.is c.get-b.ensures.is c.replacement_of.ensures in
+    step_some (sig c.args.self.sign) c.requires (sym c.in-Some.is ∙ asked) c.replace.ensures (length_words_kept _ _ c.replace.auto.s) c.put_three.ensures.1

@@ -4,7 +4,7 @@ use mathlib.Core.Path.{◌∙◌, refl}
 use native.Mathlib.Omega.{arith}
 use Rattle.octets.proofs.Words.{length_words}
 use Rattle.canonicalize.proofs.Fronting.{front_one_asks, fronting_end, fronting_next, fronting_start}
-use Rattle.canonicalize.proofs.canonicalize_front.Goals as goal
+use Rattle.canonicalize.proofs.Sweep.canonicalize_front.Goals as goal
 
 pub loop-i-init : goal.loop-i-init
 loop-i-init c = (refl, fronting_start c.requires)
@@ -14,7 +14,7 @@ front_one-one-requires c = front_one_asks c.requires c.loop-i.invariant.1 c.loop
 
 pub overflow_add-t : goal.overflow_add-t
 overflow_add-t c =
-    let next = fronting_next c.requires c.loop-i.invariant.1 c.loop-i-test.true c.args.q.known_equals c.front_one-one.ensures refl in
+    let next = fronting_next c.requires c.loop-i.invariant.1 c.loop-i-test.true c.args.self.sign.known_equals c.front_one-one.ensures refl in
     omega (arith, next.tabs.within, next.only.size, length_words, c.well_formed)
 
 pub past_equality-requires : goal.past_equality-requires
@@ -22,7 +22,7 @@ past_equality-requires c = omega (arith, c.loop-i-test.true, c.requires.eqs.with
 
 pub loop-i-preserved : goal.loop-i-preserved
 loop-i-preserved c =
-    let next = fronting_next c.requires c.loop-i.invariant.1 c.loop-i-test.true c.args.q.known_equals c.front_one-one.ensures in
+    let next = fronting_next c.requires c.loop-i.invariant.1 c.loop-i-test.true c.args.self.sign.known_equals c.front_one-one.ensures in
     (c.front_one-one.auto.s ∙ c.loop-i.invariant.0, next (omega (arith, c.past_equality.ensures)))
 
 pub returns : goal.returns

@@ -3,7 +3,7 @@
 use mathlib.Core.Path.{◌∙◌, refl}
 use native.Mathlib.Omega.{arith}
 use Rattle.canonicalize.proofs.Replacing.{next_atom, replacing_end, replacing_next, replacing_start}
-use Rattle.canonicalize.proofs.replace_all.Goals as goal
+use Rattle.canonicalize.proofs.Sweep.replace_all.Goals as goal
 
 pub loop-p-init : goal.loop-p-init
 loop-p-init c = (refl, replacing_start c.requires)

@@ -3,7 +3,7 @@
 use native.Mathlib.Omega.{arith}
 use Rattle.octets.proofs.Words.{length_words}
 use Rattle.canonicalize.proofs.Fronting.{equality_within, front_asked, front_still, resolve_asks, step_asks, tried}
-use Rattle.canonicalize.proofs.front_one.Goals as goal
+use Rattle.canonicalize.proofs.Sweep.front_one.Goals as goal
 
 pub past_equality-next-requires : goal.past_equality-next-requires
 past_equality-next-requires c =
