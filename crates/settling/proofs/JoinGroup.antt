@@ -30,7 +30,7 @@ use Rattle.rules.specs.Canonicalize as canon
 
 -- what is left of the area, and the sum of what was done and of one step more
 abbrev pub free : Area → (words binds : ℕ) → Area
-free area words binds = record { body = area.body; k = area.k; to = area.to + words; d = binds }
+free area words binds = record { body = area.body; k = area.k; to = area.to + words; d = binds; sign = area.sign }
 
 abbrev pub added : Joined → Joined → Joined
 added t r = record { left = r.left; words = t.words + r.words; binds = r.binds }

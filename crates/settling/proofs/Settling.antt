@@ -33,6 +33,7 @@ use Rattle.merging.specs.RemoveDupVars.{Group, GroupsAt, PassAsks, Passed, all_e
 use Rattle.merging.proofs.PassGroups.{PassGroups, groups_none, groups_small, pass_groups}
 use Rattle.settling.specs.declared.Settled.{Settled}
 use Rattle.settling.specs.declared.joining.Area.{Area}
+use Rattle.bodies.specs.declared.terms.Sign.{Sign}
 use Rattle.settling.specs.Joining.{AgainAsks}
 use Rattle.settling.specs.Settle.{SettleAsks, SettledAt, settled_none}
 use Rattle.rules.specs.RemoveDupVars as definitions
@@ -198,11 +199,11 @@ module _ {s : Sig} {l m : List ℕ} {at n : ℕ} {r : Canonical} {k : ℕ} (w : 
     only = only_then w.only (only_wide at end z.only (omega arith) (omega (arith, beyond, w.count)))
 
     -- what canonicalizing its equalities asks
-    abbrev pub area : Area
-    area = record { body = at + 4 * n + 1; k = t.kept; to = at + 2 * n; d = r.binds }
+    abbrev pub area : Sign → Area
+    area q = record { body = at + 4 * n + 1; k = t.kept; to = at + 2 * n; d = r.binds; sign = q }
 
-    pub next_asks : AgainAsks m₂ at t.eqs area
-    next_asks =
+    pub next_asks : (q : Sign) → AgainAsks m₂ at t.eqs (area q)
+    next_asks q =
         let kept : t.kept ≤ tabs_weight ks = omega (arith, kepts.size, tabs_words_weight ks) in
         let many : length (all_eqns written.groups) ≡ length es = ap length eqns_are in
         record {

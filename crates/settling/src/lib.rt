@@ -91,7 +91,8 @@ pub fn settle(s: &mut [u8], at: usize, n: usize, q: Sign) -> Settled
             k: t.kept,
             to: links,
             d: c.binds,
+            sign: q,
         };
-        c = joining::canonicalize_again(s, at, t.eqs, area, q);
+        c = area.canonicalize_again(s, at, t.eqs);
     }
 }

@@ -33,7 +33,7 @@ pub returns-then-t-eq0 : goal.returns-then-t-eq0
 returns-then-t-eq0 c = λ g ys b y. settled c.loop-q.invariant.1 c.merge-t.ensures g ys b.globals b.equals y c.if-t-eq0.true
 
 pub canonicalize_again-c-requires : goal.canonicalize_again-c-requires
-canonicalize_again-c-requires c = next_asks c.loop-q.invariant.1 c.merge-t.ensures
+canonicalize_again-c-requires c = next_asks c.loop-q.invariant.1 c.merge-t.ensures c.args.q
 
 pub loop-q-smaller : goal.loop-q-smaller
 loop-q-smaller c = omega (arith, few c.loop-q.invariant.1)

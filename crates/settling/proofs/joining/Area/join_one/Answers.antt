@@ -9,8 +9,8 @@ use Rattle.bodies.specs.Terms.{sig}
 use Rattle.canonicalize.proofs.Replacing.{asked_none, asked_some}
 use Rattle.settling.specs.Joining.{join_ask}
 use Rattle.settling.proofs.JoinOne.{one_read, is_join_ask, join_room, joined_asked, joined_still, not_renamed, renamed}
-use Rattle.settling.proofs.joining.join_one.Goals as goal
-use Rattle.settling.proofs.joining.join_one.Goals.{then-asked-left, else-asked-left}
+use Rattle.settling.proofs.joining.Area.join_one.Goals as goal
+use Rattle.settling.proofs.joining.Area.join_one.Goals.{then-asked-left, else-asked-left}
 
 pub resolve_terms-words-requires : goal.resolve_terms-words-requires
 resolve_terms-words-requires c =
@@ -31,7 +31,7 @@ put_three-requires c = omega (arith, c.requires, length_words_kept _ _ (c.replac
 pub returns : goal.returns
 returns c =
     let r : Replacement = record { old = c.in-Some.asked.old; new = c.in-Some.asked.new } in
-    let asks : (let a = c.args in join_ask (sig a.q) a.left c.get-right.result ≡ some r) =
+    let asks : (let a = c.args in join_ask (sig a.self.sign) a.left c.get-right.result ≡ some r) =
     is_join_ask _ _ _ ∙ asked_some _ c.in-Some.asked (sym c.in-Some.is ∙ c.replacement_of.ensures) in
     let new_left : c.if-asked-left.now ≡ replace_term r c.args.left =
     elim c.if-asked-left.branch [ then-asked-left w ↦ renamed _ _ _ w.if-asked-left.true w.now-is | else-asked-left w ↦ not_renamed _ _ _ w.if-asked-left.false w.now-is ] in

@@ -8,24 +8,24 @@ use Rattle.octets.specs.Regions.{below, beyond}
 use Rattle.octets.specs.Words.{words}
 use Rattle.bodies.specs.Terms.{sig}
 use Rattle.settling.proofs.JoinAgain.{AllJoined, again_bare, again_moved, all_joined}
-use Rattle.settling.proofs.joining.canonicalize_again.Goals as goal
+use Rattle.settling.proofs.joining.Area.canonicalize_again.Goals as goal
 
 pub returns-then-v-eq0 : goal.returns-then-v-eq0
 returns-then-v-eq0 c =
-    let at_joined : (let a = c.args in AllJoined (sig a.q) (words a.s.now) (words c.join_all-t.new.s) a.at a.e a.area c.join_all-t.result) =
+    let at_joined : (let a = c.args in AllJoined (sig a.self.sign) (words a.s.now) (words c.join_all-t.new.s) a.at a.e a.self c.join_all-t.result) =
     all_joined c.requires (omega (arith, length_words c.args.s.now, c.well_formed)) c.join_all-t.ensures in
     again_bare at_joined c.if-v-eq0.true
 
 pub carry-requires : goal.carry-requires
 carry-requires c =
-    let at_joined : (let a = c.args in AllJoined (sig a.q) (words a.s.now) (words c.join_all-t.new.s) a.at a.e a.area c.join_all-t.result) =
+    let at_joined : (let a = c.args in AllJoined (sig a.self.sign) (words a.s.now) (words c.join_all-t.new.s) a.at a.e a.self c.join_all-t.result) =
     all_joined c.requires (omega (arith, length_words c.args.s.now, c.well_formed)) c.join_all-t.ensures in
     let a = at_joined in
     record { n_in_bounds = (omega (arith, a), omega (arith, a)); clear = below (omega (arith, a)) }
 
 pub carry-requires-2 : goal.carry-requires-2
 carry-requires-2 c =
-    let at_joined : (let a = c.args in AllJoined (sig a.q) (words a.s.now) (words c.join_all-t.new.s) a.at a.e a.area c.join_all-t.result) =
+    let at_joined : (let a = c.args in AllJoined (sig a.self.sign) (words a.s.now) (words c.join_all-t.new.s) a.at a.e a.self c.join_all-t.result) =
     all_joined c.requires (omega (arith, length_words c.args.s.now, c.well_formed)) c.join_all-t.ensures in
     let carry_long : length (words c.carry.new.buf) ≡ length (words c.join_all-t.new.s) = length_words_kept _ _ c.carry.auto.buf in
     let a = at_joined in
@@ -33,6 +33,6 @@ carry-requires-2 c =
 
 pub returns : goal.returns
 returns c =
-    let at_joined : (let a = c.args in AllJoined (sig a.q) (words a.s.now) (words c.join_all-t.new.s) a.at a.e a.area c.join_all-t.result) =
+    let at_joined : (let a = c.args in AllJoined (sig a.self.sign) (words a.s.now) (words c.join_all-t.new.s) a.at a.e a.self c.join_all-t.result) =
     all_joined c.requires (omega (arith, length_words c.args.s.now, c.well_formed)) c.join_all-t.ensures in
     again_moved at_joined c.carry.ensures c.carry-2.ensures

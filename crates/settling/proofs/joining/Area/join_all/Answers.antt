@@ -4,7 +4,7 @@ use mathlib.Core.Path.{◌∙◌, refl}
 use native.Mathlib.Omega.{arith}
 use Rattle.octets.proofs.Words.{length_words}
 use Rattle.settling.proofs.JoinAll.{all_turn, group_read, joining_end, joining_next, joining_start}
-use Rattle.settling.proofs.joining.join_all.Goals as goal
+use Rattle.settling.proofs.joining.Area.join_all.Goals as goal
 
 pub loop-i-init : goal.loop-i-init
 loop-i-init c = (refl, joining_start c.requires)
