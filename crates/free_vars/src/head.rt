@@ -25,14 +25,14 @@ impl Head<'_> {
     ghost use Rattle.free_vars.specs.Targets.{between};
 
     // How many words it has.
-    pub fn len(&self) -> usize
+    pub(crate) fn len(&self) -> usize
         ensures { result ≡ length (words self.now.rule.now) - self.now.from }
     {
         count(self.rule) - self.from
     }
 
     // Its word i.
-    pub fn word(&self, i: usize) -> u32
+    pub(crate) fn word(&self, i: usize) -> u32
         requires { self.now.from + i < length (words self.now.rule.now) }
         ensures { Got (words self.now.rule.now) (self.now.from + i) result }
     {
@@ -59,7 +59,7 @@ impl Head<'_> {
     }
 
     // How many free variables it has, told word by word.
-    pub fn count_free(&self) -> usize
+    pub(crate) fn count_free(&self) -> usize
         ensures { result ≡ length (free self.now) }
     {
         (0..self.len()).filter(|i| self.first_free(*i)).count()
@@ -67,7 +67,7 @@ impl Head<'_> {
 
     // Whether v lies from `low` to `high` and is among the first n words. Of a variable that is not in the row this says whether an action before binds it:
     // if it is among the words before, the first of them that is v is a target, and these lie from `low` to `high`. Outside there is no search.
-    pub fn bound_before(&self, n: usize, v: u32, low: u32, high: u32) -> bool
+    pub(crate) fn bound_before(&self, n: usize, v: u32, low: u32, high: u32) -> bool
         requires { self.now.from + n ≤ length (words self.now.rule.now) }
         ensures { result ≡ (between low high v && elem v (part (words self.now.rule.now) self.now.from n)) }
     {
