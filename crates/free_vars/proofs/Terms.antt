@@ -43,7 +43,8 @@ low_none G w h = ap₂ ◌||◌ (lt-leb fresh_base w (omega arith)) (lt-leb (nam
 
 module _ (G : ℕ) (ws : List ℕ) (from i : ℕ) where
   -- nor is a term of another kind
-  pub no_variable : {w : ℕ} {t : Term} → w ≡ get_or ws (from + i) 0 → TermSays t G w → ((v : ℕ) → t ≡ Var v → ⊥) → is_var_word G (get_or ws (from + i) 0) ≡ false
+  pub no_variable : {w : ℕ} {t : Term} → w ≡ get_or ws (from + i) 0 → TermSays t G w → ((v : ℕ) → t ≡ Var v → ⊥)
+      → is_var_word G (get_or ws (from + i) 0) ≡ false
   no_variable {w} {t} read is h = ap (is_var_word G) (sym read) ∙ sym (is_var_lem G w) ∙ ap is_var_term (sym (termed is)) ∙ not_var t h
 
   pub none_free : is_var_word G (get_or ws (from + i) 0) ≡ false → first_free_at G ws from i ≡ false

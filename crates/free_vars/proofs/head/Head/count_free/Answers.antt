@@ -17,5 +17,6 @@ returns c =
     let ws = words h.rule.now in
     let n = c.len.result in
     count_from_yields_List c.filter.result c.count.result c.count.ensures.ran
-    (YieldsList-from_filter _ (first_free_at h.globals ws h.from) (YieldsList-from_range 0 n n (cc) (omega arith)) c.filter.ensures.closure (λ x r q k. search (rules, tests)))
+    (YieldsList-from_filter _ (first_free_at h.globals ws h.from) (YieldsList-from_range 0 n n (cc) (omega arith)) c.filter.ensures.closure
+    (λ x r q k. search (rules, tests)))
     ∙ length_firsts h.globals ws h.from h.behind n (omega (arith, h.within)) ∙ ap (λ (k : ℕ). length (free_among h.globals ws h.from k)) c.len.ensures
