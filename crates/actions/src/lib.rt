@@ -14,7 +14,7 @@ ghost use Rattle.walks.specs.Steps.{Piece, Termed, Walked, Room, Under, Counted,
 ghost use Rattle.head_exprs.specs.Scopes.{Scoped, ScopeRoom, Names};
 ghost use Rattle.actions.specs.Acts.{LetAt, ChangeAt, PairAt, NameCallAt, acted_at, refused_action, ChangeFits, and_change, changed, Gave, Quiet, Acts};
 
-use head_exprs::scope::{Scope, may_read, taken};
+use head_exprs::scope::Scope;
 use head_exprs::{lower, lower_all, lower_arguments};
 use walks::Walk;
 use words::{LET, MAX_DEPTH, PANIC, SET, UNION};
@@ -90,7 +90,7 @@ pub fn lower_let(
         at to sp log (words scratch.old) (words counters.old) (words scratch.new) (words counters.new) result }
 {
     let name = octets::get(rule, at + 1);
-    if taken(scratch, scope, name) {
+    if scope.taken(scratch, name) {
         return refused_action(walks::stopped(at, log, walks::ALREADY_DEFINED));
     }
     let next = at + 2;
@@ -275,7 +275,7 @@ pub fn set_name(
     if args.refused != 0 {
         return refused_action(args);
     }
-    if may_read(scratch, scope, name) {
+    if scope.may_read(scratch, name) {
         octets::put(scratch, sp + n, name);
         return put_change(args, at + 2, SET, w, n + 1, counters, scratch, sp, log);
     }

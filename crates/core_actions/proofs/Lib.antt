@@ -1,7 +1,7 @@
 -- Laws that the proofs of this crate share with those above it, in reading order.
 pub mod DoesSigned
 pub mod Forests
-pub mod SetModes
+pub mod SetSides
 pub mod UnionAsSet
 pub mod ReadActions
 pub mod ByCode

@@ -18,7 +18,10 @@ use Rattle.walks.specs.Steps.{Piece, ExprAt, ExprsAt}
 use Rattle.walks.proofs.Read.{moved, leaf_cases, call_cases}
 use Rattle.head_exprs.proofs.Sites.{Site, Known, RoomAt, ScopeRoomAt, WalkedAt}
 use Rattle.actions.specs.Acts.{done_piece, ChangeAt, PairAt, NameCallAt, changed, Gave}
-use Rattle.core_actions.specs.Unions.{Signed, set_mode}
+use Rattle.std.specs.Prelude.{Option as Optional, Some, None}
+use Rattle.core_actions.specs.Unions.{Signed, set_side}
+use Rattle.core_actions.specs.declared.unions.Side.{Side}
+use Rattle.core_actions.specs.declared.unions.Side.TheVariants.{Left, Right}
 use Rattle.actions.specs.declared.Acted.{Acted}
 use Rattle.actions.proofs.Does.{Does, Changes}
 use Rattle.core_actions.proofs.DoesSigned.{KnownSigned, EverySigned}
@@ -26,29 +29,29 @@ use Rattle.actions.proofs.NameSets as name-sets
 use Rattle.actions.proofs.Pairs as pairs
 use Rattle.actions.proofs.Acting.{acts_same}
 use Rattle.actions.proofs.Pieces.{snoc, done_set_row, SameBound, same_set}
-use Rattle.core_actions.proofs.SetModes.{Modes}
+use Rattle.core_actions.proofs.SetSides.{Sides}
 
--- a test that chooses n, and one that does not
-chosen : (t : Bool) (n : ℕ) (o : Option AsSet) (u : AsSet) → 0 < n → n ≡ cond t n 0 → o ≡ optional t u → o ≡ some u
-chosen true n o u h e is = is
-chosen false n o u h e is = absurd (omega arith)
+-- a test that chooses a side, and one that does not
+chosen : (t : Bool) (d : Side) (o : Option AsSet) (u : AsSet) → Some d ≡ cond t (Some d) None → o ≡ optional t u → o ≡ some u
+chosen true d o u e is = is
+chosen false d o u e is = absurd (cc)
 
-not_chosen : (t : Bool) (n r : ℕ) (u : AsSet) → (r ≡ n → ⊥) → r ≡ cond t n 0 → optional t u ≡ none
-not_chosen true n r u other e = absurd (other e)
-not_chosen false n r u other e = refl
+not_chosen : (t : Bool) (d : Side) (u : AsSet) → None ≡ cond t (Some d) None → optional t u ≡ none
+not_chosen true d u e = absurd (cc)
+not_chosen false d u e = refl
 
-another : (t : Bool) (n m : ℕ) → 0 < n → (n ≡ m → ⊥) → n ≡ cond t m 0 → ⊥
-another true n m h other e = other e
-another false n m h other e = omega arith
+another : (t : Bool) (d g : Side) → (d ≡ g → ⊥) → Some d ≡ cond t (Some g) None → ⊥
+another true d g other e = other (cc)
+another false d g other e = cc
 
 -- a union that stays one
-stays : (sig : Sig) (a b : Expr) (r : ℕ) → r ≡ set_mode sig a b → (r ≡ 1 → ⊥) → (r ≡ 2 → ⊥) → union_as_set sig a b ≡ none
-stays sig (leaf p w) (leaf q v) r e one two = refl
-stays sig (leaf p w) (call q h es) r e one two =
-    not_chosen (is_name w && sig.flag && is_constructor sig h) 2 r (record { place = q; head = h; args = es; value = leaf p w }) two e
-stays sig (call q h es) (leaf p w) r e one two =
-    not_chosen (is_name w && sig.flag && is_constructor sig h) 1 r (record { place = q; head = h; args = es; value = leaf p w }) one e
-stays sig (call p h es) (call q g fs) r e one two = refl
+stays : (sig : Sig) (a b : Expr) → None ≡ set_side sig a b → union_as_set sig a b ≡ none
+stays sig (leaf p w) (leaf q v) e = refl
+stays sig (leaf p w) (call q h es) e =
+    not_chosen (is_name w && sig.flag && is_constructor sig h) Right (record { place = q; head = h; args = es; value = leaf p w }) e
+stays sig (call q h es) (leaf p w) e =
+    not_chosen (is_name w && sig.flag && is_constructor sig h) Left (record { place = q; head = h; args = es; value = leaf p w }) e
+stays sig (call p h es) (call q g fs) e = refl
 
 -- ---- an expression that may be d deep may be deeper
 
@@ -115,7 +118,7 @@ module _ (sig : Sig) (ws : List ℕ) (few : heads sig ≤ limit12) (at : ℕ) (x
         ≡ changed sig bound (action_word 2) 1 (at + 1) (head_of (get_or ws (at + 1) 0)) change.exprs.value cs
     pub same : (bound cs : List ℕ) → SameBound sig bound (lower_union sig bound (union_as_set sig x.left.value x.right.value) x.left.value x.right.value cs)
 
-  left_is : 1 ≡ set_mode sig x.left.value x.right.value → LeftSet
+  left_is : Some Left ≡ set_side sig x.left.value x.right.value → LeftSet
   left_is e = go (ltb w literal_base) refl
     where
       w : ℕ
@@ -140,7 +143,7 @@ module _ (sig : Sig) (ws : List ℕ) (few : heads sig ≤ limit12) (at : ℕ) (x
           let ends : at + 2 + es.size + x.right.size ≡ at + 2 + (es.size + x.right.size) = omega arith in
           let u : AsSet = record { place = at + 1; head = head_of w; args = es.value; value = n } in
           let some' : union_as_set sig x.left.value x.right.value ≡ some u =
-          chosen (is_name v && sig.flag && is_constructor sig (head_of w)) 1 _ u (omega arith) (e ∙ (λ i. set_mode sig (sym le i) (sym re i)))
+          chosen (is_name v && sig.flag && is_constructor sig (head_of w)) Left _ u (e ∙ (λ i. set_side sig (sym le i) (sym re i)))
           (λ i. union_as_set sig (sym le i) (sym re i)) in
           record {
             change =
@@ -169,7 +172,7 @@ module _ (sig : Sig) (ws : List ℕ) (few : heads sig ≤ limit12) (at : ℕ) (x
           → (b : Bool) → ltb v literal_base ≡ b → LeftSet
       right es high hd le ls true t =
           call_cases sig ws few (λ f k. f ≡ x.right.value → LeftSet) max_depth (at + 1 + x.left.size) v x.right refl (ltb-true v literal_base t)
-          (λ fs deep h2 hd2 re. absurd (let z : ◌≡◌ {A = ℕ} 1 0 = e ∙ (λ i. set_mode sig (sym le i) (sym re i)) in omega arith)) refl
+          (λ fs deep h2 hd2 re. absurd (let z : Some Left ≡ None = e ∙ (λ i. set_side sig (sym le i) (sym re i)) in cc)) refl
       right es high hd le ls false t =
           leaf_cases sig ws few (λ f k. f ≡ x.right.value → k ≡ x.right.size → LeftSet) max_depth (at + 1 + x.left.size) v x.right refl (ltb-false v literal_base t)
           (λ i o re rs. made es high hd le ls re rs) refl refl
@@ -180,11 +183,11 @@ module _ (sig : Sig) (ws : List ℕ) (few : heads sig ≤ limit12) (at : ℕ) (x
           (λ es deep high hd le ls. right es high hd le ls (ltb v literal_base) refl) refl refl
       go false t =
           leaf_cases sig ws few (λ f k. f ≡ x.left.value → LeftSet) max_depth (at + 1) w x.left refl (ltb-false w literal_base t)
-          (λ i o le. absurd (not_one x.right.value (e ∙ ap (λ (f : Expr). set_mode sig f x.right.value) (sym le)))) refl
+          (λ i o le. absurd (not_one x.right.value (e ∙ ap (λ (f : Expr). set_side sig f x.right.value) (sym le)))) refl
         where
-          not_one : (f : Expr) → 1 ≡ set_mode sig (leaf (at + 1) w) f → ⊥
-          not_one (leaf p u) k = omega arith
-          not_one (call p h es) k = another (is_name w && sig.flag && is_constructor sig h) 1 2 (omega arith) (λ z. omega arith) k
+          not_one : (f : Expr) → Some Left ≡ set_side sig (leaf (at + 1) w) f → ⊥
+          not_one (leaf p u) k = cc
+          not_one (call p h es) k = another (is_name w && sig.flag && is_constructor sig h) Left Right (λ z. cc) k
 
   -- with the call on the right: it stands behind the name
   record RightSet : Type 0 where
@@ -194,7 +197,7 @@ module _ (sig : Sig) (ws : List ℕ) (few : heads sig ≤ limit12) (at : ℕ) (x
         → lower_union sig bound (union_as_set sig x.left.value x.right.value) x.left.value x.right.value cs
         ≡ lower_set sig bound (at + 2) (head_of (get_or ws (at + 2) 0)) named.exprs.value (leaf (at + 1) (get_or ws (at + 1) 0)) cs
 
-  right_is : 2 ≡ set_mode sig x.left.value x.right.value → RightSet
+  right_is : Some Right ≡ set_side sig x.left.value x.right.value → RightSet
   right_is e = go (ltb w literal_base) refl
     where
       w : ℕ
@@ -209,7 +212,7 @@ module _ (sig : Sig) (ws : List ℕ) (few : heads sig ≤ limit12) (at : ℕ) (x
           let three : at + 2 + 1 ≡ at + 3 = omega arith in
           let u : AsSet = record { place = at + 2; head = head_of v; args = es.value; value = leaf (at + 1) w } in
           let some' : union_as_set sig x.left.value x.right.value ≡ some u =
-          chosen (is_name w && sig.flag && is_constructor sig (head_of v)) 2 _ u (omega arith) (e ∙ (λ i. set_mode sig (sym le i) (sym re i)))
+          chosen (is_name w && sig.flag && is_constructor sig (head_of v)) Right _ u (e ∙ (λ i. set_side sig (sym le i) (sym re i)))
           (λ i. union_as_set sig (sym le i) (sym re i)) in
           record {
             named = record { old = old; high = high; head = hd; exprs = moved (read_many (read_expr sig ws (max_depth - 1)) (count_of v)) ws (at + 2 + 1) (at + 3) three es };
@@ -232,7 +235,7 @@ module _ (sig : Sig) (ws : List ℕ) (few : heads sig ≤ limit12) (at : ℕ) (x
               (λ es deep high hd re rs. made old le ls es high hd re rs) refl refl
           by false t =
               leaf_cases sig ws few (λ f k. f ≡ x.right.value → RightSet) max_depth (at + 2) v y refl (ltb-false v literal_base t)
-              (λ i o re. absurd (let z : ◌≡◌ {A = ℕ} 2 0 = e ∙ (λ i. set_mode sig (sym le i) (sym re i)) in omega arith)) refl
+              (λ i o re. absurd (let z : Some Right ≡ None = e ∙ (λ i. set_side sig (sym le i) (sym re i)) in cc)) refl
 
       go : (b : Bool) → ltb w literal_base ≡ b → RightSet
       go false t =
@@ -240,11 +243,11 @@ module _ (sig : Sig) (ws : List ℕ) (few : heads sig ≤ limit12) (at : ℕ) (x
           (λ i o le ls. right o le ls (ltb v literal_base) refl) refl refl
       go true t =
           call_cases sig ws few (λ f k. f ≡ x.left.value → RightSet) max_depth (at + 1) w x.left refl (ltb-true w literal_base t)
-          (λ es deep high hd le. absurd (not_two_lem es.value x.right.value (e ∙ ap (λ (f : Expr). set_mode sig f x.right.value) (sym le)))) refl
+          (λ es deep high hd le. absurd (not_two_lem es.value x.right.value (e ∙ ap (λ (f : Expr). set_side sig f x.right.value) (sym le)))) refl
         where
-          not_two_lem : (es : Exprs) (f : Expr) → 2 ≡ set_mode sig (call (at + 1) (head_of w) es) f → ⊥
-          not_two_lem es (call p h fs) k = omega arith
-          not_two_lem es (leaf p u) k = another (is_name u && sig.flag && is_constructor sig (head_of w)) 2 1 (omega arith) (λ z. omega arith) k
+          not_two_lem : (es : Exprs) (f : Expr) → Some Right ≡ set_side sig (call (at + 1) (head_of w) es) f → ⊥
+          not_two_lem es (call p h fs) k = cc
+          not_two_lem es (leaf p u) k = another (is_name u && sig.flag && is_constructor sig (head_of w)) Right Left (λ z. cc) k
 
 -- ---- lowering a union, of which it is known whether it becomes a set
 
@@ -255,18 +258,18 @@ Answers gs k s' cs' r =
     (λ sig x bound. Does k sig bound (lower_union sig bound (union_as_set sig x.left.value x.right.value) x.left.value x.right.value k.cs)
     (1 + (x.left.size + x.right.size)) s' cs' r)
 
-pub record Moded (gs : List ℕ) (k : Site) (mode : ℕ) : Type 0 where
+pub record Sided (gs : List ℕ) (k : Site) (side : Optional Side) : Type 0 where
   pub known : KnownSigned k gs (λ sig. PairAt sig k.ws k.at)
   pub room : RoomAt k k.at
   pub scope_room : ScopeRoomAt k k.at
-  pub is : Modes gs k.ws k.at mode
+  pub is : Sides gs k.ws k.at side
 
-module _ {gs : List ℕ} {k : Site} {mode : ℕ} (g : Moded gs k mode) where
+module _ {gs : List ℕ} {k : Site} {side : Optional Side} (g : Sided gs k side) where
   asks : {A : Sig → Type 0} → ((sig : Sig) (x : PairAt sig k.ws k.at) → heads sig ≤ limit12 → Signed sig gs → A sig) → Known k A
   asks at = let q = g.known in record { sig = q.sig; known = (at q.sig q.known.0 q.known.1.few q.known.3, q.known.1, q.known.2) }
 
   -- its left side is the call
-  module _ (e : mode ≡ 1) where
+  module _ (e : side ≡ Some Left) where
     left : (sig : Sig) (x : PairAt sig k.ws k.at) (few : heads sig ≤ limit12) → Signed sig gs → LeftSet sig k.ws few k.at x
     left sig x few sg = left_is sig k.ws few k.at x (sym e ∙ g.is sig x few sg)
 
@@ -284,7 +287,7 @@ module _ {gs : List ℕ} {k : Site} {mode : ℕ} (g : Moded gs k mode) where
         (does.1 sig l.change bound n sc)))
 
   -- its right side is
-  module _ (e : mode ≡ 2) where
+  module _ (e : side ≡ Some Right) where
     right : (sig : Sig) (x : PairAt sig k.ws k.at) (few : heads sig ≤ limit12) → Signed sig gs → RightSet sig k.ws few k.at x
     right sig x few sg = right_is sig k.ws few k.at x (sym e ∙ g.is sig x few sg)
 
@@ -302,7 +305,7 @@ module _ {gs : List ℕ} {k : Site} {mode : ℕ} (g : Moded gs k mode) where
   pub stays_asks : Known k (λ sig. PairAt sig k.ws k.at)
   stays_asks = asks (λ sig x few sg. x)
 
-  pub stays_done : {s' cs' : List ℕ} {r : Acted} → (mode ≡ 1 → ⊥) → (mode ≡ 2 → ⊥) → pairs.Answers k s' cs' r → Answers gs k s' cs' r
-  stays_done {s'} {cs'} {r} one two does sig x bound n sc sg =
+  pub stays_done : {s' cs' : List ℕ} {r : Acted} → side ≡ None → pairs.Answers k s' cs' r → Answers gs k s' cs' r
+  stays_done {s'} {cs'} {r} e does sig x bound n sc sg =
       subst (λ (o : Option AsSet). Does k sig bound (lower_union sig bound o x.left.value x.right.value k.cs) (1 + (x.left.size + x.right.size)) s' cs' r)
-      (sym (stays sig x.left.value x.right.value mode (g.is sig x n.few sg) one two)) (does sig x bound n sc)
+      (sym (stays sig x.left.value x.right.value (sym e ∙ g.is sig x n.few sg))) (does sig x bound n sc)

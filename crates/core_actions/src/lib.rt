@@ -22,7 +22,7 @@ use actions::{
     Acted, apart, done_action, lower_change, lower_expression, lower_let, lower_panic,
     refused_action,
 };
-use head_exprs::scope::{Scope, with_names};
+use head_exprs::scope::Scope;
 
 // A word that does not fit.
 const UNFIT: u32 = 5;
@@ -86,7 +86,7 @@ pub fn to_core_actions(
     let mut names = scope.names;
     let mut count = 0;
     while 0 < left {
-        let now = with_names(scope, names);
+        let now = scope.with_names(names);
         let sp = scope.first + names;
         let one = lower_action(signature, rule, next, now, counters, scratch, end, sp, uses);
         if one.walk.refused != 0 {

@@ -7,7 +7,7 @@ ghost use Rattle.rules.specs.ToCoreActions.{lower_union, union_as_set};
 ghost use Rattle.walks.specs.Steps.{Room, Under, Counted, ExprAt};
 ghost use Rattle.head_exprs.specs.Scopes.{Scoped, ScopeRoom, Names};
 ghost use Rattle.actions.specs.Acts.{PairAt, Acts};
-ghost use Rattle.core_actions.specs.Unions.{Signed, set_mode, arity_of};
+ghost use Rattle.core_actions.specs.Unions.{Signed, set_side, arity_of};
 
 use actions::{Acted, lower_change, set_name, unite};
 use head_exprs::scope::Scope;
@@ -15,6 +15,13 @@ use words::SET;
 
 // The word of a signature that says 1: the flag is on, a head is a constructor.
 const ONE: u32 = words::SIGNATURE_BASE + 1;
+
+// A side of a union: the one that is the constructor call of the set that the union becomes.
+#[derive(Clone, Copy)]
+enum Side {
+    Left,
+    Right,
+}
 
 // How many expressions stand under the first word of an expression.
 fn arity(w: u32) -> usize
@@ -51,34 +58,34 @@ fn constructs(signature: &[u8], w: u32) -> bool
     octets::get(signature, 4 + h) == ONE
 }
 
-// Whether the union at `at` becomes a set: 1 where its left side is the constructor call, 2 where its right side is, else 0.
-fn as_set(signature: &[u8], rule: &[u8], at: usize) -> u32
+// Which side of the union at `at` is the constructor call, where it becomes a set.
+fn as_set(signature: &[u8], rule: &[u8], at: usize) -> Option<Side>
     requires { Under (λ sig. PairAt sig (words rule.now) at × (heads sig ≤ limit12) × Signed sig (words signature.now)) }
     ensures { (sig : Sig) (x : PairAt sig (words rule.now) at)
-        → heads sig ≤ limit12 → Signed sig (words signature.now) → result ≡ set_mode sig x.left.value x.right.value }
+        → heads sig ≤ limit12 → Signed sig (words signature.now) → result ≡ set_side sig x.left.value x.right.value }
 {
     if octets::get(signature, 3) != ONE {
-        return 0;
+        return None;
     }
     let left = octets::get(rule, at + 1);
     if !words::is_leaf(left) {
         if constructs(signature, left) {
             let right = octets::get(rule, skip(rule, at + 1));
             if words::NAME_BASE <= right {
-                return 1;
+                return Some(Side::Left);
             }
         }
-        return 0;
+        return None;
     }
     if words::NAME_BASE <= left {
         let right = octets::get(rule, at + 2);
         if !words::is_leaf(right) {
             if constructs(signature, right) {
-                return 2;
+                return Some(Side::Right);
             }
         }
     }
-    0
+    None
 }
 
 // A union, whose action word stands at `at`.
@@ -102,12 +109,11 @@ pub fn lower_union(
         sig bound scope (1 + (x.left.size + x.right.size))
         at to sp log (words scratch.old) (words counters.old) (words scratch.new) (words counters.new) result }
 {
-    let mode = as_set(signature, rule, at);
-    if mode == 1 {
-        return lower_change(rule, at, SET, 1, scope, counters, scratch, to, sp, log);
+    match as_set(signature, rule, at) {
+        Some(Side::Left) => {
+            lower_change(rule, at, SET, 1, scope, counters, scratch, to, sp, log)
+        }
+        Some(Side::Right) => set_name(rule, at, scope, counters, scratch, to, sp, log),
+        None => unite(rule, at, scope, counters, scratch, to, sp, log),
     }
-    if mode == 2 {
-        return set_name(rule, at, scope, counters, scratch, to, sp, log);
-    }
-    unite(rule, at, scope, counters, scratch, to, sp, log)
 }

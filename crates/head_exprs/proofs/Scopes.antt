@@ -6,7 +6,7 @@ use Prim.Native.Nat.{ℕ, ◌+◌, ◌≤◌, ◌<◌}
 use native.Mathlib.Omega.{arith}
 use lib.Dec.{eqb, ltb}
 use lib.ListN.{length, get_or}
-use borrow.Author.Tests.{lt-leb, le-leb, lt-ltb, le-ltb, ltb-true, ltb-false}
+use borrow.Author.Tests.{lt-leb, le-leb, ltb-true, ltb-false}
 use Rattle.octets.specs.Regions.{part, elem}
 use Rattle.octets.proofs.Splice.{part_more, part_same}
 use Rattle.rules.specs.Words.{limit12, name_base, fresh_base}
@@ -16,15 +16,6 @@ use Rattle.meaning.proofs.DistinctWords.{elem_append}
 use Rattle.walks.specs.Steps.{Kept, Room}
 use Rattle.head_exprs.specs.Scopes.{in_scope, may_read, is_taken, grown, ScopeFits, Scoped, ScopeRoom}
 use Rattle.head_exprs.specs.declared.scope.Scope.{Scope}
-
--- what the two searches say
-pub in_body : (s : List ℕ) (c : Scope) (w : ℕ) → elem w (part s 0 c.body) ≡ true → in_scope s c w ≡ true
-unfolding in_scope
-in_body s c w e = rw e
-
-pub in_names : (s : List ℕ) (c : Scope) (w : ℕ) → elem w (part s 0 c.body) ≡ false → in_scope s c w ≡ elem w (part s c.first c.names)
-unfolding in_scope
-in_names s c w e = rw e
 
 -- a step that writes elsewhere leaves the scope as it is
 pub scoped_kept : {sig : Sig} {bound : List ℕ} {c : Scope} {to te sp se lg le log : ℕ} {s cs s' cs' : List ℕ} → Kept to te sp se lg le s cs s' cs' log
@@ -50,19 +41,6 @@ is_not_var sig g w e f k =
     let h : w < fresh_base = omega arith in
     let j : w < name_base + sig.globals = omega arith in
     rw (lt-leb fresh_base w h, lt-leb (name_base + sig.globals) w j)
-
--- the two tests, as the definition has them: a word below the first variable is read, and is bound only by a let
-pub may_read_low : (s : List ℕ) (c : Scope) (w : ℕ) → w < name_base + c.globals → true ≡ may_read s c w
-may_read_low s c w h = rw (lt-ltb w (name_base + c.globals) h)
-
-pub may_read_high : (s : List ℕ) (c : Scope) (w : ℕ) → name_base + c.globals ≤ w → in_scope s c w ≡ may_read s c w
-may_read_high s c w h = rw (le-ltb w (name_base + c.globals) h)
-
-pub taken_low : (s : List ℕ) (c : Scope) (w : ℕ) → w < name_base + c.globals → elem w (part s c.first c.names) ≡ is_taken s c w
-taken_low s c w h = rw (lt-ltb w (name_base + c.globals) h)
-
-pub taken_high : (s : List ℕ) (c : Scope) (w : ℕ) → name_base + c.globals ≤ w → in_scope s c w ≡ is_taken s c w
-taken_high s c w h = rw (le-ltb w (name_base + c.globals) h)
 
 pub reads_low : (sig : Sig) (bound s : List ℕ) (c : Scope) (w : ℕ) → Scoped sig bound s c → w < name_base + c.globals → true ≡ readable sig bound w
 reads_low sig bound s c w x h = rw (is_not_var sig c.globals w x.globals x.few h)

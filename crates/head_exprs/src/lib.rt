@@ -14,7 +14,7 @@ ghost use Rattle.walks.specs.Steps.{UseFits, Room, Under, Counted, ExprAt, Exprs
 ghost use Rattle.head_exprs.specs.Scopes.{ScopeRoom, Names};
 ghost use Rattle.head_exprs.specs.Lowered.{Binds, LowersExpr, LowersExprs};
 
-use crate::scope::{Scope, may_read};
+use crate::scope::Scope;
 use walks::Walk;
 
 // The end of a call: behind the walk `args` over its n arguments, whose terms are on the stack, the fresh variable of the head of its kind 3 word w is
@@ -60,7 +60,7 @@ pub fn lower(
 {
     let w = octets::get(rule, at);
     if words::is_leaf(w) {
-        if may_read(scratch, scope, w) {
+        if scope.may_read(scratch, w) {
             return walks::reached(at + 1, to, log, w);
         }
         return walks::stopped(at, log, walks::UNBOUND);

@@ -12,59 +12,55 @@ pub struct Scope {
     pub names: usize,
 }
 
-// The scope with which a head starts: no name is let.
-pub fn first_scope(globals: u32, body: usize, first: usize) -> Scope
-    ensures { result ≡ first_scope globals body first }
-{
-    Scope {
-        globals,
-        body,
-        first,
-        names: 0,
+impl Scope {
+    // The scope with which a head starts: no name is let.
+    pub fn new(globals: u32, body: usize, first: usize) -> Scope
+        ensures { result ≡ first_scope globals body first }
+    {
+        Scope {
+            globals,
+            body,
+            first,
+            names: 0,
+        }
     }
-}
 
-// The scope with so many names let.
-pub fn with_names(scope: Scope, names: usize) -> Scope
-    ensures { result ≡ having scope names }
-{
-    Scope {
-        globals: scope.globals,
-        body: scope.body,
-        first: scope.first,
-        names,
+    // The same scope with so many names let.
+    pub fn with_names(self, names: usize) -> Scope
+        ensures { result ≡ having self names }
+    {
+        Scope { names, ..self }
     }
-}
 
-// Whether the variable w is bound.
-fn has(s: &[u8], scope: Scope, w: u32) -> bool
-    requires { ScopeFits (words s.now) scope }
-    ensures { result ≡ in_scope (words s.now) scope w }
-{
-    if octets::regions::among(s, 0, scope.body, w) {
-        return true;
+    // Whether the variable w is bound.
+    #[tactic(auto, unfolding(crate::specs::Scopes::in_scope))]
+    fn has(self, s: &[u8], w: u32) -> bool
+        requires { ScopeFits (words s.now) self }
+        ensures { result ≡ in_scope (words s.now) self w }
+    {
+        octets::regions::among(s, 0, self.body, w)
+            || octets::regions::among(s, self.first, self.names, w)
     }
-    octets::regions::among(s, scope.first, scope.names, w)
-}
 
-// Whether the leaf w may be read: a literal or a global, also after a let of it, or a bound name.
-pub fn may_read(s: &[u8], scope: Scope, w: u32) -> bool
-    requires { ScopeFits (words s.now) scope }
-    ensures { result ≡ may_read (words s.now) scope w }
-{
-    if w < words::NAME_BASE + scope.globals {
-        return true; // a literal or a global
+    // Whether the leaf w may be read: a literal or a global, also after a let of it, or a bound name.
+    pub fn may_read(self, s: &[u8], w: u32) -> bool
+        requires { ScopeFits (words s.now) self }
+        ensures { result ≡ may_read (words s.now) self w }
+    {
+        if w < words::NAME_BASE + self.globals {
+            return true; // a literal or a global
+        }
+        self.has(s, w)
     }
-    has(s, scope, w)
-}
 
-// Whether the name w is bound: a variable by the body or by a let, a global by a let.
-pub fn taken(s: &[u8], scope: Scope, w: u32) -> bool
-    requires { ScopeFits (words s.now) scope }
-    ensures { result ≡ is_taken (words s.now) scope w }
-{
-    if w < words::NAME_BASE + scope.globals {
-        return octets::regions::among(s, scope.first, scope.names, w);
+    // Whether the name w is bound: a variable by the body or by a let, a global by a let.
+    pub fn taken(self, s: &[u8], w: u32) -> bool
+        requires { ScopeFits (words s.now) self }
+        ensures { result ≡ is_taken (words s.now) self w }
+    {
+        if w < words::NAME_BASE + self.globals {
+            return octets::regions::among(s, self.first, self.names, w);
+        }
+        self.has(s, w)
     }
-    has(s, scope, w)
 }

@@ -13,7 +13,7 @@ ghost use Rattle.walks.specs.Log.{undone};
 ghost use Rattle.lowering.specs.Lowered.{Good, refusal, accepted, Lowers};
 
 use actions::Acted;
-use head_exprs::scope::first_scope;
+use head_exprs::scope::Scope;
 use walks::Walk;
 
 // Where the parts of a rule of n words start in the scratch, in steps of n words. The body starts at 0 and has at most 3 n words; settling takes
@@ -90,7 +90,7 @@ pub fn to_core_rule(
         return refuse(body, counters, scratch, log);
     }
     let globals = octets::get(signature, 1) - words::SIGNATURE_BASE;
-    let scope = first_scope(globals, body.to, stack);
+    let scope = Scope::new(globals, body.to, stack);
     let head = core_actions::to_core_actions(
         signature,
         rule,

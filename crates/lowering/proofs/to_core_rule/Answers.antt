@@ -54,8 +54,8 @@ to_core_actions-head-requires c =
     let f = flattened {k = k} (length_words_kept _ _ q.auto.scratch) (length_words_kept _ _ q.auto.counters) (q.ensures k.good.sig k.read.facts k.counted) in
     let y = ready f c.if-body-ne0.false c.get-globals.ensures.is in
     record {
-      under = rw c.first_scope-scope.ensures (record { sig = k.good.sig; known = (actions_at y, head_counted y, names_at y, k.signature.signed) });
-      row_room = rw c.first_scope-scope.ensures (head_room y, head_scope_room y);
+      under = rw c.new-scope.ensures (record { sig = k.good.sig; known = (actions_at y, head_counted y, names_at y, k.signature.signed) });
+      row_room = rw c.new-scope.ensures (head_room y, head_scope_room y);
     }
 
 pub refuse-requires-then-head-ne0 : goal.refuse-requires-then-head-ne0
@@ -65,7 +65,7 @@ refuse-requires-then-head-ne0 c =
     let f = flattened {k = k} (length_words_kept _ _ q.auto.scratch) (length_words_kept _ _ q.auto.counters) (q.ensures k.good.sig k.read.facts k.counted) in
     let y = ready f c.if-body-ne0.false c.get-globals.ensures.is in
     let a = c.to_core_actions-head in
-    let m = headed y (words a.new.scratch) (words a.new.counters) a.result c.first_scope-scope.ensures (length_words_kept _ _ a.auto.scratch)
+    let m = headed y (words a.new.scratch) (words a.new.counters) a.result c.new-scope.ensures (length_words_kept _ _ a.auto.scratch)
     (λ x bound sc. (a.ensures k.good.sig x bound (head_counted y) sc k.signature.signed).0) in
     (m.log_from, omega (arith, m))
 
@@ -76,7 +76,7 @@ returns-then-head-ne0 c =
     let f = flattened {k = k} (length_words_kept _ _ q.auto.scratch) (length_words_kept _ _ q.auto.counters) (q.ensures k.good.sig k.read.facts k.counted) in
     let y = ready f c.if-body-ne0.false c.get-globals.ensures.is in
     let a = c.to_core_actions-head in
-    let m = headed y (words a.new.scratch) (words a.new.counters) a.result c.first_scope-scope.ensures (length_words_kept _ _ a.auto.scratch)
+    let m = headed y (words a.new.scratch) (words a.new.counters) a.result c.new-scope.ensures (length_words_kept _ _ a.auto.scratch)
     (λ x bound sc. (a.ensures k.good.sig x bound (head_counted y) sc k.signature.signed).0) in
     let e = c.refuse-then-head-ne0.ensures in
     rw e.0 (head_back m c.if-head-ne0.true e.1)
@@ -88,7 +88,7 @@ made-requires c =
     let f = flattened {k = k} (length_words_kept _ _ q.auto.scratch) (length_words_kept _ _ q.auto.counters) (q.ensures k.good.sig k.read.facts k.counted) in
     let y = ready f c.if-body-ne0.false c.get-globals.ensures.is in
     let a = c.to_core_actions-head in
-    let m = headed y (words a.new.scratch) (words a.new.counters) a.result c.first_scope-scope.ensures (length_words_kept _ _ a.auto.scratch)
+    let m = headed y (words a.new.scratch) (words a.new.counters) a.result c.new-scope.ensures (length_words_kept _ _ a.auto.scratch)
     (λ x bound sc. (a.ensures k.good.sig x bound (head_counted y) sc k.signature.signed).0) in
     (head_ends m c.if-head-ne0.false, m.log_from)
 
@@ -99,6 +99,6 @@ returns c =
     let f = flattened {k = k} (length_words_kept _ _ q.auto.scratch) (length_words_kept _ _ q.auto.counters) (q.ensures k.good.sig k.read.facts k.counted) in
     let y = ready f c.if-body-ne0.false c.get-globals.ensures.is in
     let a = c.to_core_actions-head in
-    let m = headed y (words a.new.scratch) (words a.new.counters) a.result c.first_scope-scope.ensures (length_words_kept _ _ a.auto.scratch)
+    let m = headed y (words a.new.scratch) (words a.new.counters) a.result c.new-scope.ensures (length_words_kept _ _ a.auto.scratch)
     (λ x bound sc. (a.ensures k.good.sig x bound (head_counted y) sc k.signature.signed).0) in
     rw c.made.ensures (both_done m c.if-head-ne0.false)

@@ -6,8 +6,8 @@ use Rattle.octets.specs.Words.{words}
 use Rattle.octets.proofs.Words.{length_words}
 use Rattle.rules.specs.Words.{literal_base}
 use Rattle.walks.proofs.Words.{leaf_high, call_low}
-use Rattle.core_actions.proofs.SetModes.{Begun, begun, unflagged, Flagged, left_asks, left_plain, passed_inside, left_nameless, left_becomes}
-use Rattle.core_actions.proofs.SetModes.{leaf_nameless, right_inside, leaf_leaf, right_asks, right_plain, right_becomes}
+use Rattle.core_actions.proofs.SetSides.{Begun, begun, unflagged, Flagged, left_asks, left_plain, passed_inside, left_nameless, left_becomes}
+use Rattle.core_actions.proofs.SetSides.{leaf_nameless, right_inside, leaf_leaf, right_asks, right_plain, right_becomes}
 use Rattle.core_actions.proofs.unions.as_set.Goals as goal
 
 pub get-requires : goal.get-requires

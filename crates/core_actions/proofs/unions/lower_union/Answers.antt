@@ -1,73 +1,45 @@
--- Lowering a union: where `as_set` says that it becomes a set, the walk over that set is the union's, and else it is walked as a union.
+-- Lowering a union: where `as_set` names a side, the walk over the set that the union becomes is the union's, and else it is walked as a union.
 -- Assumes nothing.
-use native.Mathlib.Omega.{arith}
+use Prim.Native.Nat.{ℕ}
+use mathlib.Core.List.{List}
+use Rattle.std.specs.Prelude.{Option}
 use Rattle.octets.specs.Words.{words}
-use Rattle.head_exprs.proofs.Sites.{Site, site_of}
-use Rattle.core_actions.proofs.UnionAsSet.{Moded, left_asks, left_done, right_asks, right_done, stays_asks, stays_done}
+use Rattle.actions.specs.Acts.{PairAt}
+use Rattle.core_actions.specs.declared.unions.Side.{Side}
+use Rattle.head_exprs.specs.declared.scope.Scope.{Scope}
+use Rattle.head_exprs.proofs.Sites.{site_of, RoomAt, ScopeRoomAt}
+use Rattle.core_actions.proofs.DoesSigned.{KnownSigned}
+use Rattle.core_actions.proofs.SetSides.{Sides}
+use Rattle.core_actions.proofs.UnionAsSet.{Sided, left_asks, left_done, right_asks, right_done, stays_done}
 use Rattle.core_actions.proofs.unions.lower_union.Goals as goal
 
-pub as_set-mode-requires : goal.as_set-mode-requires
-as_set-mode-requires c = let q = c.requires.under in record { sig = q.sig; known = (q.known.0, q.known.1.few, q.known.3) }
+-- what is known where the side is
+sided : (rule scratch counters : List ℕ) {gs : List ℕ} {at to sp lg : ℕ} {scope : Scope} {side : Option Side}
+    → (let k = site_of (words rule) (words scratch) (words counters) at to sp lg scope in
+    KnownSigned k gs (λ sig. PairAt sig k.ws k.at) → RoomAt k at × ScopeRoomAt k at → Sides gs k.ws k.at side → Sided gs k side)
+sided rule scratch counters known room is = record { known = known; room = room.0; scope_room = room.1; is = is }
 
--- ---- its left side is the call
-
-pub lower_change-requires : goal.lower_change-requires
-lower_change-requires c =
-    let site : Site =
+pub lower_change-requires-clause-under : goal.lower_change-requires-clause-under
+lower_change-requires-clause-under c =
     let a = c.args in
-    site_of (words a.rule.now) (words a.scratch.now) (words a.counters.now) a.at a.to a.sp a.log a.scope in
-    let at_mode : Moded (words c.args.signature.now) site c.as_set-mode.result =
-    let p = c.requires in record { known = p.under; room = p.room.0; scope_room = p.room.1; is = c.as_set-mode.ensures } in
-    let g = at_mode in
-    record { under = left_asks g c.if-mode-eq1.true; room = (g.room, g.scope_room, omega arith) }
+    left_asks (sided a.rule.now a.scratch.now a.counters.now c.requires.under c.requires.room c.as_set.ensures) cc
 
-pub returns-then-mode-eq1 : goal.returns-then-mode-eq1
-returns-then-mode-eq1 c =
-    let site : Site =
+pub returns-in-Some-Left : goal.returns-in-Some-Left
+returns-in-Some-Left c =
     let a = c.args in
-    site_of (words a.rule.now) (words a.scratch.now) (words a.counters.now) a.at a.to a.sp a.log a.scope in
-    let at_mode : Moded (words c.args.signature.now) site c.as_set-mode.result =
-    let p = c.requires in record { known = p.under; room = p.room.0; scope_room = p.room.1; is = c.as_set-mode.ensures } in
-    left_done at_mode c.if-mode-eq1.true c.lower_change.ensures
+    left_done (sided a.rule.now a.scratch.now a.counters.now c.requires.under c.requires.room c.as_set.ensures) (cc) c.lower_change.ensures
 
--- ---- its right side is
-
-pub set_name-requires : goal.set_name-requires
-set_name-requires c =
-    let site : Site =
+pub set_name-requires-clause-under : goal.set_name-requires-clause-under
+set_name-requires-clause-under c =
     let a = c.args in
-    site_of (words a.rule.now) (words a.scratch.now) (words a.counters.now) a.at a.to a.sp a.log a.scope in
-    let at_mode : Moded (words c.args.signature.now) site c.as_set-mode.result =
-    let p = c.requires in record { known = p.under; room = p.room.0; scope_room = p.room.1; is = c.as_set-mode.ensures } in
-    let g = at_mode in
-    record { under = right_asks g c.if-mode-eq2.true; room = (g.room, g.scope_room) }
+    right_asks (sided a.rule.now a.scratch.now a.counters.now c.requires.under c.requires.room c.as_set.ensures) cc
 
-pub returns-then-mode-eq2 : goal.returns-then-mode-eq2
-returns-then-mode-eq2 c =
-    let site : Site =
+pub returns-in-Some-Right : goal.returns-in-Some-Right
+returns-in-Some-Right c =
     let a = c.args in
-    site_of (words a.rule.now) (words a.scratch.now) (words a.counters.now) a.at a.to a.sp a.log a.scope in
-    let at_mode : Moded (words c.args.signature.now) site c.as_set-mode.result =
-    let p = c.requires in record { known = p.under; room = p.room.0; scope_room = p.room.1; is = c.as_set-mode.ensures } in
-    right_done at_mode c.if-mode-eq2.true c.set_name.ensures
+    right_done (sided a.rule.now a.scratch.now a.counters.now c.requires.under c.requires.room c.as_set.ensures) (cc) c.set_name.ensures
 
--- ---- it stays a union
-
-pub unite-requires : goal.unite-requires
-unite-requires c =
-    let site : Site =
+pub returns-in-None : goal.returns-in-None
+returns-in-None c =
     let a = c.args in
-    site_of (words a.rule.now) (words a.scratch.now) (words a.counters.now) a.at a.to a.sp a.log a.scope in
-    let at_mode : Moded (words c.args.signature.now) site c.as_set-mode.result =
-    let p = c.requires in record { known = p.under; room = p.room.0; scope_room = p.room.1; is = c.as_set-mode.ensures } in
-    let g = at_mode in
-    record { under = stays_asks g; room = (g.room, g.scope_room) }
-
-pub returns : goal.returns
-returns c =
-    let site : Site =
-    let a = c.args in
-    site_of (words a.rule.now) (words a.scratch.now) (words a.counters.now) a.at a.to a.sp a.log a.scope in
-    let at_mode : Moded (words c.args.signature.now) site c.as_set-mode.result =
-    let p = c.requires in record { known = p.under; room = p.room.0; scope_room = p.room.1; is = c.as_set-mode.ensures } in
-    stays_done at_mode c.if-mode-eq1.false c.if-mode-eq2.false c.unite.ensures
+    stays_done (sided a.rule.now a.scratch.now a.counters.now c.requires.under c.requires.room c.as_set.ensures) c.in-None.is c.unite.ensures
