@@ -5,16 +5,20 @@ use Prim.Native.Nat.{ℕ, ◌+◌, ◌-◌, ◌^◌, ◌≤◌, ◌<◌}
 use native.Mathlib.Omega.{arith}
 use lib.ListN.{length, set}
 use Rattle.rules.specs.Signature.{Sig}
-use Rattle.walks.specs.Steps.{ExprAt, ExprsAt}
+use Rattle.std.specs.Prelude.{Ok, Err}
+use Rattle.rules.specs.Refusals.{Res}
+use Rattle.walks.specs.Steps.{Piece, untold, tops_at, ExprAt, ExprsAt}
 use Rattle.walks.specs.declared.Walk.{Walk}
+use Rattle.walks.specs.declared.Stopped.{Stopped}
 use Rattle.walks.proofs.Asks.{counted_kept, first_at_lem}
-use Rattle.walks.proofs.Steps.{retold, halted}
+use Rattle.walks.proofs.Steps.{went, placed, halted}
 use Rattle.walks.proofs.Rows.{Going, going_start, Left, left_all, left_none, left_stop, left_next, left_going}
 use Rattle.walks.proofs.Read.{exprs_many}
 use Rattle.walks.proofs.Turns.{Turn, turn}
 use Rattle.head_exprs.specs.Scopes.{Scoped}
 use Rattle.head_exprs.specs.Lowered.{lowered, lowered_all, LowersExpr, LowersExprs}
-use Rattle.head_exprs.proofs.Sites.{Site, site_of, Asks, Tree, tree, Begun}
+use Rattle.head_exprs.specs.Sites.{Site, site_of, Asks}
+use Rattle.head_exprs.proofs.Sites.{Tree, tree, Begun}
 use Rattle.head_exprs.proofs.Pieces.{lowered_row}
 use Rattle.head_exprs.proofs.Expressions.{standing, scope_room_lem, scope_going}
 
@@ -22,19 +26,9 @@ use Rattle.head_exprs.proofs.Expressions.{standing, scope_room_lem, scope_going}
 abbrev pub Exprs-at : Site → ℕ → ℕ → Sig → Type 0
 Exprs-at k d n sig = ExprsAt sig k.ws d n k.at
 
--- what the contract says of an answer
-abbrev pub Answers : Site → (d n : ℕ) → List ℕ → List ℕ → Walk → Type 0
-Answers k d n s' cs' r =
-    LowersExprs k.ws d n k.at k.to k.sp k.lg k.scope k.s k.cs s' cs' r
-
--- and what that of lowering one expression says
-abbrev pub Lowers : Site → ℕ → List ℕ → List ℕ → Walk → Type 0
-Lowers k d s' cs' r =
-    LowersExpr k.ws d k.at k.to k.sp k.lg k.scope k.s k.cs s' cs' r
-
 -- where the next argument stands, behind the walk w with its stack up to top
 abbrev pub next : Site → (top : ℕ) → List ℕ → List ℕ → Walk → Site
-next k top s1 cs1 w = site_of k.ws s1 cs1 w.next w.to top w.log k.scope
+next k top s1 cs1 w = site_of k.ws s1 cs1 w.next (tops_at w top) k.scope
 
 -- between two turns: `left` arguments are left, of which the walk makes the whole
 pub record Row (k : Site) (d n left top : ℕ) (s1 cs1 : List ℕ) (w : Walk) : Type 0 where
@@ -45,11 +39,6 @@ pub record Row (k : Site) (d n left top : ℕ) (s1 cs1 : List ℕ) (w : Walk) : 
   pub rest : (t : Tree k (Exprs-at k d n))
       → Left (lowered t.sig t.bound) (lowered_all t.sig t.bound) (lowered_row t.sig t.bound) t.sig
       k.ws d n k.at k.to k.sp k.lg k.s k.cs t.it left top s1 cs1 w
-
--- a walk on its way, by the places that it has come to
-pub here_on : {at to sp lg top : ℕ} {s cs s1 cs1 : List ℕ} {w : Walk} → Going at to sp lg s cs top s1 cs1 w → Going at to sp lg s cs top s1 cs1 (standing w.next w.to w.log)
-here_on g =
-    record { done = g.done; fine = refl; next = g.next; words = g.words; words_to = g.words_to; stack = g.stack; stack_to = g.stack_to; kept = g.kept }
 
 -- at the start all are left
 pub row_start : {k : Site} {d n : ℕ} → Begun k (Exprs-at k d n) → Row k d n n k.sp k.s k.cs (standing k.at k.to k.lg)
@@ -69,12 +58,14 @@ pub row_is : {k : Site} {d n left left' top : ℕ} {s1 cs1 : List ℕ} {w : Walk
 row_is {k} {d} {n} {top = top} {s1 = s1} {cs1 = cs1} {w = w} e row = subst (λ (j : ℕ). Row k d n j top s1 cs1 w) e row
 
 module _ {k : Site} {d n left top : ℕ} {s1 cs1 : List ℕ} {w : Walk} (row : Row k d n left top s1 cs1 w) where
-  -- where none are left, the row is walked
-  pub row_done : left ≡ 0 → w.term ≡ 0 → Answers k d n s1 cs1 w
-  row_done z silent sig x bound c i =
-      retold (lowered_all sig bound x.value k.cs)
-      (left_none (lowered sig bound) (lowered_all sig bound) (lowered_row sig bound) sig k.ws d n k.at k.to k.sp k.lg k.s k.cs x left top s1 cs1 w
-      (row.rest (tree sig x bound c i)) row.going.fine z) (λ p u. (u, silent))
+  -- where none are left, the row is walked, and the answer has no term
+  pub row_done : left ≡ 0 → LowersExprs d n k s1 cs1 (Ok (untold w))
+  row_done z sig x bound c i =
+      let made : Res Piece = lowered_all sig bound x.value k.cs in
+      let whole =
+      left_none (lowered sig bound) (lowered_all sig bound) (lowered_row sig bound) sig k.ws d n k.at k.to k.sp k.lg k.s k.cs x left top s1 cs1 w
+      (row.rest (tree sig x bound c i)) z in
+      placed k.at (untold w) made whole (went made whole).next refl refl (λ p u. (record { size = u.size; terms = u.terms; uses = u.uses }, refl))
 
   -- the stack's end behind the row
   pub row_fits : k.sp + n < 2 ^ 64
@@ -116,19 +107,19 @@ module _ {k : Site} {d n left top : ℕ} {s1 cs1 : List ℕ} {w : Walk} (row : R
           (here.room, scope_room_lem (length k.ws) row.begun.scope_room row.going),
         )
 
-    -- it is lowered: a, with s2 and cs2 left behind
-    module _ {s2 cs2 : List ℕ} {a : Walk} (does : Lowers (next k top s1 cs1 w) d s2 cs2 a) where
+    -- it is lowered, which leaves s2 and cs2
+    module _ {s2 cs2 : List ℕ} where
       -- one that is refused refuses the row
-      pub row_stop : (a.refused ≡ 0 → ⊥) → Answers k d n s2 cs2 a
-      row_stop bad sig x bound c i =
+      pub row_stop : {e : Stopped} → LowersExpr d (next k top s1 cs1 w) s2 cs2 (Err e) → LowersExprs d n k s2 cs2 (Err e)
+      row_stop {e} does sig x bound c i =
           halted (lowered_all sig bound x.value k.cs)
           (left_stop (lowered sig bound) (lowered_all sig bound) (lowered_row sig bound) sig k.ws d n k.at k.to k.sp k.lg k.s k.cs x left top s1 cs1 w
-          (row.rest (tree sig x bound c i)) some here.room s2 cs2 a (λ e. does sig e bound (counted_kept c row.counters) (in_scope_lem i)) bad) bad
+          (row.rest (tree sig x bound c i)) some here.room s2 cs2 e (λ y. does sig y bound (counted_kept c row.counters) (in_scope_lem i)))
 
       -- and behind any other, whose term is pushed, which leaves s3, one less is left
-      pub row_next : {s3 : List ℕ} → length cs2 ≡ length cs1 → length s3 ≡ length s1 → a.refused ≡ 0 → s3 ≡ set s2 top a.term
-          → Row k d n (left - 1) (top + 1) s3 cs2 (standing a.next a.to a.log)
-      row_next {s3} ec es fine put =
+      pub row_next : {a : Walk} {s3 : List ℕ} → LowersExpr d (next k top s1 cs1 w) s2 cs2 (Ok a) → length cs2 ≡ length cs1 → length s3 ≡ length s1 → s3 ≡ set s2 top a.term
+          → Row k d n (left - 1) (top + 1) s3 cs2 a
+      row_next {a} {s3} does ec es put =
           let g = row.begun in
           let t = g.tree in
           record {
@@ -136,12 +127,11 @@ module _ {k : Site} {d n left top : ℕ} {s1 cs1 : List ℕ} {w : Walk} (row : R
             scratch = es ∙ row.scratch;
             counters = ec ∙ row.counters;
             going =
-                here_on (left_going (lowered t.sig t.bound) (lowered_all t.sig t.bound) (lowered_row t.sig t.bound) t.sig
+                left_going (lowered t.sig t.bound) (lowered_all t.sig t.bound) (lowered_row t.sig t.bound) t.sig
                 k.ws d n k.at k.to k.sp k.lg k.s k.cs t.it left top s1 cs1 w (row.rest t) some here.room s2 cs2 a
-                (λ e. does t.sig e t.bound (counted_kept t.counted row.counters) (in_scope_lem t.scoped)) s3 g.room row.going fine put);
+                (λ e. does t.sig e t.bound (counted_kept t.counted row.counters) (in_scope_lem t.scoped)) s3 g.room row.going put;
             rest =
-                λ t. let l = left_next (lowered t.sig t.bound) (lowered_all t.sig t.bound) (lowered_row t.sig t.bound) t.sig
+                λ t. left_next (lowered t.sig t.bound) (lowered_all t.sig t.bound) (lowered_row t.sig t.bound) t.sig
                 k.ws d n k.at k.to k.sp k.lg k.s k.cs t.it left top s1 cs1 w (row.rest t) some here.room s2 cs2 a
-                (λ e. does t.sig e t.bound (counted_kept t.counted row.counters) (in_scope_lem t.scoped)) s3 fine put in
-                record { rest = l.rest; whole = l.whole };
+                (λ e. does t.sig e t.bound (counted_kept t.counted row.counters) (in_scope_lem t.scoped)) s3 put;
           }

@@ -7,30 +7,29 @@ use native.Mathlib.Omega.{arith}
 use lib.ListN.{length}
 use Rattle.octets.specs.Regions.{splice, part}
 use Rattle.rules.specs.Words.{head_word, head_of, count_of, action_word}
-use Rattle.rules.specs.Refusals.{used_up}
 use Rattle.rules.specs.ToQuery.{Fresh}
-use Rattle.walks.specs.Steps.{Piece, reached_at, stopped_at, InAnswer, OnStack}
+use Rattle.std.specs.Prelude.{Ok, Err}
+use Rattle.walks.specs.Steps.{Piece, reached_at, InAnswer, OnStack}
 use Rattle.walks.specs.declared.Walk.{Walk}
+use Rattle.walks.specs.declared.Stopped.{Stopped}
 use Rattle.walks.proofs.Steps.{Own}
 use Rattle.walks.proofs.Uses.{Used, used_none, used_done}
 use Rattle.walks.proofs.Words.{head_word_lem}
 use Rattle.head_exprs.specs.Lowered.{call_piece, Binds}
 
-module _ {w n sp : ℕ} {s1 cs1 : List ℕ} {a : Walk} {s2 cs2 : List ℕ} {v : ℕ} (o : Used 3 w n sp s1 cs1 a s2 cs2 v) (place : ℕ) where
+module _ {w n place sp : ℕ} {s1 cs1 : List ℕ} {a : Walk} {s2 cs2 : List ℕ} where
   -- its counter is used up
-  pub bound_none : v ≡ 0 → Binds w n place sp s1 cs1 s2 cs2 a (stopped_at place a.log used_up)
-  bound_none z at to size lg x s cs t = used_none o t place (call_piece (head_of w)) z
+  pub bound_none : {e : Stopped} → Used 3 w n sp place s1 cs1 a s2 cs2 (Err e) → Binds w n place sp s1 cs1 s2 cs2 a (Err e)
+  bound_none o at to size lg x s cs t = used_none t o (call_piece (head_of w))
 
   -- the words are written, up to e, which leaves s3
-  pub bound_done : {s3 : List ℕ} {e : ℕ} → n ≡ count_of w → (v ≡ 0 → ⊥) → (e ≡ a.to + 3 + n) × (s3 ≡ splice s2 a.to (action_word 7 ∷ v ∷ w ∷ part s2 sp n))
-      → Binds w n place sp s1 cs1 s3 cs2 a (reached_at a.next e (a.log + 1) v)
-  bound_done {s3} {e} counts some put at to size lg x s cs t =
-      used_done o t place 1 (InAnswer lg r) s3 (action_word 7 ∷ v ∷ w ∷ []) e v (call_piece (head_of w)) refl (omega arith) (omega arith) some put own
+  pub bound_done : {v : ℕ} {s3 : List ℕ} {e : ℕ} → Used 3 w n sp place s1 cs1 a s2 cs2 (Ok v) → n ≡ count_of w
+      → (e ≡ a.to + 3 + n) × (s3 ≡ splice s2 a.to (action_word 7 ∷ v ∷ w ∷ part s2 sp n)) → Binds w n place sp s1 cs1 s3 cs2 a (Ok (reached_at a.next e (a.log + 1) v))
+  bound_done {v} {s3} {e} o counts put at to size lg x s cs t =
+      used_done t o 1 (InAnswer lg) s3 (action_word 7 ∷ v ∷ w ∷ []) e v (call_piece (head_of w)) refl (omega arith) (omega arith) put own
     where
-      r : Walk
-      r = reached_at a.next e (a.log + 1) v
-
-      own : (p : Piece) (f : Fresh) → OnStack sp n lg s2 a p → v ≡ f.var → Own (InAnswer lg r) p (action_word 7 ∷ v ∷ w ∷ part s2 sp n) f.next (call_piece (head_of w) p f)
+      own : (p : Piece) (f : Fresh) → OnStack sp n lg s2 a p → v ≡ f.var
+          → Own (InAnswer lg (reached_at a.next e (a.log + 1) v)) p (action_word 7 ∷ v ∷ w ∷ part s2 sp n) f.next (call_piece (head_of w) p f)
       own p f on ev =
           let hd : w ≡ head_word (head_of w) (length p.terms) = omega (arith, head_word_lem w o.fits.high, on.size) in
           record {

@@ -7,12 +7,16 @@ use Prim.Native.Nat.{ℕ, ◌+◌, ◌-◌, ◌^◌, ◌≤◌, ◌<◌}
 use native.Mathlib.Omega.{arith}
 use lib.ListN.{length, get_or}
 use Rattle.rules.specs.Words.{literal_base, fresh_base, head_of, count_of}
-use Rattle.rules.specs.Refusals.{Res, ok, ◌>>=◌, unbound}
+use Rattle.std.specs.Prelude.{Result, Ok, Err}
+use Rattle.rules.specs.Refusals.{Res, ok, ◌>>=◌}
 use Rattle.rules.specs.Signature.{Sig}
 use Rattle.rules.specs.ToQuery.{fresh}
 use Rattle.rules.specs.ToCoreActions.{readable}
-use Rattle.walks.specs.Steps.{Piece, reached_at, stopped_at, Walked, InAnswer, OnStack, OnlyOnStack, UseFits, Room, Under, Counted, ExprAt, ExprsAt}
+use Rattle.refusals.specs.declared.Reason.TheVariants.{Unbound}
+use Rattle.refusals.specs.declared.Refusal.{Refusal}
+use Rattle.walks.specs.Steps.{Piece, reached_at, tops, Walked, InAnswer, OnStack, OnlyOnStack, UseFits, Room, Under, Counted, ExprAt, ExprsAt}
 use Rattle.walks.specs.declared.Walk.{Walk}
+use Rattle.walks.specs.declared.Stopped.{Stopped}
 use Rattle.walks.proofs.Asks.{expr_inside, CallFacts, call_facts}
 use Rattle.walks.proofs.Steps.{went, stop, retold}
 use Rattle.walks.proofs.Read.{call_cases, exprs_many}
@@ -36,11 +40,11 @@ abbrev pub place : (ws s cs : List ℕ) (d at to sp lg w : ℕ) → Place
 place ws s cs d at to sp lg w = record { ws = ws; s = s; cs = cs; d = d; at = at; to = to; sp = sp; lg = lg; w = w }
 
 -- n words were read, of which the piece x was made, and its term is in the answer
-abbrev Ends : Place → Res Piece → ℕ → List ℕ → List ℕ → Walk → Type 0
-Ends k x n s' cs' r = Walked 1 (InAnswer k.lg r) x n k.at k.to k.sp k.lg k.s k.cs s' cs' r
+abbrev Ends : Place → Res Piece → ℕ → List ℕ → List ℕ → Result Walk Stopped → Type 0
+Ends k x n s' cs' r = Walked 1 (InAnswer k.lg) x n k.at k.to k.sp k.lg k.s k.cs s' cs' r
 
 -- what the contract says of an answer, where B says which names are bound
-abbrev pub Answers : Place → (Sig → List ℕ → Type 0) → List ℕ → List ℕ → Walk → Type 0
+abbrev pub Answers : Place → (Sig → List ℕ → Type 0) → List ℕ → List ℕ → Result Walk Stopped → Type 0
 Answers k B s' cs' r =
     (sig : Sig) (x : ExprAt sig k.ws k.d k.at) (bound : List ℕ) → Counted sig k.cs → B sig bound
     → Ends k (lowered sig bound x.value k.cs) x.size s' cs' r
@@ -51,7 +55,7 @@ pub record Begun (k : Place) (B : Sig → List ℕ → Type 0) : Type 0 where
   pub known : Under (λ sig. ExprAt sig k.ws k.d k.at × Counted sig k.cs)
   pub bound : List ℕ
   pub binds : B known.sig bound
-  pub room : Room (length k.ws) k.at k.to k.sp k.lg (length k.s)
+  pub room : Room (length k.ws) k.at (tops k.to k.sp k.lg) (length k.s)
   pub rule_fits : length k.ws < 2 ^ 64
   pub scratch_fits : length k.s < 2 ^ 64
   pub is : k.w ≡ get_or k.ws k.at 0
@@ -61,16 +65,16 @@ module _ {k : Place} {B : Sig → List ℕ → Type 0} (g : Begun k B) where
   word_inside = expr_inside g.known.sig k.ws k.d k.at g.known.known.0
 
   -- room for what stands behind it
-  pub args_room : Room (length k.ws) (k.at + 1) k.to k.sp k.lg (length k.s)
+  pub args_room : Room (length k.ws) (k.at + 1) (tops k.to k.sp k.lg) (length k.s)
   args_room = let r = g.room in record { words = omega (arith, r.words); stack = omega (arith, r.stack); log = omega (arith, r.log) }
 
   -- a name or a literal is read, or it is unbound
   module _ (high : literal_base ≤ k.w) {b : Bool} (test : (sig : Sig) (bound : List ℕ) → B sig bound → k.w < fresh_base → b ≡ readable sig bound k.w) where
-    pub leaf_read : b ≡ true → Answers k B k.s k.cs (reached_at (k.at + 1) k.to k.lg k.w)
+    pub leaf_read : b ≡ true → Answers k B k.s k.cs (Ok (reached_at (k.at + 1) k.to k.lg k.w))
     leaf_read may sig x bound n i = read_way sig bound k.ws k.d k.at k.to k.sp k.lg k.s k.cs x n k.w g.is high b (test sig bound i) may
 
-    pub leaf_unbound : b ≡ false → Answers k B k.s k.cs (stopped_at k.at k.lg unbound)
-    leaf_unbound none sig x bound n i = unbound_way sig bound k.ws k.d k.at k.to k.sp k.lg k.s k.cs x n k.w g.is high b (test sig bound i) none
+    pub leaf_unbound : {r : Refusal} → b ≡ false → (r.reason ≡ Unbound) × (r.place ≡ k.at) → Answers k B k.s k.cs (Err (record { refusal = r; log = k.lg }))
+    leaf_unbound none r sig x bound n i = unbound_way sig bound k.ws k.d k.at k.to k.sp k.lg k.s k.cs x n k.w g.is high b (test sig bound i) none r
 
 -- ---- it is a call's
 
@@ -91,7 +95,7 @@ abbrev Args : Place → Sig → Type 0
 Args k sig = ExprsAt sig k.ws (k.d - 1) (count_of k.w) (k.at + 1)
 
 module _ {k : Place} {B : Sig → List ℕ → Type 0} {g : Begun k B} (h : Called g) where
-  by_args : {s' cs' : List ℕ} {r : Walk}
+  by_args : {s' cs' : List ℕ} {r : Result Walk Stopped}
       → ((sig : Sig) (es : Args k sig) (bound : List ℕ) → Counted sig k.cs → B sig bound
       → Ends k (and_call k.at (head_of k.w) (lowered_all sig bound es.value k.cs)) (1 + es.size) s' cs' r)
       → Answers k B s' cs' r
@@ -100,57 +104,57 @@ module _ {k : Place} {B : Sig → List ℕ → Type 0} {g : Begun k B} (h : Call
       (λ es deep high hd. rw (lowered_call sig bound k.at (head_of k.w) es.value k.cs) (f sig es bound n i))
 
 -- what the contract of their walk says, where they are n
-abbrev pub Rowed : Place → (Sig → List ℕ → Type 0) → ℕ → List ℕ → List ℕ → Walk → Type 0
-Rowed k B n s1 cs1 a =
+abbrev pub Rowed : Place → (Sig → List ℕ → Type 0) → ℕ → List ℕ → List ℕ → Result Walk Stopped → Type 0
+Rowed k B n s1 cs1 r =
     (sig : Sig) (es : ExprsAt sig k.ws (k.d - 1) n (k.at + 1)) (bound : List ℕ) → Counted sig k.cs → B sig bound
-    → Walked n (OnlyOnStack k.sp n k.lg s1 a) (lowered_all sig bound es.value k.cs) es.size (k.at + 1) k.to k.sp k.lg k.s k.cs s1 cs1 a
+    → Walked n (OnlyOnStack k.sp n k.lg s1) (lowered_all sig bound es.value k.cs) es.size (k.at + 1) k.to k.sp k.lg k.s k.cs s1 cs1 r
 
--- ---- its arguments are walked: a, with s1 and cs1 left behind
+-- ---- its arguments are walked with the answer r, which leaves s1 and cs1
 
-pub record Argued {k : Place} {B : Sig → List ℕ → Type 0} {g : Begun k B} (h : Called g) (s1 cs1 : List ℕ) (a : Walk) : Type 0 where
+pub record Argued {k : Place} {B : Sig → List ℕ → Type 0} {g : Begun k B} (h : Called g) (s1 cs1 : List ℕ) (r : Result Walk Stopped) : Type 0 where
   pub walk : (sig : Sig) (es : Args k sig) (bound : List ℕ) → Counted sig k.cs → B sig bound
-      → Walked (count_of k.w) (OnStack k.sp (count_of k.w) k.lg s1 a) (lowered_all sig bound es.value k.cs) es.size
-      (k.at + 1) k.to k.sp k.lg k.s k.cs s1 cs1 a
+      → Walked (count_of k.w) (OnStack k.sp (count_of k.w) k.lg s1) (lowered_all sig bound es.value k.cs) es.size
+      (k.at + 1) k.to k.sp k.lg k.s k.cs s1 cs1 r
   pub counters : length cs1 ≡ length k.cs
   pub scratch : length s1 ≡ length k.s
 
 -- so it is behind a walk over n of them
-pub argued : {k : Place} {B : Sig → List ℕ → Type 0} {g : Begun k B} (h : Called g) {n : ℕ} {s1 cs1 : List ℕ} {a : Walk} → n ≡ count_of k.w → Rowed k B n s1 cs1 a
-    → length cs1 ≡ length k.cs → length s1 ≡ length k.s → Argued h s1 cs1 a
-argued {k} {B} h {n} {s1} {cs1} {a} count walk counters scratch =
+pub argued : {k : Place} {B : Sig → List ℕ → Type 0} {g : Begun k B} (h : Called g) {n : ℕ} {s1 cs1 : List ℕ} {r : Result Walk Stopped} → n ≡ count_of k.w → Rowed k B n s1 cs1 r
+    → length cs1 ≡ length k.cs → length s1 ≡ length k.s → Argued h s1 cs1 r
+argued {k} {B} h {n} {s1} {cs1} {r} count walk counters scratch =
     record {
-      walk = λ sig es bound c i. retold (lowered_all sig bound es.value k.cs) (subst (λ (j : ℕ). Rowed k B j s1 cs1 a) count walk sig es bound c i) (λ p u. u.0);
+      walk =
+          λ sig es bound c i. retold (lowered_all sig bound es.value k.cs) (subst (λ (j : ℕ). Rowed k B j s1 cs1 r) count walk sig es bound c i) (λ a p u. u.0);
       counters = counters;
       scratch = scratch;
     }
 
 -- there are none
-pub bare : {k : Place} {B : Sig → List ℕ → Type 0} {g : Begun k B} (h : Called g) {a : Walk} → a ≡ standing (k.at + 1) k.to k.lg → count_of k.w ≡ 0 → Argued h k.s k.cs a
-bare {k} h is zero =
-    subst (Argued h k.s k.cs) (sym is)
-    (record {
+pub bare : {k : Place} {B : Sig → List ℕ → Type 0} {g : Begun k B} (h : Called g) → count_of k.w ≡ 0 → Argued h k.s k.cs (Ok (standing (k.at + 1) k.to k.lg))
+bare {k} h zero =
+    record {
       walk = λ sig es bound n i. none_way sig bound k.ws (k.d - 1) (count_of k.w) (k.at + 1) k.to k.sp k.lg k.s k.cs zero es;
       counters = refl;
       scratch = refl;
-    })
+    }
 
-module _ {k : Place} {B : Sig → List ℕ → Type 0} {g : Begun k B} {h : Called g} {s1 cs1 : List ℕ} {a : Walk} (m : Argued h s1 cs1 a) where
+module _ {k : Place} {B : Sig → List ℕ → Type 0} {g : Begun k B} {h : Called g} {s1 cs1 : List ℕ} where
   -- one that is refused refuses the call
-  pub args_refused : (a.refused ≡ 0 → ⊥) → Answers k B s1 cs1 a
-  args_refused bad =
+  pub args_refused : {e : Stopped} → Argued h s1 cs1 (Err e) → Answers k B s1 cs1 (Err e)
+  args_refused m =
       by_args h
       (λ sig es bound n i. stop (1 + es.size) k.at (lowered_all sig bound es.value k.cs)
-      (λ q. ◌>>=◌ (fresh k.at (head_of k.w) q.next) (λ f. ok (call_piece (head_of k.w) q f))) (m.walk sig es bound n i) bad (one_more es.size))
+      (λ q. ◌>>=◌ (fresh k.at (head_of k.w) q.next) (λ f. ok (call_piece (head_of k.w) q f))) (m.walk sig es bound n i) (one_more es.size))
 
--- ---- they are fine
+-- ---- they are fine: a
 
-module _ {k : Place} {B : Sig → List ℕ → Type 0} {g : Begun k B} {h : Called g} {s1 cs1 : List ℕ} {a : Walk} (m : Argued h s1 cs1 a) (fine : a.refused ≡ 0) where
+module _ {k : Place} {B : Sig → List ℕ → Type 0} {g : Begun k B} {h : Called g} {s1 cs1 : List ℕ} {a : Walk} (m : Argued h s1 cs1 (Ok a)) where
   -- room for its end
   end_fits : UseFits 3 k.w (count_of k.w) k.sp a s1 cs1
   end_fits =
       let q = g.known in
       let es = h.facts.args in
-      let o = went (lowered_all q.sig g.bound es.value k.cs) (m.walk q.sig es g.bound q.known.1 g.binds) fine in
+      let o = went (lowered_all q.sig g.bound es.value k.cs) (m.walk q.sig es g.bound q.known.1 g.binds) in
       let many = exprs_many q.sig k.ws (k.d - 1) (count_of k.w) (k.at + 1) es in
       let i = es.inside in
       let u = o.up_to in
@@ -171,7 +175,7 @@ module _ {k : Place} {B : Sig → List ℕ → Type 0} {g : Begun k B} {h : Call
   end_asks count = (subst (λ (j : ℕ). UseFits 3 k.w j k.sp a s1 cs1) (sym count) end_fits, count)
 
   -- and with it the call is lowered
-  pub call_answer : {n : ℕ} {s2 cs2 : List ℕ} {r : Walk} → n ≡ count_of k.w → Binds k.w n k.at k.sp s1 cs1 s2 cs2 a r → Answers k B s2 cs2 r
+  pub call_answer : {n : ℕ} {s2 cs2 : List ℕ} {r : Result Walk Stopped} → n ≡ count_of k.w → Binds k.w n k.at k.sp s1 cs1 s2 cs2 a r → Answers k B s2 cs2 r
   call_answer {n} {s2} {cs2} {r} count binds = by_args h done
     where
       end : Binds k.w (count_of k.w) k.at k.sp s1 cs1 s2 cs2 a r
@@ -186,7 +190,6 @@ module _ {k : Place} {B : Sig → List ℕ → Type 0} {g : Begun k B} {h : Call
             behind = es.size;
             whole = refl;
             walk = m.walk sig es bound n i;
-            fine = fine;
             many = exprs_many sig k.ws (k.d - 1) (count_of k.w) (k.at + 1) es;
             words = omega (arith, g.room.words);
             stack = omega (arith, g.room.stack);

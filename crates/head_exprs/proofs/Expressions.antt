@@ -1,5 +1,5 @@
 -- The scope on the way through a row of expressions, a row of none, and the two ways out of lowering a name or a literal. Assumes nothing.
-use mathlib.Core.Path.{◌≡◌, refl, sym}
+use mathlib.Core.Path.{◌≡◌, refl, sym, ap}
 use mathlib.Core.Bool.{Bool, true, false}
 use mathlib.Core.List.{List}
 use Prim.Native.Nat.{ℕ, ◌+◌, ◌*◌, ◌≤◌, ◌<◌}
@@ -9,8 +9,13 @@ use Rattle.rules.specs.Words.{literal_base, fresh_base}
 use Rattle.rules.specs.Refusals.{demand, unbound}
 use Rattle.rules.specs.Signature.{Sig}
 use Rattle.rules.specs.ToCoreActions.{readable}
-use Rattle.walks.specs.Steps.{reached_at, stopped_at, Walked, InAnswer, OnStack, Counted, ExprAt, ExprsAt}
+use Rattle.std.specs.Prelude.{Result, Ok, Err}
+use Rattle.refusals.specs.Numbers.{number_of}
+use Rattle.refusals.specs.declared.Reason.TheVariants.{Unbound}
+use Rattle.refusals.specs.declared.Refusal.{Refusal}
+use Rattle.walks.specs.Steps.{reached_at, Walked, InAnswer, OnStack, Counted, ExprAt, ExprsAt}
 use Rattle.walks.specs.declared.Walk.{Walk}
+use Rattle.walks.specs.declared.Stopped.{Stopped}
 use Rattle.walks.proofs.Frames.{kept_none}
 use Rattle.walks.proofs.Read.{leaf_cases}
 use Rattle.walks.proofs.Rows.{Going, left_all, left_none}
@@ -47,41 +52,41 @@ abbrev pub standing : (at to lg : ℕ) → Walk
 standing p t l = reached_at p t l 0
 
 pub none_way : (sig : Sig) (bound ws : List ℕ) (d n at to sp lg : ℕ) (s cs : List ℕ) → n ≡ 0 → (es : ExprsAt sig ws d n at)
-    → Walked n (OnStack sp n lg s (standing at to lg)) (lowered_all sig bound es.value cs) es.size at to sp lg s cs s cs (standing at to lg)
+    → Walked n (OnStack sp n lg s) (lowered_all sig bound es.value cs) es.size at to sp lg s cs s cs (Ok (standing at to lg))
 none_way sig bound ws d n at to sp lg s cs z es =
     left_none (lowered sig bound) (lowered_all sig bound) (lowered_row sig bound) sig ws d n at to sp lg s cs es n sp s cs (standing at to lg)
-    (left_all (lowered sig bound) (lowered_all sig bound) (lowered_row sig bound) sig ws d n at to sp lg s cs es 0) refl z
+    (left_all (lowered sig bound) (lowered_all sig bound) (lowered_row sig bound) sig ws d n at to sp lg s cs es 0) z
 
 -- ---- a name or a literal
 
 module _ (sig : Sig) (bound ws : List ℕ) (d at to sp lg : ℕ) (s cs : List ℕ) (x : ExprAt sig ws d at) (c : Counted sig cs) (w : ℕ) (is : w ≡ get_or ws at 0)
     (high : literal_base ≤ w) (b : Bool) (test : w < fresh_base → b ≡ readable sig bound w) where
   -- what is left of it, with the answer r, where it is the leaf at this place
-  abbrev Leaf-ends : Walk → Type 0
-  Leaf-ends r = Walked 1 (InAnswer lg r) (lowered sig bound x.value cs) x.size at to sp lg s cs s cs r
+  abbrev Leaf-ends : Result Walk Stopped → Type 0
+  Leaf-ends r = Walked 1 (InAnswer lg) (lowered sig bound x.value cs) x.size at to sp lg s cs s cs r
 
-  by_leaf : (r : Walk) → (w < fresh_base → Walked 1 (InAnswer lg r) (demand b unbound at (leaf_piece sig bound w cs)) 1 at to sp lg s cs s cs r) → Leaf-ends r
+  by_leaf : (r : Result Walk Stopped) → (w < fresh_base → Walked 1 (InAnswer lg) (demand b unbound at (leaf_piece sig bound w cs)) 1 at to sp lg s cs s cs r) → Leaf-ends r
   by_leaf r f =
-      leaf_cases sig ws c.few (λ t k. Walked 1 (InAnswer lg r) (lowered sig bound t cs) k at to sp lg s cs s cs r) d at w x is high
+      leaf_cases sig ws c.few (λ t k. Walked 1 (InAnswer lg) (lowered sig bound t cs) k at to sp lg s cs s cs r) d at w x is high
       (λ i old. rw (lowered_leaf sig bound at w cs, sym (test old)) (f old))
 
-  pub read_way : b ≡ true → Leaf-ends (reached_at (at + 1) to lg w)
+  pub read_way : b ≡ true → Leaf-ends (Ok (reached_at (at + 1) to lg w))
   read_way e =
-      by_leaf (reached_at (at + 1) to lg w)
+      by_leaf (Ok (reached_at (at + 1) to lg w))
       (λ old. rw e
       (record {
         kept = kept_none to (to + 4 * 1) sp (sp + 1) lg (lg + 1) s cs (omega arith);
         ended = (
-          record { fine = refl; next = refl; to = omega arith; counters = refl; written = refl; fits = omega arith },
+          record { next = refl; to = omega arith; counters = refl; written = refl; fits = omega arith },
           record { term = refl; uses = omega arith },
         );
       }))
 
-  pub unbound_way : b ≡ false → Leaf-ends (stopped_at at lg unbound)
-  unbound_way e =
-      by_leaf (stopped_at at lg unbound)
+  pub unbound_way : {r : Refusal} → b ≡ false → (r.reason ≡ Unbound) × (r.place ≡ at) → Leaf-ends (Err (record { refusal = r; log = lg }))
+  unbound_way e is =
+      by_leaf _
       (λ old. rw e
       (record {
         kept = kept_none to (to + 4 * 1) sp (sp + 1) lg (lg + 1) s cs (omega arith);
-        ended = record { is = refl; some = omega arith };
+        ended = record { number = ap number_of is.0; place = is.1 };
       }))

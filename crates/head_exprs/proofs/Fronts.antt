@@ -14,19 +14,22 @@ use Rattle.rules.specs.Refusals.{Res}
 use Rattle.rules.specs.Signature.{Sig}
 use Rattle.rules.specs.Written.{Expr, Exprs}
 use Rattle.walks.specs.Leaves.{leaves_up_to}
-use Rattle.walks.specs.Steps.{Piece, OnlyOnStack, Kept, Room, ExprsAt}
+use Rattle.std.specs.Prelude.{Result, Ok, Err}
+use Rattle.walks.specs.Steps.{Piece, reached_at, tops, OnlyOnStack, Kept, Room, ExprsAt}
 use Rattle.walks.specs.declared.Walk.{Walk}
+use Rattle.walks.specs.declared.Stopped.{Stopped}
 use Rattle.walks.proofs.LeavesUpTo.{Leaf, leaves_most, leaves_each}
 use Rattle.walks.proofs.Log.{undone_none}
 use Rattle.walks.proofs.Read.{exprs_many}
-use Rattle.walks.proofs.Steps.{none_told, retold}
+use Rattle.walks.proofs.Steps.{went, placed, none_told, halted, retold}
 use Rattle.walks.proofs.Rows.{Rowed, Left, left_all, left_next}
 use Rattle.head_exprs.specs.Scopes.{Scoped}
-use Rattle.head_exprs.specs.Lowered.{lowered, lowered_all}
+use Rattle.head_exprs.specs.Lowered.{lowered, lowered_all, LowersExprs}
 use Rattle.head_exprs.proofs.Scopes.{scoped_kept, reads_low}
 use Rattle.head_exprs.proofs.Pieces.{lowered_row}
 use Rattle.head_exprs.proofs.Expressions.{standing, read_way}
-use Rattle.head_exprs.proofs.Sites.{Site, site_of, Asks, Every, WalkedAt, Tree, Begun}
+use Rattle.head_exprs.specs.Sites.{Site, site_of, Asks, WalkedAt}
+use Rattle.head_exprs.proofs.Sites.{Tree, Begun}
 
 -- words go onto the stack, and nothing else is done
 kept_stack : (to te sp se lg le : ℕ) (xs s cs s' : List ℕ) → to ≤ sp → sp + length xs ≤ se → sp + length xs ≤ length s → lg ≤ le
@@ -102,7 +105,7 @@ module _ {k : Site} {d n : ℕ} {g : Begun k (Row k d n)} {i : ℕ} {s0 : List �
     Rest left top s1 w = Left one all rowed t.sig k.ws d n k.at k.to k.sp k.lg k.s k.cs t.it.exprs left top s1 k.cs w
 
     rest_is : (left left' top top' p p' u : ℕ) (s1 s1' : List ℕ) → left ≡ left' → top ≡ top' → p ≡ p' → s1 ≡ s1'
-        → Rest left top s1 (record { next = p; to = k.to; log = k.lg; term = u; refused = 0 }) → Rest left' top' s1' (standing p' k.to k.lg)
+        → Rest left top s1 (reached_at p k.to k.lg u) → Rest left' top' s1' (standing p' k.to k.lg)
     rest_is left left' top top' p p' u s1 s1' a b e f l =
         subst (λ (i : ℕ). Rest i top' s1' (standing p' k.to k.lg)) a
         (subst (λ (i : ℕ). Rest left i s1' (standing p' k.to k.lg)) b
@@ -127,7 +130,7 @@ module _ {k : Site} {d n : ℕ} {g : Begun k (Row k d n)} {i : ℕ} {s0 : List �
         let stack = g.room.stack in
         let log = g.room.log in
         let size : length sj ≡ length k.s = length_splice k.s k.sp xs (omega arith) in
-        let now : Room (length k.ws) at k.to (k.sp + j) k.lg (length sj) =
+        let now : Room (length k.ws) at (tops k.to (k.sp + j) k.lg) (length sj) =
         record { words = omega (arith, g.room.words); stack = omega arith; log = omega arith } in
         let plain = f.plain j (omega arith) in
         let there : part k.ws k.at (suc j) ≡ xs ++ (w ∷ []) = ap (part k.ws k.at) (sym (add-one j)) ∙ part_more k.ws k.at j (omega arith) in
@@ -136,10 +139,10 @@ module _ {k : Site} {d n : ℕ} {g : Begun k (Row k d n)} {i : ℕ} {s0 : List �
         rest_is (n - j - 1) (n - suc j) (k.sp + j + 1) (k.sp + suc j) (at + 1) (k.at + suc j) w s1 s1 (omega arith) (omega arith) (omega arith) refl
         (left_next one all rowed t.sig k.ws d n k.at k.to k.sp k.lg k.s k.cs t.it.exprs
         (n - j) (k.sp + j) sj k.cs (standing at k.to k.lg) (turns j sj (omega arith) refl) (omega arith) now
-        sj k.cs (record { next = at + 1; to = k.to; log = k.lg; term = w; refused = 0 })
+        sj k.cs (reached_at (at + 1) k.to k.lg w)
         (λ y. read_way t.sig t.bound k.ws d at k.to (k.sp + j) k.lg sj k.cs y t.counted w refl plain.low true
         (λ old. reads_low t.sig t.bound k.s k.scope w t.scoped (omega (arith, plain.high))) refl)
-        s1 refl put)
+        s1 put)
 
     front_left : Rest (n - i) (k.sp + i) s0 (standing (k.at + i) k.to k.lg)
     front_left = turns i s0 (omega arith) f.put
@@ -160,7 +163,7 @@ module _ {k : Site} {d n : ℕ} {g : Begun k (Row k d n)} {i : ℕ} {s0 : List �
 
   -- its site
   abbrev behind : Site
-  behind = site_of k.ws s0 k.cs (k.at + i) k.to (k.sp + i) k.lg k.scope
+  behind = site_of k.ws s0 k.cs (k.at + i) (tops k.to (k.sp + i) k.lg) k.scope
 
   -- what it asks
   pub rest_asks : Asks behind (λ sig. ExprsAt sig k.ws d (n - i) (k.at + i)) (k.at + i)
@@ -177,14 +180,23 @@ module _ {k : Site} {d n : ℕ} {g : Begun k (Row k d n)} {i : ℕ} {s0 : List �
       )
 
   -- and what it leaves is what walking the whole row leaves
-  pub row_walked : {s1 cs1 : List ℕ} {a : Walk}
-      → Every behind (λ sig. ExprsAt sig k.ws d (n - i) (k.at + i))
-      (λ sig y bound. WalkedAt behind (n - i) (OnlyOnStack (k.sp + i) (n - i) k.lg s1 a) (lowered_all sig bound y.value k.cs) y.size (k.at + i) s1 cs1 a)
-      → (t : Tree k (Row k d n))
-      → WalkedAt k n (OnlyOnStack k.sp n k.lg s1 a) (lowered_all t.sig t.bound t.it.exprs.value k.cs) t.it.exprs.size k.at s1 cs1 a
-  row_walked {s1} {cs1} {a} walk t =
-      let rest = (front_left t).rest in
-      let w = walk t.sig rest t.bound t.counted (front_scoped t) in
-      let x = lowered_all t.sig t.bound rest.value k.cs in
-      let silent : a.term ≡ 0 = none_told x w (λ p u. u.1) in
-      retold (lowered_all t.sig t.bound t.it.exprs.value k.cs) ((front_left t).whole s1 cs1 a (retold x w (λ p u. u.0))) (λ p u. (u, silent))
+  pub row_walked : {s1 cs1 : List ℕ} {r : Result Walk Stopped} → LowersExprs d (n - i) behind s1 cs1 r
+      → (t : Tree k (Row k d n)) → WalkedAt k n (OnlyOnStack k.sp n k.lg s1) (lowered_all t.sig t.bound t.it.exprs.value k.cs) t.it.exprs.size k.at s1 cs1 r
+  row_walked {s1} {cs1} {r} walk t = go r (walk t.sig rest t.bound t.counted (front_scoped t))
+    where
+      rest : ExprsAt t.sig k.ws d (n - i) (k.at + i)
+      rest = (front_left t).rest
+
+      one-by-one : Res Piece
+      one-by-one = lowered_all t.sig t.bound rest.value k.cs
+
+      row : Res Piece
+      row = lowered_all t.sig t.bound t.it.exprs.value k.cs
+
+      go : (r : Result Walk Stopped) → WalkedAt behind (n - i) (OnlyOnStack (k.sp + i) (n - i) k.lg s1) one-by-one rest.size (k.at + i) s1 cs1 r
+          → WalkedAt k n (OnlyOnStack k.sp n k.lg s1) row t.it.exprs.size k.at s1 cs1 r
+      go (Err e) w = halted row ((front_left t).whole s1 cs1 (Err e) (halted one-by-one w))
+      go (Ok a) w =
+          let silent : a.term ≡ 0 = none_told one-by-one w (λ p u. u.1) in
+          let whole = (front_left t).whole s1 cs1 (Ok a) (retold one-by-one w (λ b p u. u.0)) in
+          placed k.at a row whole (went row whole).next refl refl (λ p u. (u, silent))

@@ -13,7 +13,7 @@ use Rattle.rules.specs.Words.{limit12, name_base, fresh_base}
 use Rattle.rules.specs.Signature.{Sig, elem, is_var}
 use Rattle.rules.specs.ToCoreActions.{readable}
 use Rattle.meaning.proofs.DistinctWords.{elem_append}
-use Rattle.walks.specs.Steps.{Kept, Room}
+use Rattle.walks.specs.Steps.{tops, Kept, Room}
 use Rattle.head_exprs.specs.Scopes.{in_scope, may_read, is_taken, grown, ScopeFits, Scoped, ScopeRoom}
 use Rattle.head_exprs.specs.declared.scope.Scope.{Scope}
 
@@ -101,7 +101,7 @@ scope_let sig bound s s' c v x z room b n e =
 
 -- ---- room
 
-pub scope_fits : {n at to sp lg : ℕ} {s : List ℕ} {c : Scope} → ScopeRoom n at to sp c → Room n at to sp lg (length s) → at ≤ n → ScopeFits s c
+pub scope_fits : {n at to sp lg : ℕ} {s : List ℕ} {c : Scope} → ScopeRoom n at to sp c → Room n at (tops to sp lg) (length s) → at ≤ n → ScopeFits s c
 scope_fits x r h =
     let b = x.body in
     let m = x.names in

@@ -1,57 +1,13 @@
--- Where an action or a row of expressions is lowered: the words that its walk is given, and what its contract asks and says of them. Whatever stands
--- behind that place is lowered with the same room, so what a call asks follows from what the caller was given. Assumes nothing.
+-- What is known at the start of a walk at a site. Whatever stands behind that place is lowered with the same room, so what a call asks follows from what
+-- the caller was given. Assumes nothing.
 use mathlib.Core.List.{List}
 use Prim.Native.Nat.{ℕ, ◌^◌, ◌≤◌, ◌<◌}
 use native.Mathlib.Omega.{arith}
 use lib.ListN.{length}
-use Rattle.rules.specs.Refusals.{Res}
 use Rattle.rules.specs.Signature.{Sig}
-use Rattle.walks.specs.Steps.{Piece, Walked, Room, Under, Counted}
-use Rattle.walks.specs.declared.Walk.{Walk}
-use Rattle.head_exprs.specs.Scopes.{Scoped, ScopeRoom, Names}
-use Rattle.head_exprs.specs.declared.scope.Scope.{Scope}
-
--- the words of the rule, of the scratch and of the counters; a place in the rule; where words, stack and log go on; and the names in scope
-pub record Site : Type 0 where
-  pub ws : List ℕ
-  pub s : List ℕ
-  pub cs : List ℕ
-  pub at : ℕ
-  pub to : ℕ
-  pub sp : ℕ
-  pub lg : ℕ
-  pub scope : Scope
-
-abbrev pub site_of : (ws s cs : List ℕ) (at to sp lg : ℕ) → Scope → Site
-site_of ws s cs at to sp lg c = record { ws = ws; s = s; cs = cs; at = at; to = to; sp = sp; lg = lg; scope = c }
-
--- ---- the parts of contracts
-
-module _ (k : Site) where
-  -- a signature under which X stands there
-  abbrev pub Known : (Sig → Type 0) → Type 0
-  Known X = Under (λ sig. X sig × Counted sig k.cs × Names sig k.s k.scope)
-
-  -- room for what stands at the place p
-  abbrev pub RoomAt : ℕ → Type 0
-  RoomAt p = Room (length k.ws) p k.to k.sp k.lg (length k.s)
-
-  abbrev pub ScopeRoomAt : ℕ → Type 0
-  ScopeRoomAt p = ScopeRoom (length k.ws) p k.to k.sp k.scope
-
-  -- what a walk over X at the place p asks
-  abbrev pub Asks : (Sig → Type 0) → ℕ → Type 0
-  Asks X p = Known X × (RoomAt p × ScopeRoomAt p)
-
-  -- whatever of X stands there, under any signature: P
-  abbrev pub Every : (X : Sig → Type 0) → ((sig : Sig) → X sig → List ℕ → Type 0) → Type 0
-  Every X P = (sig : Sig) (x : X sig) (bound : List ℕ) → Counted sig k.cs → Scoped sig bound k.s k.scope → P sig x bound
-
-  -- the n words from p on were walked with the result x and the answer a, which left s' and cs'
-  abbrev pub WalkedAt : (m : ℕ) → (Piece → Type 0) → (x : Res Piece) (n p : ℕ) (s' cs' : List ℕ) → Walk → Type 0
-  WalkedAt m T x n p s' cs' a = Walked m T x n p k.to k.sp k.lg k.s k.cs s' cs' a
-
--- ---- what is known at the start of a walk
+use Rattle.walks.specs.Steps.{Counted}
+use Rattle.head_exprs.specs.Scopes.{Scoped}
+use Rattle.head_exprs.specs.Sites.{Site, RoomAt, ScopeRoomAt, Asks}
 
 -- a signature under which X stands there, and the names bound
 pub record Tree (k : Site) (X : Sig → Type 0) : Type 0 where
@@ -71,11 +27,11 @@ pub record Begun (k : Site) (X : Sig → Type 0) : Type 0 where
   pub rule_fits : length k.ws < 2 ^ 64
   pub scratch_fits : length k.s < 2 ^ 64
 
-pub begun : {k : Site} {X : Sig → Type 0} → Known k X → RoomAt k k.at → ScopeRoomAt k k.at → length k.ws < 2 ^ 64 → length k.s < 2 ^ 64
-    → Begun k X
-begun q room sr fr fs =
+pub begun : {k : Site} {X : Sig → Type 0} → Asks k X k.at → length k.ws < 2 ^ 64 → length k.s < 2 ^ 64 → Begun k X
+begun a fr fs =
+    let q = a.0 in
     let n = q.known.2 in
-    record { tree = tree q.sig q.known.0 n.bound q.known.1 n.scoped; room = room; scope_room = sr; rule_fits = fr; scratch_fits = fs }
+    record { tree = tree q.sig q.known.0 n.bound q.known.1 n.scoped; room = a.1.0; scope_room = a.1.1; rule_fits = fr; scratch_fits = fs }
 
 -- the same read as something else
 abbrev pub tree_as : {k : Site} {X Y : Sig → Type 0} → Tree k X → ((sig : Sig) → X sig → Y sig) → Tree k Y

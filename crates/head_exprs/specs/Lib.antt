@@ -1,3 +1,4 @@
 -- What contracts of this crate, and of those above it, cite.
 pub mod Scopes
+pub mod Sites
 pub mod Lowered

@@ -1,6 +1,6 @@
 -- 01, "Lowering the head": what the definitions give of its expressions, as pieces that a walk makes.
 -- Assumes nothing: these are definitions.
-use Rattle.std.specs.Prelude.{List, [], ◌∷◌, ◌++◌, ℕ, ◌+◌, length}
+use Rattle.std.specs.Prelude.{List, [], ◌∷◌, ◌++◌, ℕ, ◌+◌, length, Result}
 use Rattle.rules.specs.Words.{head_word, head_of, action_word}
 use Rattle.rules.specs.Refusals.{Res, ok, refuse, ◌>>=◌}
 use Rattle.rules.specs.Signature.{Sig}
@@ -8,10 +8,10 @@ use Rattle.rules.specs.Written.{Expr, Exprs}
 use Rattle.rules.specs.Flat.{action_words, words_of}
 use Rattle.rules.specs.ToQuery.{Fresh, fresh}
 use Rattle.rules.specs.ToCoreActions.{Low, Lows, lower_expr, lower_exprs}
-use Rattle.walks.specs.Steps.{Piece, Walked, InAnswer, OnlyOnStack, Termed, Counted, ExprAt, ExprsAt}
+use Rattle.walks.specs.Steps.{Piece, Walked, InAnswer, OnlyOnStack, Termed, ExprAt, ExprsAt}
 use Rattle.walks.specs.declared.Walk.{Walk}
-use Rattle.head_exprs.specs.Scopes.{Scoped}
-use Rattle.head_exprs.specs.declared.scope.Scope.{Scope}
+use Rattle.walks.specs.declared.Stopped.{Stopped}
+use Rattle.head_exprs.specs.Sites.{Site, Every, WalkedAt}
 
 abbrev pub low_piece : Res Low → Res Piece
 low_piece (ok f) = ok (record { terms = f.term ∷ []; words = words_of action_words f.acts; count = length f.acts; next = f.next })
@@ -44,19 +44,18 @@ and_call p h x = do
 -- ---- what is said of an answer r that leaves s' and cs'
 
 -- behind the walk a, which left s1 and cs1, the call of the kind 3 word w is bound: so it is of whatever arguments a has walked
-abbrev pub Binds : (w n place sp : ℕ) (s1 cs1 s' cs' : List ℕ) → Walk → Walk → Type 0
+abbrev pub Binds : (w n place sp : ℕ) (s1 cs1 s' cs' : List ℕ) → Walk → Result Walk Stopped → Type 0
 Binds w n place sp s1 cs1 s' cs' a r =
     (at to size lg : ℕ) (x : Res Piece) (s cs : List ℕ) → Termed 1 at to size n sp lg x s cs s1 cs1 a
-    → Walked 1 (InAnswer lg r) (and_call place (head_of w) x) size at to sp lg s cs s' cs' r
+    → Walked 1 (InAnswer lg) (and_call place (head_of w) x) size at to sp lg s cs s' cs' r
 
 -- an expression is lowered, whichever a signature reads there, and whatever is bound: its term is in the answer
-abbrev pub LowersExpr : (ws : List ℕ) (d at to sp lg : ℕ) → Scope → (s cs s' cs' : List ℕ) → Walk → Type 0
-LowersExpr ws d at to sp lg c s cs s' cs' r =
-    (sig : Sig) (x : ExprAt sig ws d at) (bound : List ℕ) → Counted sig cs → Scoped sig bound s c
-    → Walked 1 (InAnswer lg r) (lowered sig bound x.value cs) x.size at to sp lg s cs s' cs' r
+abbrev pub LowersExpr : (d : ℕ) → Site → (s' cs' : List ℕ) → Result Walk Stopped → Type 0
+LowersExpr d k s' cs' r =
+    Every k (λ sig. ExprAt sig k.ws d k.at) (λ sig x bound. WalkedAt k 1 (InAnswer k.lg) (lowered sig bound x.value k.cs) x.size k.at s' cs' r)
 
 -- n of them are, and their terms are on the stack
-abbrev pub LowersExprs : (ws : List ℕ) (d n at to sp lg : ℕ) → Scope → (s cs s' cs' : List ℕ) → Walk → Type 0
-LowersExprs ws d n at to sp lg c s cs s' cs' r =
-    (sig : Sig) (x : ExprsAt sig ws d n at) (bound : List ℕ) → Counted sig cs → Scoped sig bound s c
-    → Walked n (OnlyOnStack sp n lg s' r) (lowered_all sig bound x.value cs) x.size at to sp lg s cs s' cs' r
+abbrev pub LowersExprs : (d n : ℕ) → Site → (s' cs' : List ℕ) → Result Walk Stopped → Type 0
+LowersExprs d n k s' cs' r =
+    Every k (λ sig. ExprsAt sig k.ws d n k.at)
+    (λ sig x bound. WalkedAt k n (OnlyOnStack k.sp n k.lg s') (lowered_all sig bound x.value k.cs) x.size k.at s' cs' r)

@@ -2,20 +2,21 @@
 //
 //     written  (f (g x) 1)      flat  (call @g.0 (g x)) (call @f.0 (f @g.0 1)), and the term @f.0
 //
-// The walks work in one scratch: actions go to `to`, terms of arguments onto the stack at `sp`, uses of counters to `log`.
+// The walks work in one scratch: actions go to `tops.to`, terms of arguments onto the stack at `tops.sp`, uses of counters to `tops.log`.
 #![tactic(auto)]
 
 pub mod scope; // scope.rt: which names are bound
 
-ghost use Rattle.std.specs.Prelude.{◌≡◌, length};
+ghost use Rattle.std.specs.Prelude.{◌≡◌};
 ghost use Rattle.octets.specs.Words.{words};
 ghost use Rattle.rules.specs.Words.{max_depth, count_of};
-ghost use Rattle.walks.specs.Steps.{UseFits, Room, Under, Counted, ExprAt, ExprsAt};
-ghost use Rattle.head_exprs.specs.Scopes.{ScopeRoom, Names};
+ghost use Rattle.walks.specs.Steps.{UseFits, ExprAt, ExprsAt};
+ghost use Rattle.head_exprs.specs.Sites.{site_of, Asks};
 ghost use Rattle.head_exprs.specs.Lowered.{Binds, LowersExpr, LowersExprs};
 
 use crate::scope::Scope;
-use walks::Walk;
+use refusals::Reason;
+use walks::{Stopped, Tops, Walk};
 
 // The end of a call: behind the walk `args` over its n arguments, whose terms are on the stack, the fresh variable of the head of its kind 3 word w is
 // taken, and its action written. Where no count is left, it is refused at `place`.
@@ -27,17 +28,19 @@ fn put_called(
     counters: &mut [u8],
     scratch: &mut [u8],
     sp: usize,
-) -> Walk
+) -> Result<Walk, Stopped>
     requires { UseFits 3 w n sp args (words scratch.old) (words counters.old) × (n ≡ count_of w) }
     ensures { Binds w n place sp (words scratch.old) (words counters.old) (words scratch.new) (words counters.new) args result }
 {
     let h = words::head_word(w).head;
-    let v = walks::take(counters, scratch, args.log, h);
-    if v == 0 {
-        return walks::stopped(place, args.log, walks::USED_UP);
-    }
+    let v = walks::take(counters, scratch, args.log, h, place)?;
     let end = octets::rows::put_call(scratch, args.to, words::CALL, v, w, sp, n);
-    walks::reached(args.next, end, args.log + 1, v)
+    Ok(Walk {
+        next: args.next,
+        to: end,
+        log: args.log + 1,
+        term: v,
+    })
 }
 
 // Lowers the expression at `at`, which is at most `depth` deep. A call without arguments sets up no walk over them.
@@ -49,34 +52,41 @@ pub fn lower(
     scope: Scope,
     counters: &mut [u8],
     scratch: &mut [u8],
-    to: usize,
-    sp: usize,
-    log: usize,
-) -> Walk
-    requires under { Under (λ sig. ExprAt sig (words rule.now) depth at × Counted sig (words counters.old) × Names sig (words scratch.old) scope) }
-    requires room { Room (length (words rule.now)) at to sp log (length (words scratch.old)) × ScopeRoom (length (words rule.now)) at to sp scope }
-    ensures { LowersExpr (words rule.now) depth at to sp log scope (words scratch.old) (words counters.old)
+    tops: Tops,
+) -> Result<Walk, Stopped>
+    requires { Asks (site_of (words rule.now) (words scratch.old) (words counters.old) at tops scope) (λ sig. ExprAt sig (words rule.now) depth at) at }
+    ensures { LowersExpr depth (site_of (words rule.now) (words scratch.old) (words counters.old) at tops scope)
         (words scratch.new) (words counters.new) result }
 {
     let w = octets::get(rule, at);
     if words::is_leaf(w) {
         if scope.may_read(scratch, w) {
-            return walks::reached(at + 1, to, log, w);
+            return Ok(Walk {
+                next: at + 1,
+                to: tops.to,
+                log: tops.log,
+                term: w,
+            });
         }
-        return walks::stopped(at, log, walks::UNBOUND);
+        return Err(Stopped {
+            refusal: Reason::Unbound.at(at),
+            log: tops.log,
+        });
     }
     let n = words::head_word(w).count as usize;
     let first = at + 1;
     if n == 0 {
-        let none = walks::reached(first, to, log, 0);
-        return put_called(none, at, w, n, counters, scratch, sp);
+        let none = Walk {
+            next: first,
+            to: tops.to,
+            log: tops.log,
+            term: 0,
+        };
+        return put_called(none, at, w, n, counters, scratch, tops.sp);
     }
     let less = depth - 1;
-    let args = lower_all(rule, first, n, less, scope, counters, scratch, to, sp, log);
-    if args.refused != 0 {
-        return args;
-    }
-    put_called(args, at, w, n, counters, scratch, sp)
+    let args = lower_all(rule, first, n, less, scope, counters, scratch, tops)?;
+    put_called(args, at, w, n, counters, scratch, tops.sp)
 }
 
 // Lowers the n expressions from `at` on; their terms go onto the stack.
@@ -89,31 +99,24 @@ pub fn lower_all(
     scope: Scope,
     counters: &mut [u8],
     scratch: &mut [u8],
-    to: usize,
-    sp: usize,
-    log: usize,
-) -> Walk
-    requires under { Under (λ sig. ExprsAt sig (words rule.now) depth n at × Counted sig (words counters.old) × Names sig (words scratch.old) scope) }
-    requires room { Room (length (words rule.now)) at to sp log (length (words scratch.old)) × ScopeRoom (length (words rule.now)) at to sp scope }
-    ensures { LowersExprs (words rule.now) depth n at to sp log scope (words scratch.old) (words counters.old)
+    tops: Tops,
+) -> Result<Walk, Stopped>
+    requires { Asks (site_of (words rule.now) (words scratch.old) (words counters.old) at tops scope) (λ sig. ExprsAt sig (words rule.now) depth n at) at }
+    ensures { LowersExprs depth n (site_of (words rule.now) (words scratch.old) (words counters.old) at tops scope)
         (words scratch.new) (words counters.new) result }
 {
-    let mut next = at;
-    let mut end = to;
-    let mut top = sp;
-    let mut uses = log;
-    while top < sp + n {
-        let walk = lower(rule, next, depth, scope, counters, scratch, end, top, uses);
-        if walk.refused != 0 {
-            return walk;
-        }
+    let mut walk = Walk {
+        next: at,
+        to: tops.to,
+        log: tops.log,
+        term: 0,
+    };
+    for top in tops.sp..tops.sp + n {
+        let here = walk.tops(top);
+        walk = lower(rule, walk.next, depth, scope, counters, scratch, here)?;
         octets::put(scratch, top, walk.term);
-        next = walk.next;
-        end = walk.to;
-        uses = walk.log;
-        top += 1;
     }
-    walks::reached(next, end, uses, 0)
+    Ok(Walk { term: 0, ..walk })
 }
 
 // Lowers the n outermost expressions from `at` on as `lower_all` does. The literals and globals in front need no walk: they may always be read, and are
@@ -125,13 +128,10 @@ pub fn lower_arguments(
     scope: Scope,
     counters: &mut [u8],
     scratch: &mut [u8],
-    to: usize,
-    sp: usize,
-    log: usize,
-) -> Walk
-    requires under { Under (λ sig. ExprsAt sig (words rule.now) max_depth n at × Counted sig (words counters.old) × Names sig (words scratch.old) scope) }
-    requires room { Room (length (words rule.now)) at to sp log (length (words scratch.old)) × ScopeRoom (length (words rule.now)) at to sp scope }
-    ensures { LowersExprs (words rule.now) max_depth n at to sp log scope (words scratch.old) (words counters.old)
+    tops: Tops,
+) -> Result<Walk, Stopped>
+    requires { Asks (site_of (words rule.now) (words scratch.old) (words counters.old) at tops scope) (λ sig. ExprsAt sig (words rule.now) max_depth n at) at }
+    ensures { LowersExprs max_depth n (site_of (words rule.now) (words scratch.old) (words counters.old) at tops scope)
         (words scratch.new) (words counters.new) result }
 {
     let k = walks::leaves(
@@ -140,8 +140,12 @@ pub fn lower_arguments(
         n,
         words::NAME_BASE + scope.globals - 1,
         scratch,
-        sp,
+        tops.sp,
     );
+    let rest = Tops {
+        sp: tops.sp + k,
+        ..tops
+    };
     lower_all(
         rule,
         at + k,
@@ -150,8 +154,6 @@ pub fn lower_arguments(
         scope,
         counters,
         scratch,
-        to,
-        sp + k,
-        log,
+        rest,
     )
 }

@@ -2,8 +2,7 @@ use Prim.Native.Nat.{◌+◌, ◌*◌, ◌-◌}
 use mathlib.Core.Path.{◌≡◌}
 use lib.ListN.{length}
 use Rattle.octets.specs.Words.{words}
-use Rattle.head_exprs.proofs.Sites.{site_of}
-use Rattle.head_exprs.proofs.Expressions.{standing}
+use Rattle.head_exprs.specs.Sites.{site_of}
 use Rattle.head_exprs.proofs.Arguments.{Row}
 use Rattle.head_exprs.proofs.+lower_lower_all.Given as goal
 
@@ -12,11 +11,8 @@ use Rattle.head_exprs.proofs.+lower_lower_all.Given as goal
 abbrev pub invariant-lower_all-loop-top : goal.invariant-lower_all-loop-top
 invariant-lower_all-loop-top l =
     (length l.counters ≡ length l.initial.counters) × (length l.scratch ≡ length l.initial.scratch)
-    × (Row (site_of (words l.rule) (words l.initial.scratch) (words l.initial.counters) l.at l.to l.sp l.log l.scope) l.depth l.n
-    (l.sp + l.n - l.top) l.top (words l.scratch) (words l.counters) (standing l.next l.end l.uses))
-
-abbrev pub decreases-lower_all-loop-top : goal.decreases-lower_all-loop-top
-decreases-lower_all-loop-top l = l.sp + l.n - l.top
+    × (Row (site_of (words l.rule) (words l.initial.scratch) (words l.initial.counters) l.at l.fn.tops l.scope) l.depth l.n
+    (l.fn.tops.sp + l.n - l.top) l.top (words l.scratch) (words l.counters) l.walk)
 
 abbrev pub decreases-lower : goal.decreases-lower
 decreases-lower l = length (words l.rule.now) - l.at + 2 * l.depth
