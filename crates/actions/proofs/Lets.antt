@@ -9,32 +9,32 @@ use lib.ListN.{length, get_or, set}
 use lib.Seq.{get_or-set_same}
 use Rattle.octets.specs.Regions.{splice}
 use Rattle.rules.specs.Words.{max_depth, fresh_base, action_word}
-use Rattle.rules.specs.Refusals.{Res, ok, refuse, ◌>>=◌, already_defined}
+use Rattle.std.specs.Prelude.{Result, Ok, Err}
+use Rattle.refusals.specs.Numbers.{number_of}
+use Rattle.refusals.specs.declared.Reason.TheVariants.{AlreadyDefined}
+use Rattle.refusals.specs.declared.Refusal.{Refusal}
+use Rattle.rules.specs.Refusals.{Res, ok, refuse, ◌>>=◌}
 use Rattle.rules.specs.Signature.{Sig, elem}
 use Rattle.rules.specs.Flat.{Let}
 use Rattle.rules.specs.ToCoreActions.{Low, Done, lower_expr, lower_let}
-use Rattle.walks.specs.Steps.{Piece, stopped_at, InAnswer, ExprAt}
+use Rattle.walks.specs.Steps.{Piece, reached_at, InAnswer, ExprAt}
 use Rattle.walks.specs.declared.Walk.{Walk}
+use Rattle.walks.specs.declared.Stopped.{Stopped}
 use Rattle.walks.proofs.Frames.{kept_none}
-use Rattle.walks.proofs.Steps.{high, stop, stored, Own, written}
+use Rattle.walks.proofs.Steps.{stop, stored, Own, written}
 use Rattle.head_exprs.specs.Scopes.{Scoped, ScopeFits}
+use Rattle.head_exprs.specs.Sites.{Site, Asks, WalkedAt}
 use Rattle.head_exprs.specs.Lowered.{lowered}
 use Rattle.head_exprs.proofs.Scopes.{scope_let, scope_fits}
-use Rattle.head_exprs.proofs.Sites.{Site, Asks, Every, WalkedAt, Tree, tree, Begun, begun_as, asks}
-use Rattle.actions.specs.Acts.{LetAt, done_piece, acted_at, refused_action, Gave, ScopeAfter}
+use Rattle.head_exprs.proofs.Sites.{Tree, tree, Begun, begun_as, asks}
+use Rattle.actions.specs.Acts.{LetAt, done_piece, acted_at, walk_of, Gave, ScopeAfter}
+use Rattle.actions.specs.Lowers.{Does, second, LowersLet}
 use Rattle.actions.specs.declared.Acted.{Acted}
 use Rattle.actions.proofs.Pieces.{let_piece, done_let}
-use Rattle.actions.proofs.Does.{Does, second}
 use Rattle.actions.proofs.Acting.{acts_stop, LowAt, Fine, is_fine}
 
 abbrev pub LetThere : Site → Sig → Type 0
 LetThere k sig = LetAt sig k.ws k.at
-
--- what the contract says of an answer
-abbrev pub Answers : Site → List ℕ → List ℕ → Acted → Type 0
-Answers k s' cs' r =
-    Every k (LetThere k)
-    (λ sig x bound. Does k sig bound (lower_let (elem (second k) bound) sig bound k.at (second k) x.expr.value k.cs) (2 + x.expr.size) s' cs' r)
 
 -- ---- the name is read as v
 
@@ -61,31 +61,30 @@ Test k v b = (sig : Sig) (bound : List ℕ) → Scoped sig bound k.s k.scope →
 abbrev let_of : (k : Site) → ℕ → Bool → Tree k (LetThere k) → Res Done
 let_of k v b t = lower_let b t.sig t.bound k.at v t.it.expr.value k.cs
 
-abbrev Ends : (k : Site) → ℕ → Bool → List ℕ → List ℕ → Acted → Tree k (LetThere k) → Type 0
+abbrev Ends : (k : Site) → ℕ → Bool → List ℕ → List ℕ → Result Acted Stopped → Tree k (LetThere k) → Type 0
 Ends k v b s' cs' r t = Does k t.sig t.bound (let_of k v b t) (2 + t.it.expr.size) s' cs' r
 
 module _ {k : Site} {v : ℕ} (h : Letting k v) {b : Bool} (test : Test k v b) where
-  answers : {s' cs' : List ℕ} {r : Acted} (b' : Bool) → b ≡ b' → ((t : Tree k (LetThere k)) → Ends k v b' s' cs' r t) → Answers k s' cs' r
+  answers : {s' cs' : List ℕ} {r : Result Acted Stopped} (b' : Bool) → b ≡ b' → ((t : Tree k (LetThere k)) → Ends k v b' s' cs' r t) → LowersLet k s' cs' r
   answers {s'} {cs'} {r} b' e f sig x bound n sc =
       let there : b ≡ elem v bound = test sig bound sc (subst (λ (u : ℕ). u < fresh_base) (sym h.is) x.old) in
       subst
       (λ (u : ℕ). Does k sig bound (lower_let (elem u bound) sig bound k.at u x.expr.value k.cs) (2 + x.expr.size) s' cs' r) h.is
       (subst (λ (u : Bool). Ends k v u s' cs' r (tree sig x bound n sc)) (sym e ∙ there) (f (tree sig x bound n sc)))
 
-  pub let_twice : b ≡ true → Answers k k.s k.cs (refused_action (stopped_at k.at k.lg already_defined))
-  let_twice e = answers true e twice
+  pub let_twice : {q : Refusal} → b ≡ true → (q.reason ≡ AlreadyDefined) × (q.place ≡ k.at) → LowersLet k k.s k.cs (Err (record { refusal = q; log = k.lg }))
+  let_twice {q} e is = answers true e twice
     where
-      twice : (t : Tree k (LetThere k))
-          → Ends k v true k.s k.cs (refused_action (stopped_at k.at k.lg already_defined)) t
+      twice : (t : Tree k (LetThere k)) → Ends k v true k.s k.cs (Err (record { refusal = q; log = k.lg })) t
       twice t =
           let m : ℕ = 2 + t.it.expr.size in
           record {
             piece =
                 record {
                   kept = kept_none k.to (k.to + 4 * m) k.sp (k.sp + m) k.lg (k.lg + m) k.s k.cs (omega arith);
-                  ended = record { is = refl; some = omega arith };
+                  ended = record { number = ap number_of is.0; place = is.1 };
                 };
-            after = (refl, refl);
+            after = tt;
           }
 
 -- it is free
@@ -98,39 +97,40 @@ pub record Free (k : Site) (v : ℕ) : Type 0 where
 pub is_free : {k : Site} {v : ℕ} {b : Bool} → Letting k v → Test k v b → b ≡ false → Free k v
 is_free {b = b} h test free = record { letting = h; b = b; test = test; free = free }
 
--- ---- the expression is lowered: e, with s1 and cs1 left behind
+-- ---- the expression is lowered, which leaves s1 and cs1
 
-module _ {k : Site} {v : ℕ} (f : Free k v) {s1 cs1 : List ℕ} {e : Walk} (l : LowAt k (k.at + 2) s1 cs1 e) where
-  abbrev low : Tree k (LetThere k) → Res Piece
-  low t = lowered t.sig t.bound t.it.expr.value k.cs
+abbrev low : (k : Site) → Tree k (LetThere k) → Res Piece
+low k t = lowered t.sig t.bound t.it.expr.value k.cs
 
-  walk : (t : Tree k (LetThere k)) → WalkedAt k 1 (InAnswer k.lg e) (low t) t.it.expr.size (k.at + 2) s1 cs1 e
-  walk t = l.walk t.sig t.it.expr t.bound t.counted t.scoped
-
-  pub let_refused : (e.refused ≡ 0 → ⊥) → Answers k s1 cs1 (refused_action e)
-  let_refused bad = answers f.letting f.test false f.free stopped
+module _ {k : Site} {v : ℕ} (f : Free k v) {s1 cs1 : List ℕ} where
+  pub let_refused : {e : Stopped} → LowAt k (k.at + 2) s1 cs1 (Err e) → LowersLet k s1 cs1 (Err e)
+  let_refused {e} l = answers f.letting f.test false f.free stopped
     where
-      stopped : (t : Tree k (LetThere k)) → Ends k v false s1 cs1 (refused_action e) t
+      stopped : (t : Tree k (LetThere k)) → Ends k v false s1 cs1 (Err e) t
       stopped t =
           acts_stop (let_of k v false t)
           (rw (done_let t.sig t.bound k.at v t.it.expr.value k.cs)
-          (stop (2 + t.it.expr.size) k.at (low t) (λ q. ok (let_piece v q)) (walk t) bad (omega arith))) bad (refl, λ some. refl)
+          (stop (2 + t.it.expr.size) k.at (low k t) (λ q. ok (let_piece v q)) (l.walk t.sig t.it.expr t.bound t.counted t.scoped) (omega arith)))
 
-  -- ---- it is fine
+  -- ---- it is done: e
 
-  pub let_fine : e.refused ≡ 0 → Fine k s1 e
-  let_fine fine = let t = f.letting.begun.tree in is_fine f.letting.begun (low t) (walk t) (omega arith) t.it.expr.inside fine
+  module _ {e : Walk} (l : LowAt k (k.at + 2) s1 cs1 (Ok e)) where
+    walk : (t : Tree k (LetThere k)) → WalkedAt k 1 (InAnswer k.lg) (low k t) t.it.expr.size (k.at + 2) s1 cs1 (Ok e)
+    walk t = l.walk t.sig t.it.expr t.bound t.counted t.scoped
+
+    pub let_fine : Fine k s1 e
+    let_fine = let t = f.letting.begun.tree in is_fine f.letting.begun (low k t) (walk t) (omega arith) t.it.expr.inside
 
   -- the action is written, up to to', which leaves s2, and the name is put, which leaves s3
-  module _ (fine : e.refused ≡ 0) {s2 s3 : List ℕ} {to' : ℕ}
+  module _ {e : Walk} (l : LowAt k (k.at + 2) s1 cs1 (Ok e)) {s2 s3 : List ℕ} {to' : ℕ}
       (put : (to' ≡ e.to + 3) × (s2 ≡ splice s1 e.to (action_word 1 ∷ v ∷ e.term ∷ []))) (push : s3 ≡ set s2 k.sp v) where
-    abbrev answer : Acted
-    answer = acted_at e.next to' e.log 1 (e.log - k.lg + 1)
+    abbrev answer : Result Acted Stopped
+    answer = Ok (acted_at e.next to' e.log 1 (e.log - k.lg + 1))
 
     abbrev Writes : List ℕ → Tree k (LetThere k) → Type 0
     Writes s' t =
-        WalkedAt k 0 (Gave answer) (◌>>=◌ (low t) (λ q. ok (let_piece v q))) (2 + t.it.expr.size)
-        k.at s' cs1 answer.walk
+        WalkedAt k 0 (Gave answer) (◌>>=◌ (low k t) (λ q. ok (let_piece v q))) (2 + t.it.expr.size)
+        k.at s' cs1 (walk_of answer)
 
     -- room for the whole let
     record LetRoom (size : ℕ) : Type 0 where
@@ -149,10 +149,10 @@ module _ {k : Site} {v : ℕ} (f : Free k v) {s1 cs1 : List ℕ} {e : Walk} (l :
         let r = let_room t in
         let n : ℕ = t.it.expr.size in
         let ys : List ℕ = action_word 1 ∷ v ∷ e.term ∷ [] in
-        let own : (p : Piece) → InAnswer k.lg e p → Own (Gave answer) p ys p.next (let_piece v p) =
-        λ p u. record { words = λ j. p.words ++ action_word 1 ∷ v ∷ u.term j; counters = refl; terms = (gave p u, refl) } in
-        written 0 (Gave answer) n (2 + n) (k.at + 2) k.at k.to k.sp k.lg k.s k.cs s1 cs1 s2 ys e to' 0 (low t) (let_piece v)
-        r.words r.stack r.log (omega arith) (omega arith) (omega arith) (walk t) fine put.1 put.0 own
+        let own : (p : Piece) → InAnswer k.lg e p → Own (Gave answer (reached_at e.next to' e.log 0)) p ys p.next (let_piece v p) =
+        λ p u. record { words = λ j. p.words ++ action_word 1 ∷ v ∷ u.term j; counters = refl; terms = gave p u } in
+        written 0 (Gave answer) n (2 + n) (k.at + 2) k.at k.to k.sp k.lg k.s k.cs s1 cs1 s2 ys e to' 0 (low k t) (let_piece v)
+        r.words r.stack r.log (omega arith) (omega arith) (omega arith) (walk l t) put.1 put.0 own
       where
         gave : (p : Piece) → InAnswer k.lg e p → p.count + 1 ≡ e.log - k.lg + 1
         gave p u = omega (arith, u.uses)
@@ -160,15 +160,15 @@ module _ {k : Site} {v : ℕ} (f : Free k v) {s1 cs1 : List ℕ} {e : Walk} (l :
     named : (t : Tree k (LetThere k)) → Writes s3 t
     named t =
         let r = let_room t in
-        stored v (◌>>=◌ (low t) (λ q. ok (let_piece v q))) (action t) refl push (omega arith) r.words r.stack r.log (λ p here room u. u)
+        stored v (◌>>=◌ (low k t) (λ q. ok (let_piece v q))) (action t) push (omega arith) r.words r.stack r.log (λ p here room u. u)
 
     abbrev letting : Tree k (LetThere k) → Res Low → Res Done
     letting t y = ◌>>=◌ y (λ q. ok (record { acts = q.acts ++ Let v q.term ∷ []; bound = v ∷ t.bound; next = q.next }))
 
     after : (t : Tree k (LetThere k)) (y : Res Low)
-        → WalkedAt k 0 (Gave answer) (done_piece (letting t y)) (2 + t.it.expr.size) k.at s3 cs1 answer.walk
+        → WalkedAt k 0 (Gave answer) (done_piece (letting t y)) (2 + t.it.expr.size) k.at s3 cs1 (walk_of answer)
         → ScopeAfter (letting t y) t.sig t.bound k.scope s3 answer
-    after t (refuse n p) w = absurd (omega (arith, high w.ended))
+    after t (refuse n p) w = absurd w.ended
     after t (ok q) w =
         let r = let_room t in
         let i = t.it.expr.inside in
@@ -186,12 +186,12 @@ module _ {k : Site} {v : ℕ} (f : Free k v) {s1 cs1 : List ℕ} {e : Walk} (l :
               (λ j x y. kp.between j (omega (arith, sr.names)) (omega arith)) here,
         )
 
-    pub let_done : Answers k s3 cs1 answer
+    pub let_done : LowersLet k s3 cs1 answer
     let_done = answers f.letting f.test false f.free done
       where
         done : (t : Tree k (LetThere k)) → Ends k v false s3 cs1 answer t
         done t =
             let y = lower_expr t.sig t.bound t.it.expr.value k.cs in
-            let piece : WalkedAt k 0 (Gave answer) (done_piece (letting t y)) (2 + t.it.expr.size) k.at s3 cs1 answer.walk =
+            let piece : WalkedAt k 0 (Gave answer) (done_piece (letting t y)) (2 + t.it.expr.size) k.at s3 cs1 (walk_of answer) =
             rw (done_let t.sig t.bound k.at v t.it.expr.value k.cs) (named t) in
             record { piece = piece; after = after t y piece }

@@ -1,6 +1,5 @@
 -- Laws that the proofs of this crate share with those above it, in reading order.
 pub mod Pieces
-pub mod Does
 pub mod Acting
 pub mod Lets
 pub mod Pairs

@@ -5,35 +5,36 @@ use mathlib.Core.Bool.{Bool, true, false}
 use mathlib.Core.List.{List}
 use Prim.Native.Nat.{ℕ, ◌+◌, ◌-◌, ◌*◌, ◌≤◌, ◌<◌}
 use native.Mathlib.Omega.{arith}
-use lib.ListN.{length, get_or, set}
+use lib.ListN.{length, set}
 use Rattle.rules.specs.Words.{max_depth, head_base, fresh_base, action_word, head_of, count_of}
-use Rattle.rules.specs.Refusals.{Res, ok, ◌>>=◌, unbound}
+use Rattle.std.specs.Prelude.{Result, Ok, Err}
+use Rattle.refusals.specs.Numbers.{number_of}
+use Rattle.refusals.specs.declared.Reason.TheVariants.{Unbound}
+use Rattle.refusals.specs.declared.Refusal.{Refusal}
+use Rattle.rules.specs.Refusals.{Res, ok, ◌>>=◌}
 use Rattle.rules.specs.Signature.{Sig, heads}
 use Rattle.rules.specs.Written.{Exprs, leaf}
 use Rattle.rules.specs.ToCoreActions.{readable, Done, lower_set}
-use Rattle.walks.specs.Steps.{Piece, both, and_then, stopped_at, Walked, InAnswer, OnStack}
+use Rattle.walks.specs.Steps.{Piece, both, and_then, reached_at, Walked, InAnswer, OnStack}
 use Rattle.walks.specs.declared.Walk.{Walk}
+use Rattle.walks.specs.declared.Stopped.{Stopped}
 use Rattle.walks.proofs.Frames.{kept_none}
 use Rattle.walks.proofs.Steps.{went, stop, walk_then, placed, pushed, stacked}
 use Rattle.walks.proofs.Read.{exprs_many, recount}
 use Rattle.head_exprs.specs.Scopes.{Scoped, ScopeFits}
+use Rattle.head_exprs.specs.Sites.{Site, WalkedAt}
 use Rattle.head_exprs.specs.Lowered.{lowered, lowered_all}
 use Rattle.head_exprs.proofs.Scopes.{scope_fits}
 use Rattle.head_exprs.proofs.Pieces.{lowered_leaf}
-use Rattle.head_exprs.proofs.Sites.{Site, Every, WalkedAt, Tree, tree, tree_as, Begun}
-use Rattle.actions.specs.Acts.{NameCallAt, refused_action, closing, and_change, ChangeFits, Gave, Quiet}
+use Rattle.head_exprs.proofs.Sites.{Tree, tree, tree_as, Begun}
+use Rattle.actions.specs.Acts.{NameCallAt, closing, and_change, ChangeFits, walk_of, Gave, Quiet}
+use Rattle.actions.specs.Lowers.{Does, second, third, SetsName, Closes}
 use Rattle.actions.specs.declared.Acted.{Acted}
 use Rattle.actions.proofs.Pieces.{done_set, same_set}
-use Rattle.actions.proofs.Does.{Does, TermedAt, second}
 use Rattle.actions.proofs.Acting.{acts_stop, acts_same, scope_after}
-use Rattle.actions.proofs.Closing.{Closes}
-use Rattle.actions.proofs.Changes.{Headed, Argued, Fine}
+use Rattle.actions.proofs.Changes.{Headed, Argued, Fine, TermedAt}
 
 -- ---- both words are read: the name as v, and the call's kind 3 word as w
-
--- the third word of the action
-abbrev pub third : Site → ℕ
-third k = get_or k.ws (k.at + 2) 0
 
 -- the call
 abbrev pub Call : Site → ℕ → Sig → Type 0
@@ -65,12 +66,6 @@ pub record Naming (k : Site) (v w : ℕ) : Type 0 where
 abbrev pub set_of_lem : Site → (v w : ℕ) (sig : Sig) (bound : List ℕ) → Exprs → Res Done
 set_of_lem k v w sig bound es = lower_set sig bound (k.at + 2) (head_of w) es (leaf (k.at + 1) v) k.cs
 
--- what the contract says of an answer
-abbrev pub Answers : Site → List ℕ → List ℕ → Acted → Type 0
-Answers k s' cs' r =
-    Every k (λ sig. NameCallAt sig k.ws k.at)
-    (λ sig x bound. Does k sig bound (set_of_lem k (second k) (third k) sig bound x.exprs.value) (3 + x.exprs.size) s' cs' r)
-
 -- what the test of the name says, with s1 left behind
 abbrev pub Test : Site → (s1 : List ℕ) (v : ℕ) → Bool → Type 0
 Test k s1 v b = (sig : Sig) (bound : List ℕ) → Scoped sig bound s1 k.scope → v < fresh_base → b ≡ readable sig bound v
@@ -81,10 +76,10 @@ module _ {k : Site} {v w : ℕ} (h : Naming k v w) where
   abbrev lowering : Tree k (NameCall k v w) → Res Done
   lowering t = set_of_lem k v w t.sig t.bound t.it.call.exprs.value
 
-  abbrev Ends : List ℕ → List ℕ → Acted → Tree k (NameCall k v w) → Type 0
+  abbrev Ends : List ℕ → List ℕ → Result Acted Stopped → Tree k (NameCall k v w) → Type 0
   Ends s' cs' r t = Does k t.sig t.bound (lowering t) (3 + t.it.call.exprs.size) s' cs' r
 
-  answers : {s' cs' : List ℕ} {r : Acted} → ((t : Tree k (NameCall k v w)) → Ends s' cs' r t) → Answers k s' cs' r
+  answers : {s' cs' : List ℕ} {r : Result Acted Stopped} → ((t : Tree k (NameCall k v w)) → Ends s' cs' r t) → SetsName k s' cs' r
   answers {s'} {cs'} {r} f sig x bound n sc =
       subst
       (λ (u : ℕ). Does k sig bound (set_of_lem k (second k) u sig bound x.exprs.value) (3 + x.exprs.size) s' cs' r) h.isw
@@ -99,17 +94,16 @@ module _ {k : Site} {v w : ℕ} (h : Naming k v w) where
   abbrev name : Tree k (NameCall k v w) → List ℕ → Res Piece
   name t = lowered t.sig t.bound (leaf (k.at + 1) v)
 
-  abbrev Walks : List ℕ → List ℕ → Acted → Tree k (NameCall k v w) → Type 0
+  abbrev Walks : List ℕ → List ℕ → Result Acted Stopped → Tree k (NameCall k v w) → Type 0
   Walks s' cs' r t =
       WalkedAt k 0 (Gave r) (and_change (action_word 2) 1 (k.at + 2) (head_of w) (and_then (args t) (name t))) (3 + t.it.call.exprs.size)
-      k.at s' cs' r.walk
+      k.at s' cs' (walk_of r)
 
-  refused : {s' cs' : List ℕ} {r : Acted} (t : Tree k (NameCall k v w)) → Walks s' cs' r t → (r.walk.refused ≡ 0 → ⊥) → Quiet r
-      → Ends s' cs' r t
-  refused t walk bad quiet =
-      acts_stop (lowering t) (rw (done_set t.sig t.bound (k.at + 2) (head_of w) t.it.call.exprs.value (leaf (k.at + 1) v) k.cs) walk) bad quiet
+  refused : {s' cs' : List ℕ} {e : Stopped} (t : Tree k (NameCall k v w)) → Walks s' cs' (Err e) t → Ends s' cs' (Err e) t
+  refused t walk =
+      acts_stop (lowering t) (rw (done_set t.sig t.bound (k.at + 2) (head_of w) t.it.call.exprs.value (leaf (k.at + 1) v) k.cs) walk)
 
-  done : {s' cs' : List ℕ} {r : Acted} (t : Tree k (NameCall k v w)) → Walks s' cs' r t → Quiet r → Ends s' cs' r t
+  done : {s' cs' : List ℕ} {r : Result Acted Stopped} (t : Tree k (NameCall k v w)) → Walks s' cs' r t → Quiet r → Ends s' cs' r t
   done t walk none =
       let x = t.it.call.exprs in
       let i = x.inside in
@@ -117,23 +111,23 @@ module _ {k : Site} {v w : ℕ} (h : Naming k v w) where
       (same_set t.sig t.bound (k.at + 2) (head_of w) x.value (leaf (k.at + 1) v) k.cs) none h.begun.scope_room (omega arith) t.scoped
       (rw (done_set t.sig t.bound (k.at + 2) (head_of w) x.value (leaf (k.at + 1) v) k.cs) walk)
 
-  -- ---- the arguments are lowered: a, with s1 and cs1 left behind
+  -- ---- the arguments are lowered, which leaves s1 and cs1
 
-  module _ {s1 cs1 : List ℕ} {a : Walk} (m : Argued k 3 (max_depth - 1) (count_of w) w s1 cs1 a) where
+  pub args_refused : {s1 cs1 : List ℕ} {e : Stopped} → Argued k 3 (max_depth - 1) (count_of w) w s1 cs1 (Err e) → SetsName k s1 cs1 (Err e)
+  args_refused {s1} {cs1} {e} m = answers (λ t. refused t (stopped t))
+    where
+      stopped : (t : Tree k (NameCall k v w)) → Walks s1 cs1 (Err e) t
+      stopped t =
+          let n = 3 + t.it.call.exprs.size in
+          let one : WalkedAt k 0 (λ a p. ⊥) (and_then (args t) (name t)) n k.at s1 cs1 (Err e) =
+          stop n k.at (args t) (λ p. ◌>>=◌ (name t p.next) (λ q. ok (both p q))) (m.walk (tree_as t (λ sig x. x.call))) (omega arith) in
+          stop n k.at (and_then (args t) (name t)) (closing (action_word 2) 1 (k.at + 2) (head_of w)) one (omega arith)
+
+  module _ {s1 cs1 : List ℕ} {a : Walk} (m : Argued k 3 (max_depth - 1) (count_of w) w s1 cs1 (Ok a)) where
     abbrev walk : (t : Tree k (NameCall k v w))
-        → WalkedAt k (count_of w) (OnStack k.sp (count_of w) k.lg s1 a) (args t) t.it.call.exprs.size
-        (k.at + 3) s1 cs1 a
+        → WalkedAt k (count_of w) (OnStack k.sp (count_of w) k.lg s1) (args t) t.it.call.exprs.size
+        (k.at + 3) s1 cs1 (Ok a)
     walk t = m.walk (tree_as t (λ sig x. x.call))
-
-    pub args_refused : (a.refused ≡ 0 → ⊥) → Answers k s1 cs1 (refused_action a)
-    args_refused bad = answers (λ t. refused t (stopped t) bad (refl, λ some. refl))
-      where
-        stopped : (t : Tree k (NameCall k v w)) → Walks s1 cs1 (refused_action a) t
-        stopped t =
-            let n = 3 + t.it.call.exprs.size in
-            let one : WalkedAt k 0 (Gave (refused_action a)) (and_then (args t) (name t)) n k.at s1 cs1 a =
-            stop n k.at (args t) (λ p. ◌>>=◌ (name t p.next) (λ q. ok (both p q))) (walk t) bad (omega arith) in
-            stop n k.at (and_then (args t) (name t)) (closing (action_word 2) 1 (k.at + 2) (head_of w)) one bad (omega arith)
 
     -- ---- they are fine: the ways out, by whether the name may be read, b
 
@@ -148,12 +142,12 @@ module _ {k : Site} {v w : ℕ} (h : Naming k v w) where
 
       -- the arguments as if they started one word earlier, so that the name can be read behind them
       abbrev early : Tree k (NameCall k v w) → Walk
-      early t = record { next = k.at + 2 + t.it.call.exprs.size; to = a.to; log = a.log; term = a.term; refused = 0 }
+      early t = reached_at (k.at + 2 + t.it.call.exprs.size) a.to a.log a.term
 
       first : (t : Tree k (NameCall k v w))
-          → WalkedAt k (count_of w) (OnStack k.sp (count_of w) k.lg s1 (early t)) (args t) t.it.call.exprs.size
-          (k.at + 2) s1 cs1 (early t)
-      first t = placed (k.at + 2) (early t) (args t) (walk t) f.fine refl refl refl refl (λ p u. record { size = u.size; terms = u.terms; uses = u.uses })
+          → WalkedAt k (count_of w) (OnStack k.sp (count_of w) k.lg s1) (args t) t.it.call.exprs.size
+          (k.at + 2) s1 cs1 (Ok (early t))
+      first t = placed (k.at + 2) (early t) (args t) (walk t) refl refl refl (λ p u. record { size = u.size; terms = u.terms; uses = u.uses })
 
       module _ {b : Bool} (test : Test k s1 v b) where
         tested : (t : Tree k (NameCall k v w)) → b ≡ readable t.sig t.bound v
@@ -162,44 +156,44 @@ module _ {k : Site} {v w : ℕ} (h : Naming k v w) where
             let i = x.inside in
             test t.sig t.bound (scope_after (length k.ws) x.size h.begun.scope_room (omega arith) (walk t).kept t.scoped) t.it.old
 
-        pub name_refused : b ≡ false → Answers k s1 cs1 (refused_action (stopped_at (k.at + 1) a.log unbound))
-        name_refused not = answers (λ t. refused t (stopped t) (λ z. omega arith) (refl, λ some. refl))
+        pub name_refused : {q : Refusal} → b ≡ false → (q.reason ≡ Unbound) × (q.place ≡ k.at + 1) → SetsName k s1 cs1 (Err (record { refusal = q; log = a.log }))
+        name_refused {q} not is = answers (λ t. refused t (stopped t))
           where
-            ans : Walk
-            ans = stopped_at (k.at + 1) a.log unbound
+            ans : Result Walk Stopped
+            ans = Err (record { refusal = q; log = a.log })
 
-            second : (t : Tree k (NameCall k v w)) → Walked 1 (λ p. ⊥) (name t cs1) 1 (early t).next a.to (k.sp + count_of w) a.log s1 cs1 s1 cs1 ans
+            second : (t : Tree k (NameCall k v w)) → Walked 1 (λ b p. ⊥) (name t cs1) 1 (early t).next a.to (k.sp + count_of w) a.log s1 cs1 s1 cs1 ans
             second t =
                 rw (lowered_leaf t.sig t.bound (k.at + 1) v cs1, sym (tested t), not)
                 (record {
                   kept = kept_none a.to (a.to + 4 * 1) (k.sp + count_of w) (k.sp + count_of w + 1) a.log (a.log + 1) s1 cs1 (omega arith);
-                  ended = record { is = refl; some = omega arith };
+                  ended = record { number = ap number_of is.0; place = is.1 };
                 })
 
-            stopped : (t : Tree k (NameCall k v w)) → Walks s1 cs1 (refused_action ans) t
+            stopped : (t : Tree k (NameCall k v w)) → Walks s1 cs1 (Err (record { refusal = q; log = a.log })) t
             stopped t =
                 let x = t.it.call.exprs in
                 let i = x.inside in
                 let many = exprs_many t.sig k.ws (max_depth - 1) (count_of w) (k.at + 3) x in
-                let halted : WalkedAt k (count_of w + 1) (λ p. ⊥) (and_then (args t) (name t)) (x.size + 1) (k.at + 2) s1 cs1 ans =
-                walk_then x.size 1 (k.at + 2) k.to k.sp (k.sp + count_of w) k.lg k.s k.cs s1 cs1 s1 cs1 (early t) ans
-                (omega (arith, h.begun.room.stack)) (omega arith) (omega arith) (count_of w + 1) (λ p. ⊥) (args t) (name t) (omega arith)
-                (first t) refl (second t) (λ p q t u. u) in
-                stop (3 + x.size) k.at (and_then (args t) (name t)) (closing (action_word 2) 1 (k.at + 2) (head_of w)) halted (λ z. omega arith) (omega arith)
+                let halted : WalkedAt k (count_of w + 1) (λ b p. ⊥) (and_then (args t) (name t)) (x.size + 1) (k.at + 2) s1 cs1 ans =
+                walk_then x.size 1 (k.at + 2) k.to k.sp (k.sp + count_of w) k.lg k.s k.cs s1 cs1 s1 cs1 (early t)
+                (omega (arith, h.begun.room.stack)) (omega arith) (omega arith) (count_of w + 1) (λ b p. ⊥) (args t) (name t) (omega arith)
+                (first t) (second t) (λ b p q t u. u) in
+                stop (3 + x.size) k.at (and_then (args t) (name t)) (closing (action_word 2) 1 (k.at + 2) (head_of w)) halted (omega arith)
 
         -- ---- the name is put behind them, which leaves s2
 
         module _ (may : b ≡ true) {s2 : List ℕ} (push : s2 ≡ set s1 (k.sp + count_of w) v) where
           -- the answer as it is when the name is read, too
           abbrev late : Walk
-          late = record { next = a.next; to = a.to; log = a.log; term = v; refused = 0 }
+          late = reached_at a.next a.to a.log v
 
           termed : (t : Tree k (NameCall k v w)) → TermedAt k (3 + t.it.call.exprs.size) (count_of w + 1) (and_then (args t) (name t)) s2 cs1 a
           termed t =
               let x = t.it.call.exprs in
               let i = x.inside in
               let many = exprs_many t.sig k.ws (max_depth - 1) (count_of w) (k.at + 3) x in
-              let o = went (args t) (walk t) f.fine in
+              let o = went (args t) (walk t) in
               let nx = o.next in
               let up = o.up_to in
               let lf = o.log_from in
@@ -209,28 +203,27 @@ module _ {k : Site} {v w : ℕ} (h : Naming k v w) where
               let r1 : k.to + 4 * (3 + x.size) ≤ k.sp = omega (arith, r.words) in
               let r2 : k.sp + (3 + x.size) ≤ k.lg = omega (arith, r.stack) in
               let r3 : k.lg + (3 + x.size) ≤ length k.s = omega (arith, r.log) in
-              let second : Walked 1 (InAnswer a.log late) (name t cs1) 1 (early t).next a.to (k.sp + count_of w) a.log s1 cs1 s1 cs1 late =
+              let second : Walked 1 (InAnswer a.log) (name t cs1) 1 (early t).next a.to (k.sp + count_of w) a.log s1 cs1 s1 cs1 (Ok late) =
               rw (lowered_leaf t.sig t.bound (k.at + 1) v cs1, sym (tested t), may)
               (record {
                 kept = kept_none a.to (a.to + 4 * 1) (k.sp + count_of w) (k.sp + count_of w + 1) a.log (a.log + 1) s1 cs1 (omega arith);
                 ended = (
-                  record { fine = refl; next = omega arith; to = omega arith; counters = refl; written = refl; fits = omega arith },
+                  record { next = omega arith; to = omega arith; counters = refl; written = refl; fits = omega arith },
                   record { term = refl; uses = omega arith },
                 );
               }) in
-              let there = pushed (name t cs1) second refl push (omega arith) (omega arith) (omega arith) (omega arith) in
-              let all : WalkedAt k (count_of w + 1) (OnStack k.sp (count_of w + 1) k.lg s2 late) (and_then (args t) (name t)) (x.size + 1)
-              (k.at + 2) s2 cs1 late =
-              walk_then x.size 1 (k.at + 2) k.to k.sp (k.sp + count_of w) k.lg k.s k.cs s1 cs1 s2 cs1 (early t) late
-              (omega arith) (omega arith) (omega arith) (count_of w + 1) (OnStack k.sp (count_of w + 1) k.lg s2 late) (args t) (name t) (omega arith)
-              (first t) refl there (λ p q y u. stacked p q (count_of w + 1) refl (omega arith) refl there.kept y u) in
+              let there = pushed (name t cs1) second push (omega arith) (omega arith) (omega arith) (omega arith) in
+              let all : WalkedAt k (count_of w + 1) (OnStack k.sp (count_of w + 1) k.lg s2) (and_then (args t) (name t)) (x.size + 1)
+              (k.at + 2) s2 cs1 (Ok late) =
+              walk_then x.size 1 (k.at + 2) k.to k.sp (k.sp + count_of w) k.lg k.s k.cs s1 cs1 s2 cs1 (early t)
+              (omega arith) (omega arith) (omega arith) (count_of w + 1) (OnStack k.sp (count_of w + 1) k.lg s2) (args t) (name t) (omega arith)
+              (first t) there (λ b p q y u. stacked b p q (count_of w + 1) refl (omega arith) refl there.kept y u) in
               record {
                 behind = x.size + 1;
                 whole = omega arith;
                 walk =
-                    placed (k.at + 2) a (and_then (args t) (name t)) all refl f.fine (omega arith) refl refl
+                    placed (k.at + 2) a (and_then (args t) (name t)) all (omega arith) refl refl
                     (λ p u. record { size = u.size; terms = u.terms; uses = u.uses });
-                fine = f.fine;
                 many = omega arith;
                 words = r1;
                 stack = r2;
@@ -244,8 +237,8 @@ module _ {k : Site} {v w : ℕ} (h : Naming k v w) where
               (record { high = x.high; head = x.head; counter = x.counter; log = omega (arith, x.log); words = x.words; stack = omega (arith, f.stack) }, f.fits.1)
 
           -- it leaves s3 and cs2
-          pub set_ends : {n : ℕ} {s3 cs2 : List ℕ} {r : Acted} → n ≡ count_of w → Closes (action_word 2) w (n + 1) (k.at + 2) k.sp k.lg s2 cs1 s3 cs2 a r
-              → Answers k s3 cs2 r
+          pub set_ends : {n : ℕ} {s3 cs2 : List ℕ} {r : Result Acted Stopped} → n ≡ count_of w → Closes (action_word 2) w (n + 1) (k.at + 2) k.sp k.lg s2 cs1 s3 cs2 a r
+              → SetsName k s3 cs2 r
           set_ends {n} {s3} {cs2} {r} count closes =
               let e = subst (λ (i : ℕ). Closes (action_word 2) w (i + 1) (k.at + 2) k.sp k.lg s2 cs1 s3 cs2 a r) count closes in
               answers

@@ -1,6 +1,7 @@
 -- 01, "Lowering the head": where actions stand in a written rule, and what lowering one of them leaves.
 -- Assumes nothing: these are definitions.
-use Rattle.std.specs.Prelude.{◌≡◌, List, [], ◌∷◌, ◌++◌, ℕ, ◌+◌, ◌-◌, ◌<◌, ◌≤◌, length, get_or}
+use Rattle.std.specs.Prelude.{◌≡◌, List, [], ◌∷◌, ◌++◌, ℕ, ◌+◌, ◌-◌, ◌<◌, ◌≤◌, length, get_or, Result, ⊤}
+use Rattle.std.specs.Prelude.{Ok, Err}
 use Rattle.rules.specs.Words.{max_depth, head_base, fresh_base, head_word, head_of, count_of}
 use Rattle.rules.specs.Refusals.{Res, ok, refuse, ◌>>=◌}
 use Rattle.rules.specs.Signature.{Sig, heads}
@@ -10,6 +11,7 @@ use Rattle.rules.specs.ToQuery.{Fresh, fresh}
 use Rattle.rules.specs.ToCoreActions.{Done}
 use Rattle.walks.specs.Steps.{Piece, reached_at, Walked, UseFits, ExprAt, ExprsAt}
 use Rattle.walks.specs.declared.Walk.{Walk}
+use Rattle.walks.specs.declared.Stopped.{Stopped}
 use Rattle.head_exprs.specs.Scopes.{Scoped, grown}
 use Rattle.head_exprs.specs.Lowered.{lowered_all}
 use Rattle.head_exprs.specs.declared.scope.Scope.{Scope}
@@ -47,13 +49,23 @@ abbrev pub done_piece : Res Done → Res Piece
 done_piece (ok d) = ok (record { terms = []; words = words_of action_words d.acts; count = length d.acts; next = d.next })
 done_piece (refuse n p) = refuse n p
 
--- the answer of an action that is not refused
+-- the answer of an action that has come to these places
 abbrev pub acted_at : (next to log names count : ℕ) → Acted
-acted_at p t l n c = record { walk = reached_at p t l 0; names = n; count = c }
+acted_at p t l n c = record { next = p; to = t; log = l; names = n; count = c }
 
--- the answer of a refusal
-abbrev pub refused_action : Walk → Acted
-refused_action a = record { walk = a; names = 0; count = 0 }
+-- the walk of an answer, which has no term
+abbrev pub walk_of : Result Acted Stopped → Result Walk Stopped
+walk_of (Ok a) = Ok (reached_at a.next a.to a.log 0)
+walk_of (Err e) = Err e
+
+-- how many names it let, and how many flat actions it gave: a refusal none
+abbrev pub names_of : Result Acted Stopped → ℕ
+names_of (Ok a) = a.names
+names_of (Err e) = 0
+
+abbrev pub given : Result Acted Stopped → ℕ
+given (Ok a) = a.count
+given (Err e) = 0
 
 -- an action of n terms, the last `more` of which its kind 3 word does not count
 abbrev pub change_piece : (code more h : ℕ) → Piece → Fresh → Piece
@@ -79,19 +91,19 @@ changed sig bound code more p h es cs = and_change code more p h (lowered_all si
 abbrev pub ChangeFits : (w n sp lg : ℕ) → Walk → List ℕ → List ℕ → Type 0
 ChangeFits w n sp lg a s cs = UseFits 2 w n sp a s cs × (lg ≤ a.log)
 
--- the answer says how many flat actions were given, and no term
-abbrev pub Gave : Acted → Piece → Type 0
-Gave r p = (p.count ≡ r.count) × (r.walk.term ≡ 0)
+-- the answer says how many flat actions were given
+abbrev pub Gave : Result Acted Stopped → Walk → Piece → Type 0
+Gave r a p = p.count ≡ given r
 
--- no name is let, and where it is refused no flat action is given
-abbrev pub Quiet : Acted → Type 0
-Quiet r = (r.names ≡ 0) × (0 < r.walk.refused → r.count ≡ 0)
+-- no name is let
+abbrev pub Quiet : Result Acted Stopped → Type 0
+Quiet r = names_of r ≡ 0
 
--- after an action that is done as many names more are bound as the answer says, at most one, and the scope has these; a refusal lets and gives none
-abbrev pub ScopeAfter : Res Done → Sig → List ℕ → Scope → List ℕ → Acted → Type 0
-ScopeAfter (ok d) sig bound c s' r = (r.names ≤ 1) × (r.names + length bound ≡ length d.bound) × Scoped sig d.bound s' (grown c r.names)
-ScopeAfter (refuse n p) sig bound c s' r = (r.names ≡ 0) × (r.count ≡ 0)
+-- after an action that is done as many names more are bound as the answer says, at most one, and the scope has these
+abbrev pub ScopeAfter : Res Done → Sig → List ℕ → Scope → List ℕ → Result Acted Stopped → Type 0
+ScopeAfter (ok d) sig bound c s' r = (names_of r ≤ 1) × (names_of r + length bound ≡ length d.bound) × Scoped sig d.bound s' (grown c (names_of r))
+ScopeAfter (refuse n p) sig bound c s' r = ⊤
 
-pub record Acts (x : Res Done) (sig : Sig) (bound : List ℕ) (c : Scope) (k at to sp lg : ℕ) (s cs s' cs' : List ℕ) (r : Acted) : Type 0 where
-  pub piece : Walked 0 (Gave r) (done_piece x) k at to sp lg s cs s' cs' r.walk
+pub record Acts (x : Res Done) (sig : Sig) (bound : List ℕ) (c : Scope) (k at to sp lg : ℕ) (s cs s' cs' : List ℕ) (r : Result Acted Stopped) : Type 0 where
+  pub piece : Walked 0 (Gave r) (done_piece x) k at to sp lg s cs s' cs' (walk_of r)
   pub after : ScopeAfter x sig bound c s' r

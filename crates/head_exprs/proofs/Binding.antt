@@ -1,5 +1,5 @@
 -- The end of a call: one count of the head of its kind 3 word is used for its variable, and action 7, the variable, that word and the terms on the stack
--- are written behind the words of the walk over them. Both ways out of `put_called`. Assumes nothing.
+-- are written behind the words of the walk over them. Assumes nothing.
 use mathlib.Core.Path.{◌≡◌, refl, sym}
 use mathlib.Core.List.{List, [], ◌∷◌, ◌++◌}
 use Prim.Native.Nat.{ℕ, ◌+◌}
@@ -8,20 +8,15 @@ use lib.ListN.{length}
 use Rattle.octets.specs.Regions.{splice, part}
 use Rattle.rules.specs.Words.{head_word, head_of, count_of, action_word}
 use Rattle.rules.specs.ToQuery.{Fresh}
-use Rattle.std.specs.Prelude.{Ok, Err}
+use Rattle.std.specs.Prelude.{Ok}
 use Rattle.walks.specs.Steps.{Piece, reached_at, InAnswer, OnStack}
 use Rattle.walks.specs.declared.Walk.{Walk}
-use Rattle.walks.specs.declared.Stopped.{Stopped}
 use Rattle.walks.proofs.Steps.{Own}
-use Rattle.walks.proofs.Uses.{Used, used_none, used_done}
+use Rattle.walks.proofs.Uses.{Used, used_done}
 use Rattle.walks.proofs.Words.{head_word_lem}
 use Rattle.head_exprs.specs.Lowered.{call_piece, Binds}
 
 module _ {w n place sp : ℕ} {s1 cs1 : List ℕ} {a : Walk} {s2 cs2 : List ℕ} where
-  -- its counter is used up
-  pub bound_none : {e : Stopped} → Used 3 w n sp place s1 cs1 a s2 cs2 (Err e) → Binds w n place sp s1 cs1 s2 cs2 a (Err e)
-  bound_none o at to size lg x s cs t = used_none t o (call_piece (head_of w))
-
   -- the words are written, up to e, which leaves s3
   pub bound_done : {v : ℕ} {s3 : List ℕ} {e : ℕ} → Used 3 w n sp place s1 cs1 a s2 cs2 (Ok v) → n ≡ count_of w
       → (e ≡ a.to + 3 + n) × (s3 ≡ splice s2 a.to (action_word 7 ∷ v ∷ w ∷ part s2 sp n)) → Binds w n place sp s1 cs1 s3 cs2 a (Ok (reached_at a.next e (a.log + 1) v))

@@ -5,75 +5,73 @@ use mathlib.Core.Path.{◌≡◌, refl}
 use mathlib.Core.List.{List}
 use native.Mathlib.Omega.{arith}
 use lib.ListN.{length}
+use Rattle.std.proofs.lemmas.Result.{err_from_is_err_and}
 use Rattle.octets.specs.Words.{words}
 use Rattle.octets.proofs.Words.{length_words_kept}
+use Rattle.walks.specs.declared.Tops.{Tops}
+use Rattle.head_exprs.specs.Sites.{site_of, Asks}
 use Rattle.head_exprs.specs.declared.scope.Scope.{Scope}
 use Rattle.head_exprs.proofs.Scopes.{taken_as}
-use Rattle.head_exprs.proofs.Sites.{site_of, Known, RoomAt, ScopeRoomAt}
-use Rattle.actions.proofs.Does.{second}
+use Rattle.actions.specs.Lowers.{second}
 use Rattle.actions.proofs.Acting.{starts, low_at}
 use Rattle.actions.proofs.Lets.{LetThere, Letting, let_twice, is_free, let_refused, let_fine, let_done}
 use Rattle.actions.proofs.lower_let.Goals as goal
 
 -- what is known at the start, the name read as v
-letting : (rule scratch counters : List ℕ) {at to sp lg v : ℕ} {scope : Scope}
-    → (let k = site_of (words rule) (words scratch) (words counters) at to sp lg scope in
-    Known k (LetThere k) → RoomAt k at × ScopeRoomAt k at × (scope.first + scope.names ≡ sp) → length rule < 2 ^ 64 → length scratch < 2 ^ 64
-    → v ≡ second k → Letting k v)
-letting rule scratch counters under room rule_fits scratch_fits is =
-    record { begun = starts rule scratch counters under room.0 room.1 rule_fits scratch_fits; is = is; end = room.2 }
+letting : (rule scratch counters : List ℕ) {at v : ℕ} {t : Tops} {scope : Scope}
+    → (let k = site_of (words rule) (words scratch) (words counters) at t scope in
+    Asks k (LetThere k) at → scope.first + scope.names ≡ t.sp → length rule < 2 ^ 64 → length scratch < 2 ^ 64 → v ≡ second k → Letting k v)
+letting rule scratch counters known top rule_fits scratch_fits is =
+    record { begun = starts rule scratch counters known rule_fits scratch_fits; is = is; end = top }
 
 pub overflow_add-at : goal.overflow_add-at
 overflow_add-at c =
-    let at_start = let a = c.args in letting a.rule.now a.scratch.now a.counters.now c.requires.under c.requires.room (omega arith) (omega arith) refl in
+    let at_start = let a = c.args in letting a.rule.now a.scratch.now a.counters.now c.requires.known c.requires.top (omega arith) (omega arith) refl in
     omega (arith, at_start.begun)
 
 pub returns-then-taken : goal.returns-then-taken
 returns-then-taken c =
-    let at_get = let a = c.args in letting a.rule.now a.scratch.now a.counters.now c.requires.under c.requires.room (omega arith) (omega arith) c.get-name.ensures.is in
-    rw (c.refused_action.ensures, c.stopped.ensures) (let_twice at_get (taken_as c.get-name.result c.taken.ensures) c.if-taken.true)
+    let at_get = let a = c.args in letting a.rule.now a.scratch.now a.counters.now c.requires.known c.requires.top (omega arith) (omega arith) c.get-name.ensures.is in
+    let_twice at_get (taken_as c.get-name.result c.taken.ensures) c.if-taken.true c.at.ensures
 
-pub overflow_add-next : goal.overflow_add-next
-overflow_add-next c =
-    let at_get = let a = c.args in letting a.rule.now a.scratch.now a.counters.now c.requires.under c.requires.room (omega arith) (omega arith) c.get-name.ensures.is in
+pub overflow_add-at-2 : goal.overflow_add-at-2
+overflow_add-at-2 c =
+    let at_get = let a = c.args in letting a.rule.now a.scratch.now a.counters.now c.requires.known c.requires.top (omega arith) (omega arith) c.get-name.ensures.is in
     omega (arith, at_get.begun)
 
-pub returns-then-e-ne0 : goal.returns-then-e-ne0
-returns-then-e-ne0 c =
-    let at_get = let a = c.args in letting a.rule.now a.scratch.now a.counters.now c.requires.under c.requires.room (omega arith) (omega arith) c.get-name.ensures.is in
+pub returns-in_err-e : goal.returns-in_err-e
+returns-in_err-e c =
+    let at_get = let a = c.args in letting a.rule.now a.scratch.now a.counters.now c.requires.known c.requires.top (omega arith) (omega arith) c.get-name.ensures.is in
     let at_free = is_free at_get (taken_as c.get-name.result c.taken.ensures) c.if-taken.false in
-    let at_lower = let e = c.lower-e in low_at at_get.begun e.ensures (length_words_kept _ _ e.auto.scratch) (length_words_kept _ _ e.auto.counters) in
-    rw c.refused_action-then-e-ne0.ensures (let_refused at_free at_lower c.if-e-ne0.true)
+    let at_lower = let e = c.lower in low_at at_get.begun c.in_err-e.ensures (length_words_kept _ _ e.auto.scratch) (length_words_kept _ _ e.auto.counters) in
+    let p = err_from_is_err_and c.from_residual.result c.from_residual.ensures.1 in
+    rw (p.1, p.2) (let_refused at_free at_lower)
 
 pub put_three-end-requires : goal.put_three-end-requires
 put_three-end-requires c =
-    let at_get = let a = c.args in letting a.rule.now a.scratch.now a.counters.now c.requires.under c.requires.room (omega arith) (omega arith) c.get-name.ensures.is in
+    let at_get = let a = c.args in letting a.rule.now a.scratch.now a.counters.now c.requires.known c.requires.top (omega arith) (omega arith) c.get-name.ensures.is in
     let at_free = is_free at_get (taken_as c.get-name.result c.taken.ensures) c.if-taken.false in
-    let at_lower = let e = c.lower-e in low_at at_get.begun e.ensures (length_words_kept _ _ e.auto.scratch) (length_words_kept _ _ e.auto.counters) in
-    let at_else = let_fine at_free at_lower c.if-e-ne0.false in
-    at_else.words
+    let at_lower = let e = c.lower in low_at at_get.begun c.in_ok-e.ensures (length_words_kept _ _ e.auto.scratch) (length_words_kept _ _ e.auto.counters) in
+    (let_fine at_free at_lower).words
 
 pub put-requires : goal.put-requires
 put-requires c =
-    let at_get = let a = c.args in letting a.rule.now a.scratch.now a.counters.now c.requires.under c.requires.room (omega arith) (omega arith) c.get-name.ensures.is in
+    let at_get = let a = c.args in letting a.rule.now a.scratch.now a.counters.now c.requires.known c.requires.top (omega arith) (omega arith) c.get-name.ensures.is in
     let at_free = is_free at_get (taken_as c.get-name.result c.taken.ensures) c.if-taken.false in
-    let at_lower = let e = c.lower-e in low_at at_get.begun e.ensures (length_words_kept _ _ e.auto.scratch) (length_words_kept _ _ e.auto.counters) in
-    let at_else = let_fine at_free at_lower c.if-e-ne0.false in
-    let at_three : length (words c.put_three-end.new.buf) ≡ length (words c.lower-e.new.scratch) = length_words_kept _ _ c.put_three-end.auto.buf in
-    omega (arith, at_else.top, at_three)
+    let at_lower = let e = c.lower in low_at at_get.begun c.in_ok-e.ensures (length_words_kept _ _ e.auto.scratch) (length_words_kept _ _ e.auto.counters) in
+    let at_three : length (words c.put_three-end.new.buf) ≡ length (words c.lower.new.scratch) = length_words_kept _ _ c.put_three-end.auto.buf in
+    omega (arith, (let_fine at_free at_lower).top, at_three)
 
-pub overflow_sub-e : goal.overflow_sub-e
-overflow_sub-e c =
-    let at_get = let a = c.args in letting a.rule.now a.scratch.now a.counters.now c.requires.under c.requires.room (omega arith) (omega arith) c.get-name.ensures.is in
+pub overflow_sub-result : goal.overflow_sub-result
+overflow_sub-result c =
+    let at_get = let a = c.args in letting a.rule.now a.scratch.now a.counters.now c.requires.known c.requires.top (omega arith) (omega arith) c.get-name.ensures.is in
     let at_free = is_free at_get (taken_as c.get-name.result c.taken.ensures) c.if-taken.false in
-    let at_lower = let e = c.lower-e in low_at at_get.begun e.ensures (length_words_kept _ _ e.auto.scratch) (length_words_kept _ _ e.auto.counters) in
-    let at_else = let_fine at_free at_lower c.if-e-ne0.false in
-    at_else.logged
+    let at_lower = let e = c.lower in low_at at_get.begun c.in_ok-e.ensures (length_words_kept _ _ e.auto.scratch) (length_words_kept _ _ e.auto.counters) in
+    (let_fine at_free at_lower).logged
 
 pub returns : goal.returns
 returns c =
-    let at_get = let a = c.args in letting a.rule.now a.scratch.now a.counters.now c.requires.under c.requires.room (omega arith) (omega arith) c.get-name.ensures.is in
+    let at_get = let a = c.args in letting a.rule.now a.scratch.now a.counters.now c.requires.known c.requires.top (omega arith) (omega arith) c.get-name.ensures.is in
     let at_free = is_free at_get (taken_as c.get-name.result c.taken.ensures) c.if-taken.false in
-    let at_lower = let e = c.lower-e in low_at at_get.begun e.ensures (length_words_kept _ _ e.auto.scratch) (length_words_kept _ _ e.auto.counters) in
-    rw c.done_action.ensures
-    (let_done at_free at_lower c.if-e-ne0.false c.put_three-end.ensures c.put.ensures)
+    let at_lower = let e = c.lower in low_at at_get.begun c.in_ok-e.ensures (length_words_kept _ _ e.auto.scratch) (length_words_kept _ _ e.auto.counters) in
+    let_done at_free at_lower c.put_three-end.ensures c.put.ensures
