@@ -14,9 +14,9 @@ use Rattle.walks.specs.declared.Walk.{Walk}
 use Rattle.walks.specs.declared.Stopped.{Stopped}
 use Rattle.walks.proofs.Steps.{went, stop, retold}
 use Rattle.walks.proofs.Read.{exprs_many, recount}
-use Rattle.head_exprs.specs.Sites.{Site, Asks, Every, WalkedAt}
+use Rattle.head_exprs.specs.Sites.{Site, Every, WalkedAt}
 use Rattle.head_exprs.specs.Lowered.{lowered_all}
-use Rattle.head_exprs.proofs.Sites.{Tree, tree, Begun, begun_as, asks}
+use Rattle.head_exprs.proofs.Sites.{Tree, tree, Begun}
 use Rattle.actions.specs.Acts.{ChangeAt, closing, changed, ChangeFits, walk_of, Gave, Quiet}
 use Rattle.actions.specs.Lowers.{second, LowersChange, Closes}
 use Rattle.actions.specs.declared.Acted.{Acted}
@@ -32,13 +32,6 @@ pub record Headed (k : Site) (j d n w : ℕ) (sig : Sig) : Type 0 where
   pub high : head_base ≤ w
   pub head : head_of w < heads sig
   pub exprs : ExprsAt sig k.ws d n (k.at + j)
-
--- what lowering the expressions asks, where their count is told as m
-pub exprs_ask : {k : Site} {j d n m w : ℕ} → m ≡ n → Begun k (Headed k j d n w)
-    → Asks k (λ sig. ExprsAt sig k.ws d m (k.at + j)) (k.at + j)
-exprs_ask {k} {j} {d} {n} e g =
-    subst (λ (i : ℕ). Asks k (λ sig. ExprsAt sig k.ws d i (k.at + j)) (k.at + j)) (sym e)
-    (asks (begun_as {Y = λ sig. ExprsAt sig k.ws d n (k.at + j)} g (λ sig x. x.exprs)) (k.at + j) (omega arith))
 
 -- ---- the expressions are lowered with the answer r, which leaves s1 and cs1
 

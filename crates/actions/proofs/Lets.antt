@@ -8,7 +8,7 @@ use native.Mathlib.Omega.{arith}
 use lib.ListN.{length, get_or, set}
 use lib.Seq.{get_or-set_same}
 use Rattle.octets.specs.Regions.{splice}
-use Rattle.rules.specs.Words.{max_depth, fresh_base, action_word}
+use Rattle.rules.specs.Words.{fresh_base, action_word}
 use Rattle.std.specs.Prelude.{Result, Ok, Err}
 use Rattle.refusals.specs.Numbers.{number_of}
 use Rattle.refusals.specs.declared.Reason.TheVariants.{AlreadyDefined}
@@ -17,16 +17,16 @@ use Rattle.rules.specs.Refusals.{Res, ok, refuse, ◌>>=◌}
 use Rattle.rules.specs.Signature.{Sig, elem}
 use Rattle.rules.specs.Flat.{Let}
 use Rattle.rules.specs.ToCoreActions.{Low, Done, lower_expr, lower_let}
-use Rattle.walks.specs.Steps.{Piece, reached_at, InAnswer, ExprAt}
+use Rattle.walks.specs.Steps.{Piece, reached_at, InAnswer}
 use Rattle.walks.specs.declared.Walk.{Walk}
 use Rattle.walks.specs.declared.Stopped.{Stopped}
 use Rattle.walks.proofs.Frames.{kept_none}
 use Rattle.walks.proofs.Steps.{stop, stored, Own, written}
-use Rattle.head_exprs.specs.Scopes.{Scoped, ScopeFits}
-use Rattle.head_exprs.specs.Sites.{Site, Asks, WalkedAt}
+use Rattle.head_exprs.specs.Scopes.{Scoped}
+use Rattle.head_exprs.specs.Sites.{Site, WalkedAt}
 use Rattle.head_exprs.specs.Lowered.{lowered}
-use Rattle.head_exprs.proofs.Scopes.{scope_let, scope_fits}
-use Rattle.head_exprs.proofs.Sites.{Tree, tree, Begun, begun_as, asks}
+use Rattle.head_exprs.proofs.Scopes.{scope_let}
+use Rattle.head_exprs.proofs.Sites.{Tree, tree, Begun}
 use Rattle.actions.specs.Acts.{LetAt, done_piece, acted_at, walk_of, Gave, ScopeAfter}
 use Rattle.actions.specs.Lowers.{Does, second, LowersLet}
 use Rattle.actions.specs.declared.Acted.{Acted}
@@ -42,15 +42,6 @@ pub record Letting (k : Site) (v : ℕ) : Type 0 where
   pub begun : Begun k (LetThere k)
   pub is : v ≡ second k
   pub end : k.scope.first + k.scope.names ≡ k.sp
-
-module _ {k : Site} {v : ℕ} (h : Letting k v) where
-  -- what the test of the name asks
-  pub name_asks : ScopeFits k.s k.scope
-  name_asks = let g = h.begun in let i = g.tree.it.expr.inside in scope_fits g.scope_room g.room (omega arith)
-
-  -- what lowering the expression asks
-  pub expr_asks : Asks k (λ sig. ExprAt sig k.ws max_depth (k.at + 2)) (k.at + 2)
-  expr_asks = asks (begun_as {Y = λ sig. ExprAt sig k.ws max_depth (k.at + 2)} h.begun (λ sig x. x.expr)) (k.at + 2) (omega arith)
 
 -- ---- whether the name is bound, b
 

@@ -22,7 +22,7 @@ use Rattle.walks.proofs.Asks.{counted_kept, right_there}
 use Rattle.head_exprs.specs.Scopes.{Scoped}
 use Rattle.head_exprs.specs.Sites.{Site, site_of, ScopeRoomAt, Asks, WalkedAt}
 use Rattle.head_exprs.specs.Lowered.{lowered, LowersExpr}
-use Rattle.head_exprs.proofs.Sites.{Tree, tree, Begun, begun_as, asks}
+use Rattle.head_exprs.proofs.Sites.{Tree, tree, Begun}
 use Rattle.actions.specs.Acts.{PairAt, acted_at, Gave}
 use Rattle.actions.specs.Lowers.{Does, Unites}
 use Rattle.actions.specs.declared.Acted.{Acted}
@@ -31,11 +31,6 @@ use Rattle.actions.proofs.Acting.{acts_stop, acts_same, scope_after, LowAt, Fine
 
 abbrev pub Pair : Site → Sig → Type 0
 Pair k sig = PairAt sig k.ws k.at
-
--- what lowering the left side asks
-pub left_asks : {k : Site} → Begun k (Pair k)
-    → Asks k (λ sig. ExprAt sig k.ws max_depth (k.at + 1)) (k.at + 1)
-left_asks {k} g = asks (begun_as {Y = λ sig. ExprAt sig k.ws max_depth (k.at + 1)} g (λ sig x. x.left)) (k.at + 1) (omega arith)
 
 -- what both sides are lowered to, the right one from the counters that the left one leaves
 module _ {k : Site} (t : Tree k (Pair k)) where

@@ -1,5 +1,4 @@
 -- Laws that the proofs of this crate share with those above it, in reading order.
-pub mod DoesSigned
 pub mod Forests
 pub mod SetSides
 pub mod UnionAsSet

@@ -1,14 +1,14 @@
 -- Which unions become sets, from the definition and from the words that `as_set` reads. Assumes nothing.
 use mathlib.Core.Path.{◌≡◌, refl, sym, ap, ◌∙◌}
-use mathlib.Core.Bool.{Bool, true, false, cond, ◌&&◌}
+use mathlib.Core.Bool.{Bool, true, false}
 use mathlib.Core.List.{List}
 use Prim.Native.Nat.{ℕ, ◌+◌, ◌^◌, ◌≤◌, ◌<◌}
 use native.Mathlib.Omega.{arith}
 use lib.Dec.{eqb, ltb}
 use lib.ListN.{length, get_or}
-use borrow.Author.Tests.{eq-eqb, ne_eqb, ltb-true, ltb-false, le-leb, lt-leb}
+use borrow.Author.Tests.{eq-eqb, ltb-true, ltb-false, le-leb, lt-leb}
 use Rattle.rules.specs.Words.{limit12, max_depth, name_base, literal_base, head_base, signature_base, head_of}
-use Rattle.rules.specs.Signature.{Sig, heads, is_constructor, is_name}
+use Rattle.rules.specs.Signature.{Sig, heads}
 use Rattle.rules.specs.Written.{Expr, Exprs, leaf, call}
 use Rattle.walks.specs.Steps.{Under, ExprAt}
 use Rattle.walks.proofs.Read.{leaf_cases, call_cases}
@@ -17,36 +17,12 @@ use Rattle.actions.specs.Acts.{PairAt}
 use Rattle.std.specs.Prelude.{Option, Some, None}
 use Rattle.core_actions.specs.Unions.{Signed, set_side}
 use Rattle.core_actions.specs.declared.unions.Side.{Side}
-use Rattle.core_actions.specs.declared.unions.Side.TheVariants.{Left, Right}
+use Rattle.core_actions.specs.declared.unions.Side.TheVariants.{Left}
 use Rattle.core_actions.proofs.Forests.{Passed}
 
 -- what the contract says of an answer
 abbrev pub Sides : List ℕ → List ℕ → ℕ → Option Side → Type 0
 Sides gs ws at r = (sig : Sig) (x : PairAt sig ws at) → heads sig ≤ limit12 → Signed sig gs → r ≡ set_side sig x.left.value x.right.value
-
-flag_off_lem : (a b : Bool) (o : Option Side) → cond (a && false && b) o None ≡ None
-flag_off_lem true b o = refl
-flag_off_lem false b o = refl
-
-kind_off : (a b : Bool) (o : Option Side) → cond (a && b && false) o None ≡ None
-kind_off true true o = refl
-kind_off true false o = refl
-kind_off false b o = refl
-
--- the flag is off; a call on the left is no constructor's; a leaf on the left is no name
-side_off : (sig : Sig) (a b : Expr) → sig.flag ≡ false → None ≡ set_side sig a b
-side_off sig (leaf p w) (leaf q v) off = refl
-side_off sig (leaf p w) (call q h es) off = sym (rw off (flag_off_lem (is_name w) (is_constructor sig h) (Some Right)))
-side_off sig (call q h es) (leaf p w) off = sym (rw off (flag_off_lem (is_name w) (is_constructor sig h) (Some Left)))
-side_off sig (call p h es) (call q g fs) off = refl
-
-side_plain : (sig : Sig) (p h : ℕ) (es : Exprs) (b : Expr) → is_constructor sig h ≡ false → None ≡ set_side sig (call p h es) b
-side_plain sig p h es (leaf q v) no' = sym (rw no' (kind_off (is_name v) sig.flag (Some Left)))
-side_plain sig p h es (call q g fs) no' = refl
-
-side_nameless : (sig : Sig) (p w : ℕ) (b : Expr) → w < name_base → None ≡ set_side sig (leaf p w) b
-side_nameless sig p w (leaf q v) small = refl
-side_nameless sig p w (call q h es) small = sym (rw (lt-leb name_base w small))
 
 -- ---- a side is what its first word says
 
@@ -83,9 +59,6 @@ module _ {gs ws : List ℕ} {at : ℕ} where
   pub begun : Under (λ sig. PairAt sig ws at × (heads sig ≤ limit12) × Signed sig gs) → length ws < 2 ^ 64 → Begun gs ws at
   begun q fits = record { known = q; rule_fits = fits; flag = omega (arith, q.known.2.inside); left = expr_inside q.sig ws max_depth (at + 1) q.known.0.left }
 
-  pub unflagged : {f : ℕ} → f ≡ get_or gs 3 0 → (f ≡ signature_base + 1 → ⊥) → Sides gs ws at None
-  unflagged is off sig x few sg = side_off sig x.left.value x.right.value (sg.flag ∙ ap (λ (u : ℕ). eqb u (signature_base + 1)) (sym is) ∙ ne_eqb _ _ off)
-
 -- ---- the flag is on, and the left side begins with w
 
 pub record Flagged {gs ws : List ℕ} {at : ℕ} (g : Begun gs ws at) (w : ℕ) : Type 0 where
@@ -104,17 +77,6 @@ module _ {gs ws : List ℕ} {at : ℕ} {g : Begun gs ws at} {w : ℕ} (f : Flagg
   module _ (low : w < literal_base) where
     head_of_lem : (sig : Sig) (x : PairAt sig ws at) → heads sig ≤ limit12 → (head_base ≤ w) × (head_of w < heads sig)
     head_of_lem sig x few = call_word sig ws few (at + 1) x.left w f.is low
-
-    pub left_asks : (head_base ≤ w) × (4 + head_of w < length gs)
-    left_asks =
-        let q = g.known in
-        let h = head_of_lem q.sig q.known.0 q.known.1 in
-        (h.0, omega (arith, h.1, q.known.2.inside))
-
-    pub left_plain : {b : Bool} → Kind gs w b → b ≡ false → Sides gs ws at None
-    left_plain kind no' sig x few sg =
-        let plain = sg.kinds (head_of w) (head_of_lem sig x few).1 ∙ sym kind ∙ no' in
-        side_call sig ws few (at + 1) x.left w f.is (λ t. None ≡ set_side sig t x.right.value) low (λ es. side_plain sig (at + 1) (head_of w) es x.right.value plain)
 
     -- and behind it, at p, a right side that begins with v
     module _ {p v : ℕ} (passed : Passed ws (at + 1) p) (isv : v ≡ get_or ws p 0) where
@@ -142,10 +104,6 @@ module _ {gs ws : List ℕ} {at : ℕ} {g : Begun gs ws at} {w : ℕ} (f : Flagg
 
   -- a leaf
   module _ (high : literal_base ≤ w) where
-    pub leaf_nameless : w < name_base → Sides gs ws at None
-    leaf_nameless small sig x few sg =
-        side_leaf sig ws few (at + 1) x.left w f.is (λ t. None ≡ set_side sig t x.right.value) high (side_nameless sig (at + 1) w x.right.value small)
-
     behind : (sig : Sig) (x : PairAt sig ws at) → heads sig ≤ limit12 → at + 1 + x.left.size ≡ at + 2
     behind sig x few = omega (arith, leaf_size sig ws few (at + 1) x.left w f.is high)
 
@@ -154,41 +112,3 @@ module _ {gs ws : List ℕ} {at : ℕ} {g : Begun gs ws at} {w : ℕ} (f : Flagg
         let q = g.known in
         let x = q.known.0 in
         omega (arith, expr_inside q.sig ws max_depth (at + 1 + x.left.size) x.right, behind q.sig x q.known.1)
-
-    -- and behind it a right side that begins with v
-    module _ {v : ℕ} (isv : v ≡ get_or ws (at + 2) 0) where
-      word_behind : (sig : Sig) (x : PairAt sig ws at) → heads sig ≤ limit12 → v ≡ get_or ws (at + 1 + x.left.size) 0
-      word_behind sig x few = isv ∙ ap (λ (i : ℕ). get_or ws i 0) (sym (behind sig x few))
-
-      pub leaf_leaf : literal_base ≤ v → Sides gs ws at None
-      leaf_leaf big sig x few sg =
-          side_leaf sig ws few (at + 1) x.left w f.is (λ t. None ≡ set_side sig t x.right.value) high
-          (side_leaf sig ws few (at + 1 + x.left.size) x.right v (word_behind sig x few) (λ t. None ≡ set_side sig (leaf (at + 1) w) t) big refl)
-
-      module _ (small : v < literal_base) where
-        head_behind : (sig : Sig) (x : PairAt sig ws at) → heads sig ≤ limit12 → (head_base ≤ v) × (head_of v < heads sig)
-        head_behind sig x few = call_word sig ws few (at + 1 + x.left.size) x.right v (word_behind sig x few) small
-
-        pub right_asks : (head_base ≤ v) × (4 + head_of v < length gs)
-        right_asks =
-            let q = g.known in
-            let h = head_behind q.sig q.known.0 q.known.1 in
-            (h.0, omega (arith, h.1, q.known.2.inside))
-
-        -- then the definition has but a test
-        tested : (o : Option Side) (sig : Sig) (x : PairAt sig ws at) → heads sig ≤ limit12 → o ≡ cond (is_name w && sig.flag && is_constructor sig (head_of v)) (Some Right) None
-            → o ≡ set_side sig x.left.value x.right.value
-        tested o sig x few e =
-            side_leaf sig ws few (at + 1) x.left w f.is (λ t. o ≡ set_side sig t x.right.value) high
-            (side_call sig ws few (at + 1 + x.left.size) x.right v (word_behind sig x few) (λ t. o ≡ set_side sig (leaf (at + 1) w) t) small (λ es. e))
-
-        module _ {b : Bool} (kind : Kind gs v b) where
-          pub right_plain : b ≡ false → Sides gs ws at None
-          right_plain no' sig x few sg =
-              let plain = sg.kinds (head_of v) (head_behind sig x few).1 ∙ sym kind ∙ no' in
-              tested None sig x few (sym (rw plain (kind_off (is_name w) sig.flag (Some Right))))
-
-          pub right_becomes : b ≡ true → name_base ≤ w → Sides gs ws at (Some Right)
-          right_becomes yes' name sig x few sg =
-              let constructs = sg.kinds (head_of v) (head_behind sig x few).1 ∙ sym kind ∙ yes' in
-              tested (Some Right) sig x few (sym (rw (le-leb name_base w name, flagged sig sg, constructs)))

@@ -16,17 +16,16 @@ use Rattle.rules.specs.ToCoreActions.{Done, AsSet, optional, union_as_set, lower
 use Rattle.meaning.proofs.Results.{bind_ok, ok_inj, refuse_ok}
 use Rattle.walks.specs.Steps.{Piece, ExprAt, ExprsAt}
 use Rattle.walks.proofs.Read.{moved, leaf_cases, call_cases}
-use Rattle.head_exprs.proofs.Sites.{Site, Known, RoomAt, ScopeRoomAt, WalkedAt}
-use Rattle.actions.specs.Acts.{done_piece, ChangeAt, PairAt, NameCallAt, changed, Gave}
-use Rattle.std.specs.Prelude.{Option as Optional, Some, None}
+use Rattle.walks.specs.declared.Stopped.{Stopped}
+use Rattle.head_exprs.specs.Sites.{Site, Known, RoomAt, ScopeRoomAt, WalkedAt}
+use Rattle.actions.specs.Acts.{done_piece, ChangeAt, PairAt, NameCallAt, changed, walk_of, Gave}
+use Rattle.actions.specs.Lowers.{Does, LowersChange, Unites, SetsName}
+use Rattle.actions.specs.declared.Acted.{Acted}
+use Rattle.std.specs.Prelude.{Option as Optional, Some, None, Result}
 use Rattle.core_actions.specs.Unions.{Signed, set_side}
+use Rattle.core_actions.specs.Rows.{KnownSigned, LowersUnion}
 use Rattle.core_actions.specs.declared.unions.Side.{Side}
 use Rattle.core_actions.specs.declared.unions.Side.TheVariants.{Left, Right}
-use Rattle.actions.specs.declared.Acted.{Acted}
-use Rattle.actions.proofs.Does.{Does, Changes}
-use Rattle.core_actions.proofs.DoesSigned.{KnownSigned, EverySigned}
-use Rattle.actions.proofs.NameSets as name-sets
-use Rattle.actions.proofs.Pairs as pairs
 use Rattle.actions.proofs.Acting.{acts_same}
 use Rattle.actions.proofs.Pieces.{snoc, done_set_row, SameBound, same_set}
 use Rattle.core_actions.proofs.SetSides.{Sides}
@@ -251,15 +250,8 @@ module _ (sig : Sig) (ws : List ℕ) (few : heads sig ≤ limit12) (at : ℕ) (x
 
 -- ---- lowering a union, of which it is known whether it becomes a set
 
--- what the contract says of an answer
-abbrev pub Answers : List ℕ → Site → List ℕ → List ℕ → Acted → Type 0
-Answers gs k s' cs' r =
-    EverySigned k gs (λ sig. PairAt sig k.ws k.at)
-    (λ sig x bound. Does k sig bound (lower_union sig bound (union_as_set sig x.left.value x.right.value) x.left.value x.right.value k.cs)
-    (1 + (x.left.size + x.right.size)) s' cs' r)
-
 pub record Sided (gs : List ℕ) (k : Site) (side : Optional Side) : Type 0 where
-  pub known : KnownSigned k gs (λ sig. PairAt sig k.ws k.at)
+  pub known : KnownSigned gs k (λ sig. PairAt sig k.ws k.at)
   pub room : RoomAt k k.at
   pub scope_room : ScopeRoomAt k k.at
   pub is : Sides gs k.ws k.at side
@@ -276,14 +268,14 @@ module _ {gs : List ℕ} {k : Site} {side : Optional Side} (g : Sided gs k side)
     pub left_asks : Known k (λ sig. ChangeAt sig k.ws 1 k.at)
     left_asks = asks (λ sig x few sg. (left sig x few sg).change)
 
-    pub left_done : {s' cs' : List ℕ} {r : Acted} → Changes k (action_word 2) 1 s' cs' r → Answers gs k s' cs' r
+    pub left_done : {s' cs' : List ℕ} {r : Result Acted Stopped} → LowersChange k (action_word 2) 1 s' cs' r → LowersUnion gs k s' cs' r
     left_done {s'} {cs'} {r} does sig x bound n sc sg =
         let l = left sig x n.few sg in
         let u = lower_union sig bound (union_as_set sig x.left.value x.right.value) x.left.value x.right.value k.cs in
         let i = x.right.inside in
         acts_same sig bound k.scope (length k.ws) u (l.same bound k.cs) does.0 g.scope_room (omega arith) sc
-        (subst (λ (size : ℕ). WalkedAt k 0 (Gave r) (done_piece u) size k.at s' cs' r.walk) l.size
-        (subst (λ (p : Res Piece). WalkedAt k 0 (Gave r) p (2 + l.change.exprs.size) k.at s' cs' r.walk) (sym (l.piece bound k.cs))
+        (subst (λ (size : ℕ). WalkedAt k 0 (Gave r) (done_piece u) size k.at s' cs' (walk_of r)) l.size
+        (subst (λ (p : Res Piece). WalkedAt k 0 (Gave r) p (2 + l.change.exprs.size) k.at s' cs' (walk_of r)) (sym (l.piece bound k.cs))
         (does.1 sig l.change bound n sc)))
 
   -- its right side is
@@ -294,7 +286,7 @@ module _ {gs : List ℕ} {k : Site} {side : Optional Side} (g : Sided gs k side)
     pub right_asks : Known k (λ sig. NameCallAt sig k.ws k.at)
     right_asks = asks (λ sig x few sg. (right sig x few sg).named)
 
-    pub right_done : {s' cs' : List ℕ} {r : Acted} → name-sets.Answers k s' cs' r → Answers gs k s' cs' r
+    pub right_done : {s' cs' : List ℕ} {r : Result Acted Stopped} → SetsName k s' cs' r → LowersUnion gs k s' cs' r
     right_done {s'} {cs'} {r} does sig x bound n sc sg =
         let l = right sig x n.few sg in
         let u = lower_union sig bound (union_as_set sig x.left.value x.right.value) x.left.value x.right.value k.cs in
@@ -302,10 +294,7 @@ module _ {gs : List ℕ} {k : Site} {side : Optional Side} (g : Sided gs k side)
         (subst (λ (d : Res Done). Does k sig bound d (3 + l.named.exprs.size) s' cs' r) (sym (l.is bound k.cs)) (does sig l.named bound n sc))
 
   -- it stays a union
-  pub stays_asks : Known k (λ sig. PairAt sig k.ws k.at)
-  stays_asks = asks (λ sig x few sg. x)
-
-  pub stays_done : {s' cs' : List ℕ} {r : Acted} → side ≡ None → pairs.Answers k s' cs' r → Answers gs k s' cs' r
+  pub stays_done : {s' cs' : List ℕ} {r : Result Acted Stopped} → side ≡ None → Unites k s' cs' r → LowersUnion gs k s' cs' r
   stays_done {s'} {cs'} {r} e does sig x bound n sc sg =
       subst (λ (o : Option AsSet). Does k sig bound (lower_union sig bound o x.left.value x.right.value k.cs) (1 + (x.left.size + x.right.size)) s' cs' r)
       (sym (stays sig x.left.value x.right.value (sym e ∙ g.is sig x n.few sg))) (does sig x bound n sc)

@@ -3,14 +3,15 @@ ghost use Rattle.std.specs.Prelude.{◌≡◌, List, ℕ, ◌+◌, ◌<◌, ◌�
 ghost use Rattle.octets.specs.Words.{words};
 ghost use Rattle.rules.specs.Words.{limit12, max_depth, head_base, signature_base, head_of};
 ghost use Rattle.rules.specs.Signature.{Sig, heads};
-ghost use Rattle.rules.specs.ToCoreActions.{lower_union, union_as_set};
-ghost use Rattle.walks.specs.Steps.{Room, Under, Counted, ExprAt};
-ghost use Rattle.head_exprs.specs.Scopes.{Scoped, ScopeRoom, Names};
-ghost use Rattle.actions.specs.Acts.{PairAt, Acts};
+ghost use Rattle.walks.specs.Steps.{Under, ExprAt};
+ghost use Rattle.head_exprs.specs.Sites.{site_of};
+ghost use Rattle.actions.specs.Acts.{PairAt};
 ghost use Rattle.core_actions.specs.Unions.{Signed, set_side, arity_of};
+ghost use Rattle.core_actions.specs.Rows.{AsksSigned, LowersUnion};
 
 use actions::{Acted, lower_change, set_name, unite};
 use head_exprs::scope::Scope;
+use walks::{Stopped, Tops};
 use words::SET;
 
 // The word of a signature that says 1: the flag is on, a head is a constructor.
@@ -96,24 +97,14 @@ pub fn lower_union(
     scope: Scope,
     counters: &mut [u8],
     scratch: &mut [u8],
-    to: usize,
-    sp: usize,
-    log: usize,
-) -> Acted
-    requires under { Under (λ sig. PairAt sig (words rule.now) at × Counted sig (words counters.old) × Names sig (words scratch.old) scope
-        × Signed sig (words signature.now)) }
-    requires room { Room (length (words rule.now)) at to sp log (length (words scratch.old)) × ScopeRoom (length (words rule.now)) at to sp scope }
-    ensures { (sig : Sig) (x : PairAt sig (words rule.now) at) (bound : List ℕ)
-        → Counted sig (words counters.old) → Scoped sig bound (words scratch.old) scope → Signed sig (words signature.now)
-        → Acts (lower_union sig bound (union_as_set sig x.left.value x.right.value) x.left.value x.right.value (words counters.old))
-        sig bound scope (1 + (x.left.size + x.right.size))
-        at to sp log (words scratch.old) (words counters.old) (words scratch.new) (words counters.new) result }
+    tops: Tops,
+) -> Result<Acted, Stopped>
+    requires { AsksSigned (words signature.now) (site_of (words rule.now) (words scratch.old) (words counters.old) at tops scope) (λ sig. PairAt sig (words rule.now) at) at }
+    ensures { LowersUnion (words signature.now) (site_of (words rule.now) (words scratch.old) (words counters.old) at tops scope) (words scratch.new) (words counters.new) result }
 {
     match as_set(signature, rule, at) {
-        Some(Side::Left) => {
-            lower_change(rule, at, SET, 1, scope, counters, scratch, to, sp, log)
-        }
-        Some(Side::Right) => set_name(rule, at, scope, counters, scratch, to, sp, log),
-        None => unite(rule, at, scope, counters, scratch, to, sp, log),
+        Some(Side::Left) => lower_change(rule, at, SET, 1, scope, counters, scratch, tops),
+        Some(Side::Right) => set_name(rule, at, scope, counters, scratch, tops),
+        None => unite(rule, at, scope, counters, scratch, tops),
     }
 }

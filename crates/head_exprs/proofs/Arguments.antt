@@ -89,9 +89,6 @@ module _ {k : Site} {d n left top : ℕ} {s1 cs1 : List ℕ} {w : Walk} (row : R
     pub top_inside : top < length s1
     top_inside = omega (arith, here.room.stack, here.room.log, here.inside)
 
-    pub top_fits : top + 1 < 2 ^ 64
-    top_fits = omega (arith, top_inside, row.scratch, row.begun.scratch_fits)
-
     -- what was in scope at the start is in scope there
     in_scope_lem : {sig : Sig} {bound : List ℕ} → Scoped sig bound k.s k.scope → Scoped sig bound s1 k.scope
     in_scope_lem x =
