@@ -1,7 +1,8 @@
 -- 01, "Flattening the body" and "Lowering the head": what `to_core_rule` asks and gives. For a rule of n words the scratch has the words of the
 -- flat body at 0, those of the flat head at 24 n, and the log of the counters' uses at 30 n.
 -- Assumes nothing: these are definitions.
-use Rattle.std.specs.Prelude.{◌≡◌, List, ℕ, ◌+◌, ◌-◌, ◌*◌, ◌<◌, ◌≤◌, length}
+use Rattle.std.specs.Prelude.{◌≡◌, List, ℕ, ◌+◌, ◌*◌, ◌≤◌, length, Result}
+use Rattle.std.specs.Prelude.{Ok, Err}
 use Rattle.octets.specs.Regions.{part, At}
 use Rattle.rules.specs.Refusals.{Res, ok, refuse}
 use Rattle.rules.specs.Signature.{Sig, heads, read_signature}
@@ -9,8 +10,8 @@ use Rattle.rules.specs.Written.{Rule, read_written}
 use Rattle.rules.specs.Flat.{atom_words, action_words, words_of}
 use Rattle.rules.specs.ToCoreActions.{CoreRule}
 use Rattle.walks.specs.Log.{undone, total}
-use Rattle.walks.specs.declared.Walk.{Walk}
-use Rattle.actions.specs.declared.Acted.{Acted}
+use Rattle.refusals.specs.Numbers.{number_of}
+use Rattle.refusals.specs.declared.Refusal.{Refusal}
 use Rattle.lowering.specs.declared.Lowering.{Lowering}
 
 -- signature and rule were read, there is a counter for each head, and room
@@ -24,8 +25,6 @@ pub record Good (gs ws cs : List ℕ) (room : ℕ) : Type 0 where
 
 -- a result: both parts stand in the scratch, the counters are those after them, and the log takes these back. It has as many uses as the counters grew by
 pub record Made (c : CoreRule) (n : ℕ) (cs s' cs' : List ℕ) (r : Lowering) : Type 0 where
-  pub fine : r.refused ≡ 0
-  pub nowhere : r.place ≡ 0
   pub body : r.body ≡ length (words_of atom_words c.body)
   pub body_there : At (words_of atom_words c.body) s' 0
   pub body_fits : r.body ≤ 3 * n
@@ -38,20 +37,14 @@ pub record Made (c : CoreRule) (n : ℕ) (cs s' cs' : List ℕ) (r : Lowering) :
   pub log_fits : r.log ≤ n
   pub undo : undone (part s' (30 * n) r.log) cs' ≡ cs
 
--- the answer of two walks that are done, of which the head wrote from `to` on, and both logged from `log` on
-abbrev pub accepted : Walk → Acted → (to log : ℕ) → Lowering
-accepted b h to log = record { refused = 0; place = 0; body = b.to; head = h.walk.to - to; actions = h.count; log = h.walk.log - log }
-
--- the answer of a refusal: its number and place alone
-abbrev pub refusal : (number place : ℕ) → Lowering
-refusal n p = record { refused = n; place = p; body = 0; head = 0; actions = 0; log = 0 }
-
 -- a refusal: the counters are as they were
-pub record Back (number place : ℕ) (cs cs' : List ℕ) (r : Lowering) : Type 0 where
-  pub is : r ≡ refusal number place
-  pub some : 0 < number
+pub record Back (number place : ℕ) (cs cs' : List ℕ) (r : Refusal) : Type 0 where
+  pub number' : number_of r.reason ≡ number
+  pub place' : r.place ≡ place
   pub counters : cs' ≡ cs
 
-abbrev pub Lowers : Res CoreRule → ℕ → List ℕ → List ℕ → List ℕ → Lowering → Type 0
-Lowers (ok c) n cs s' cs' r = Made c n cs s' cs' r
-Lowers (refuse m p) n cs s' cs' r = Back m p cs cs' r
+abbrev pub Lowers : Res CoreRule → ℕ → List ℕ → List ℕ → List ℕ → Result Lowering Refusal → Type 0
+Lowers (ok c) n cs s' cs' (Ok r) = Made c n cs s' cs' r
+Lowers (ok c) n cs s' cs' (Err r) = ⊥
+Lowers (refuse m p) n cs s' cs' (Ok r) = ⊥
+Lowers (refuse m p) n cs s' cs' (Err r) = Back m p cs cs' r

@@ -5,6 +5,7 @@ use mathlib.Core.Path.{◌≡◌, refl}
 use mathlib.Core.List.{List}
 use native.Mathlib.Omega.{arith}
 use lib.ListN.{length, get_or}
+use Rattle.std.specs.Prelude.{Ok, Err}
 use Rattle.octets.specs.Words.{words}
 use Rattle.octets.proofs.Words.{length_words, length_words_kept}
 use Rattle.lowering.specs.Lowered.{Good}
@@ -22,83 +23,90 @@ overflow_mul-log c =
     let k = header_read c.args.scratch.now c.requires (omega arith) c.count-n.ensures refl in
     omega (arith, k)
 
-pub overflow_mul-stack : goal.overflow_mul-stack
-overflow_mul-stack c =
+pub overflow_mul-sp : goal.overflow_mul-sp
+overflow_mul-sp c =
     let k = header_read c.args.scratch.now c.requires (omega arith) c.count-n.ensures refl in
     omega (arith, k)
 
-pub to_query-body-requires : goal.to_query-body-requires
-to_query-body-requires c =
+pub to_query-requires : goal.to_query-requires
+to_query-requires c =
     let k = header_read c.args.scratch.now c.requires (omega arith) c.count-n.ensures c.get-counts.ensures.is in
     record { under = record { sig = k.good.sig; known = (k.read.facts, k.counted) }; room = body_room k }
 
-pub refuse-requires : goal.refuse-requires
-refuse-requires c =
+pub back-requires : goal.back-requires
+back-requires c =
     let k = header_read c.args.scratch.now c.requires (omega arith) c.count-n.ensures c.get-counts.ensures.is in
-    let q = c.to_query-body in
-    let f = flattened {k = k} (length_words_kept _ _ q.auto.scratch) (length_words_kept _ _ q.auto.counters) (q.ensures k.good.sig k.read.facts k.counted) in
+    let q = c.to_query in
+    let f = flattened {k = k} (length_words_kept _ _ q.auto.scratch) (length_words_kept _ _ q.auto.counters) (c.in-Err.ensures k.good.sig k.read.facts k.counted) in
     (f.log_from, omega (arith, f))
 
-pub returns-then-body-ne0 : goal.returns-then-body-ne0
-returns-then-body-ne0 c =
+pub returns-in-Err : goal.returns-in-Err
+returns-in-Err c =
     let k = header_read c.args.scratch.now c.requires (omega arith) c.count-n.ensures c.get-counts.ensures.is in
-    let q = c.to_query-body in
-    let f = flattened {k = k} (length_words_kept _ _ q.auto.scratch) (length_words_kept _ _ q.auto.counters) (q.ensures k.good.sig k.read.facts k.counted) in
-    let e = c.refuse.ensures in
-    rw e.0 (body_back f c.if-body-ne0.true e.1)
+    let q = c.to_query in
+    let f = flattened {k = k} (length_words_kept _ _ q.auto.scratch) (length_words_kept _ _ q.auto.counters) (c.in-Err.ensures k.good.sig k.read.facts k.counted) in
+    body_back f c.back.ensures
 
-pub to_core_actions-head-requires : goal.to_core_actions-head-requires
-to_core_actions-head-requires c =
+pub to_core_actions-requires : goal.to_core_actions-requires
+to_core_actions-requires c =
     let k = header_read c.args.scratch.now c.requires (omega arith) c.count-n.ensures c.get-counts.ensures.is in
-    let q = c.to_query-body in
-    let f = flattened {k = k} (length_words_kept _ _ q.auto.scratch) (length_words_kept _ _ q.auto.counters) (q.ensures k.good.sig k.read.facts k.counted) in
-    let y = ready f c.if-body-ne0.false c.get-globals.ensures.is in
-    record {
-      under = rw c.new-scope.ensures (record { sig = k.good.sig; known = (actions_at y, head_counted y, names_at y, k.signature.signed) });
-      row_room = rw c.new-scope.ensures (head_room y, head_scope_room y);
-    }
+    let q = c.to_query in
+    let f = flattened {k = k} (length_words_kept _ _ q.auto.scratch) (length_words_kept _ _ q.auto.counters) (c.in-Ok.ensures k.good.sig k.read.facts k.counted) in
+    let y = ready f c.get-globals.ensures.is in
+    rw c.new.ensures
+    (record { sig = k.good.sig; known = (actions_at y, head_counted y, names_at y, k.signature.signed) }, (head_room y, head_scope_room y))
 
-pub refuse-requires-then-head-ne0 : goal.refuse-requires-then-head-ne0
-refuse-requires-then-head-ne0 c =
+pub back-requires-in-Err-to_core_actions : goal.back-requires-in-Err-to_core_actions
+back-requires-in-Err-to_core_actions c =
     let k = header_read c.args.scratch.now c.requires (omega arith) c.count-n.ensures c.get-counts.ensures.is in
-    let q = c.to_query-body in
-    let f = flattened {k = k} (length_words_kept _ _ q.auto.scratch) (length_words_kept _ _ q.auto.counters) (q.ensures k.good.sig k.read.facts k.counted) in
-    let y = ready f c.if-body-ne0.false c.get-globals.ensures.is in
-    let a = c.to_core_actions-head in
-    let m = headed y (words a.new.scratch) (words a.new.counters) a.result c.new-scope.ensures (length_words_kept _ _ a.auto.scratch)
-    (λ x bound sc. (a.ensures k.good.sig x bound (head_counted y) sc k.signature.signed).0) in
+    let q = c.to_query in
+    let f = flattened {k = k} (length_words_kept _ _ q.auto.scratch) (length_words_kept _ _ q.auto.counters) (c.in-Ok.ensures k.good.sig k.read.facts k.counted) in
+    let y = ready f c.get-globals.ensures.is in
+    let a = c.to_core_actions in
+    let m = headed y (words a.new.scratch) (words a.new.counters) (Err c.in-Err-to_core_actions.in_head) c.new.ensures (length_words_kept _ _ a.auto.scratch)
+    (λ x bound sc. (c.in-Err-to_core_actions.ensures k.good.sig x bound (head_counted y) sc k.signature.signed).0) in
     (m.log_from, omega (arith, m))
 
-pub returns-then-head-ne0 : goal.returns-then-head-ne0
-returns-then-head-ne0 c =
+pub returns-in-Err-to_core_actions : goal.returns-in-Err-to_core_actions
+returns-in-Err-to_core_actions c =
     let k = header_read c.args.scratch.now c.requires (omega arith) c.count-n.ensures c.get-counts.ensures.is in
-    let q = c.to_query-body in
-    let f = flattened {k = k} (length_words_kept _ _ q.auto.scratch) (length_words_kept _ _ q.auto.counters) (q.ensures k.good.sig k.read.facts k.counted) in
-    let y = ready f c.if-body-ne0.false c.get-globals.ensures.is in
-    let a = c.to_core_actions-head in
-    let m = headed y (words a.new.scratch) (words a.new.counters) a.result c.new-scope.ensures (length_words_kept _ _ a.auto.scratch)
-    (λ x bound sc. (a.ensures k.good.sig x bound (head_counted y) sc k.signature.signed).0) in
-    let e = c.refuse-then-head-ne0.ensures in
-    rw e.0 (head_back m c.if-head-ne0.true e.1)
+    let q = c.to_query in
+    let f = flattened {k = k} (length_words_kept _ _ q.auto.scratch) (length_words_kept _ _ q.auto.counters) (c.in-Ok.ensures k.good.sig k.read.facts k.counted) in
+    let y = ready f c.get-globals.ensures.is in
+    let a = c.to_core_actions in
+    let m = headed y (words a.new.scratch) (words a.new.counters) (Err c.in-Err-to_core_actions.in_head) c.new.ensures (length_words_kept _ _ a.auto.scratch)
+    (λ x bound sc. (c.in-Err-to_core_actions.ensures k.good.sig x bound (head_counted y) sc k.signature.signed).0) in
+    head_back m c.back-in-Err-to_core_actions.ensures
 
-pub made-requires : goal.made-requires
-made-requires c =
+pub overflow_sub-result : goal.overflow_sub-result
+overflow_sub-result c =
     let k = header_read c.args.scratch.now c.requires (omega arith) c.count-n.ensures c.get-counts.ensures.is in
-    let q = c.to_query-body in
-    let f = flattened {k = k} (length_words_kept _ _ q.auto.scratch) (length_words_kept _ _ q.auto.counters) (q.ensures k.good.sig k.read.facts k.counted) in
-    let y = ready f c.if-body-ne0.false c.get-globals.ensures.is in
-    let a = c.to_core_actions-head in
-    let m = headed y (words a.new.scratch) (words a.new.counters) a.result c.new-scope.ensures (length_words_kept _ _ a.auto.scratch)
-    (λ x bound sc. (a.ensures k.good.sig x bound (head_counted y) sc k.signature.signed).0) in
-    (head_ends m c.if-head-ne0.false, m.log_from)
+    let q = c.to_query in
+    let f = flattened {k = k} (length_words_kept _ _ q.auto.scratch) (length_words_kept _ _ q.auto.counters) (c.in-Ok.ensures k.good.sig k.read.facts k.counted) in
+    let y = ready f c.get-globals.ensures.is in
+    let a = c.to_core_actions in
+    let m = headed y (words a.new.scratch) (words a.new.counters) (Ok c.in-Ok-to_core_actions.acted) c.new.ensures (length_words_kept _ _ a.auto.scratch)
+    (λ x bound sc. (c.in-Ok-to_core_actions.ensures k.good.sig x bound (head_counted y) sc k.signature.signed).0) in
+    head_ends m
+
+pub overflow_sub-result-2 : goal.overflow_sub-result-2
+overflow_sub-result-2 c =
+    let k = header_read c.args.scratch.now c.requires (omega arith) c.count-n.ensures c.get-counts.ensures.is in
+    let q = c.to_query in
+    let f = flattened {k = k} (length_words_kept _ _ q.auto.scratch) (length_words_kept _ _ q.auto.counters) (c.in-Ok.ensures k.good.sig k.read.facts k.counted) in
+    let y = ready f c.get-globals.ensures.is in
+    let a = c.to_core_actions in
+    let m = headed y (words a.new.scratch) (words a.new.counters) (Ok c.in-Ok-to_core_actions.acted) c.new.ensures (length_words_kept _ _ a.auto.scratch)
+    (λ x bound sc. (c.in-Ok-to_core_actions.ensures k.good.sig x bound (head_counted y) sc k.signature.signed).0) in
+    m.log_from
 
 pub returns : goal.returns
 returns c =
     let k = header_read c.args.scratch.now c.requires (omega arith) c.count-n.ensures c.get-counts.ensures.is in
-    let q = c.to_query-body in
-    let f = flattened {k = k} (length_words_kept _ _ q.auto.scratch) (length_words_kept _ _ q.auto.counters) (q.ensures k.good.sig k.read.facts k.counted) in
-    let y = ready f c.if-body-ne0.false c.get-globals.ensures.is in
-    let a = c.to_core_actions-head in
-    let m = headed y (words a.new.scratch) (words a.new.counters) a.result c.new-scope.ensures (length_words_kept _ _ a.auto.scratch)
-    (λ x bound sc. (a.ensures k.good.sig x bound (head_counted y) sc k.signature.signed).0) in
-    rw c.made.ensures (both_done m c.if-head-ne0.false)
+    let q = c.to_query in
+    let f = flattened {k = k} (length_words_kept _ _ q.auto.scratch) (length_words_kept _ _ q.auto.counters) (c.in-Ok.ensures k.good.sig k.read.facts k.counted) in
+    let y = ready f c.get-globals.ensures.is in
+    let a = c.to_core_actions in
+    let m = headed y (words a.new.scratch) (words a.new.counters) (Ok c.in-Ok-to_core_actions.acted) c.new.ensures (length_words_kept _ _ a.auto.scratch)
+    (λ x bound sc. (c.in-Ok-to_core_actions.ensures k.good.sig x bound (head_counted y) sc k.signature.signed).0) in
+    both_done m
