@@ -7,6 +7,10 @@ use mathlib.Core.Path.{◌≡◌, refl, sym, ◌∙◌, ap}
 use mathlib.Core.Bool.{Bool, true, false}
 use mathlib.Core.List.{List}
 use lib.ListN.{length, get_or}
+use Rattle.std.specs.Prelude as std
+use Rattle.std.specs.Prelude.{Err}
+use Rattle.std.specs.Result.{IsErrAnd}
+use Rattle.std.proofs.lemmas.Result.{err_from_is_err_and}
 use Rattle.octets.specs.Words.{words, bytes_of}
 use Rattle.octets.proofs.Words.{length_words_kept}
 use Rattle.rules.specs.Refusals.{Res, ok, refuse, ◌>>=◌, demand, short_output, ragged}
@@ -19,15 +23,21 @@ use Rattle.signature.specs.Signature.{sign_of}
 use Rattle.signature.specs.declared.Signature.{Signature}
 use Rattle.free_vars.specs.Head.{WroteIfRoom}
 use Rattle.answers.specs.declared.Answer.{Answer}
-use Rattle.answers.specs.Answers.{refused_with, answer_of, GivesBoth}
+use Rattle.answers.specs.declared.Counts.{Counts}
+use Rattle.answers.specs.Answers.{refused_with, answered, answer_of, GivesBoth}
 use Rattle.meaning.proofs.Results.{ok_inj}
 use Rattle.answers.proofs.Tests.{Front, tested, front, Passed, Fate, fate}
 use Rattle.answers.proofs.Ends.{ends_short, ends_written}
 
--- an answer that is made of a refusal
-pub from_refusal : {r : Refusal} {m : Reason} {p : ℕ} {a : Answer} → (r.reason ≡ m) × (r.place ≡ p) → a ≡ refused_with (number_of r.reason) r.place
-    → a ≡ refused_with (number_of m) p
-from_refusal is e = rw (is.0, is.1) at e
+-- what is answered for a refusal that is made of a reason and a place
+pub answered_at : {r : Refusal} {m : Reason} {p : ℕ} → (r.reason ≡ m) × (r.place ≡ p) → answered (Err r) ≡ refused_with (number_of m) p
+answered_at is = λ i. refused_with (number_of (is.0 i)) (is.1 i)
+
+-- and for one that a `?` passes on
+pub answered_on : (r : std.Result Counts Refusal) (e : Refusal) → IsErrAnd r (λ (x : Refusal). x ≡ e) → answered r ≡ refused_with (number_of e.reason) e.place
+answered_on r e h =
+    let p = err_from_is_err_and r h in
+    rw (p.1, p.2) refl
 
 -- the bytes that a call is lent; those that it has no use for are none
 pub record Given : Type 0 where

@@ -1,3 +1,4 @@
+pub mod Whole
 pub mod Slices
 pub mod Tests
 pub mod Ends

@@ -1,9 +1,12 @@
 -- 01, "Turned back" and "Around it": the answer of a call, and what it leaves, by the definition's outcome.
 -- Assumes nothing: these are definitions.
-use Rattle.std.specs.Prelude.{ℕ, ◌*◌, ◌%◌, ◌≡◌, Bool, ◌&&◌, List, length, drop, eqb}
+use Rattle.std.specs.Prelude.{ℕ, ◌*◌, ◌≡◌, List, length, drop, Result, Ok, Err}
 use Rattle.octets.specs.Words.{words}
 use Rattle.rules.specs.Calls.{Outcome}
+use Rattle.refusals.specs.Numbers.{number_of}
+use Rattle.refusals.specs.declared.Refusal.{Refusal}
 use Rattle.answers.specs.declared.Answer.{Answer}
+use Rattle.answers.specs.declared.Counts.{Counts}
 
 abbrev pub refused_with : (number place : ℕ) → Answer
 refused_with n p = record { number = n; place = p; words = 0; replacements = 0; passes = 0 }
@@ -11,9 +14,10 @@ refused_with n p = record { number = n; place = p; words = 0; replacements = 0; 
 abbrev pub answer_of : Outcome → Answer
 answer_of o = record { number = o.number; place = o.place; words = o.written; replacements = o.replacements; passes = o.passes }
 
--- three lengths are whole words, and so is the rest
-abbrev pub whole_three : (a b c : ℕ) → Bool → Bool
-whole_three a b c rest = eqb (a % 4) 0 && (eqb (b % 4) 0 && (eqb (c % 4) 0 && rest))
+-- a refusal is answered by its number and place, with no counts, and a result by 0 and its three counts
+abbrev pub answered : Result Counts Refusal → Answer
+answered (Ok c) = record { number = 0; place = 0; words = c.words; replacements = c.replacements; passes = c.passes }
+answered (Err r) = refused_with (number_of r.reason) r.place
 
 -- the answer is the outcome's, and so are the bytes of the output
 pub record Gives (o : Outcome) (r : Answer) (output : List ℕ) : Type 0 where

@@ -3,9 +3,9 @@
 
 pub mod fronts;
 
-ghost use Rattle.std.specs.Prelude.{◌≡◌, ◌%◌, length, eqb};
-ghost use Rattle.refusals.specs.Numbers.{number_of};
-ghost use Rattle.answers.specs.Answers.{refused_with, whole_three};
+ghost use Rattle.std.specs.Prelude.{◌≡◌};
+ghost use Rattle.rules.specs.Calls.{whole_words};
+ghost use Rattle.answers.specs.Answers.{answered};
 
 use refusals::Refusal;
 
@@ -20,30 +20,40 @@ pub struct Answer {
     pub passes: u64,
 }
 
-impl From<Refusal> for Answer {
-    ghost from_gives = { λ r a. a ≡ refused_with (number_of r.reason) r.place };
+// What an accepted call comes to: the words that its result needs, its replacements and its passes.
+#[derive(Clone, Copy)]
+pub struct Counts {
+    pub words: usize,
+    pub replacements: usize,
+    pub passes: usize,
+}
 
-    fn from(refusal: Refusal) -> Answer {
-        Answer {
-            number: refusal.reason.number(),
-            place: refusal.place as u64,
-            words: 0,
-            replacements: 0,
-            passes: 0,
+impl From<Result<Counts, Refusal>> for Answer {
+    ghost from_gives = { λ r a. a ≡ answered r };
+
+    fn from(outcome: Result<Counts, Refusal>) -> Answer {
+        match outcome {
+            Ok(counts) => Answer {
+                number: 0,
+                place: 0,
+                words: counts.words as u64,
+                replacements: counts.replacements as u64,
+                passes: counts.passes as u64,
+            },
+            Err(refusal) => Answer {
+                number: refusal.reason.number(),
+                place: refusal.place as u64,
+                words: 0,
+                replacements: 0,
+                passes: 0,
+            },
         }
     }
 }
 
-// A slice is whole words.
-pub fn whole(slice: &[u8]) -> bool
-    ensures { result ≡ eqb (length slice.now % 4) 0 }
+// Slices of these lengths are whole words.
+pub fn whole_words(lengths: &[usize]) -> bool
+    ensures { result ≡ whole_words lengths.now }
 {
-    slice.len().is_multiple_of(4)
-}
-
-// Three slices are whole words, and so is the rest.
-pub fn all_whole(a: &[u8], b: &[u8], c: &[u8], rest: bool) -> bool
-    ensures { result ≡ whole_three (length a.now) (length b.now) (length c.now) rest }
-{
-    whole(a) && whole(b) && whole(c) && rest
+    lengths.iter().all(|n| n.is_multiple_of(4))
 }

@@ -10,9 +10,9 @@ use Rattle.refusals.specs.Numbers.{told}
 use Rattle.signature.specs.Signature.{sign_of}
 use Rattle.signature.specs.declared.Signature.{Signature}
 use Rattle.answers.proofs.Tests.{front}
-use Rattle.answers.proofs.Calls.{from_refusal, Given, slices_ragged, Ready, front_refuses, ready, too_short, all_written}
+use Rattle.answers.proofs.Calls.{answered_at, answered_on, Given, slices_ragged, Ready, front_refuses, ready, too_short, all_written}
 use Rattle.free_vars_call.proofs.FreeVars.{freeing, free_gives, free_whole, free_asks, free_done}
-use Rattle.free_vars_call.proofs.free_vars_bytes.Goals as goal
+use Rattle.free_vars_call.proofs.find_or_refuse.Goals as goal
 
 -- the bytes that the call is lent, which has no counters and no scratch
 abbrev given : (signature rule output : List ℕ) → Given
@@ -23,34 +23,34 @@ tests_passed : (k : Given) {all : Bool} {g : Signature} → all ≡ whole_words 
     → Ready (freeing k) g
 tests_passed k test whole sign = ready (free_whole k test whole) sign
 
-pub returns-then-not-all_whole : goal.returns-then-not-all_whole
-returns-then-not-all_whole c =
+pub returns-then-not-whole_words : goal.returns-then-not-whole_words
+returns-then-not-whole_words c =
     let k = given c.args.signature.now c.args.rule.now c.args.output.now in
-    free_gives k (slices_ragged (freeing k) c.all_whole.ensures c.if-not-all_whole.true (from_refusal c.at.ensures c.from.ensures))
+    free_gives k (slices_ragged (freeing k) c.whole_words.ensures c.if-not-whole_words.true (answered_at c.at.ensures))
 
-pub returns-in-Err : goal.returns-in-Err
-returns-in-Err c =
+pub returns-in_err-sign : goal.returns-in_err-sign
+returns-in_err-sign c =
     let k = given c.args.signature.now c.args.rule.now c.args.output.now in
-    let whole = free_whole k c.all_whole.ensures c.if-not-all_whole.false in
-    free_gives k (front_refuses whole c.in-Err.ensures c.from-in-Err.ensures)
+    let whole = free_whole k c.whole_words.ensures c.if-not-whole_words.false in
+    free_gives k (front_refuses whole c.in_err-sign.ensures (answered_on _ _ c.from_residual.ensures.1))
 
 pub get_free_vars-n-requires : goal.get_free_vars-n-requires
 get_free_vars-n-requires c =
     let k = given c.args.signature.now c.args.rule.now c.args.output.now in
-    free_asks k (tests_passed k c.all_whole.ensures c.if-not-all_whole.false c.in-Ok.ensures)
+    free_asks k (tests_passed k c.whole_words.ensures c.if-not-whole_words.false c.in_ok-sign.ensures)
 
 pub returns-then-count-n : goal.returns-then-count-n
 returns-then-count-n c =
     let k = given c.args.signature.now c.args.rule.now c.args.output.now in
-    let passed = tests_passed k c.all_whole.ensures c.if-not-all_whole.false c.in-Ok.ensures in
+    let passed = tests_passed k c.whole_words.ensures c.if-not-whole_words.false c.in_ok-sign.ensures in
     let v = c.get_free_vars-n in
     let done = free_done k passed v.ensures v.auto.out (search rules) (search rules) in
-    free_gives k (too_short {y = passed} done c.count.ensures c.if-count-n.true (from_refusal c.at-then-count-n.ensures c.from-then-count-n.ensures) refl)
+    free_gives k (too_short {y = passed} done c.count.ensures c.if-count-n.true (answered_at c.at-then-count-n.ensures) refl)
 
 pub returns : goal.returns
 returns c =
     let k = given c.args.signature.now c.args.rule.now c.args.output.now in
-    let passed = tests_passed k c.all_whole.ensures c.if-not-all_whole.false c.in-Ok.ensures in
+    let passed = tests_passed k c.whole_words.ensures c.if-not-whole_words.false c.in_ok-sign.ensures in
     let v = c.get_free_vars-n in
     let done = free_done k passed v.ensures v.auto.out (search rules) (search rules) in
     free_gives k (all_written {y = passed} done c.count.ensures c.if-count-n.false refl)
