@@ -197,7 +197,7 @@ module _ {ws : List ℕ} {g : Signature} {l : List ℕ} {w : ℕ} {b : Begun ws 
   stand = record { settled = rules.settle b.some.sig b.some.rule.atoms; kept = b.some.rule.actions; parts = parts b.some }
 
   pub ended : {n : ℕ} {o p : List ℕ} → Finishes z body ((w - header_base) % limit12) ws at (k - at) n o p
-      → (s : Sig) (r : FlatRule) → FlatUnder ws g s r → EndedWith s r (record { needed = n; replacements = body.replacements; passes = body.passes }) o p
+      → (s : Sig) (r : FlatRule) → FlatUnder ws g s r → EndedWith s r (record { words = n; replacements = body.replacements; passes = body.passes }) o p
   ended h s r u =
       let t : SomeFlat ws g = record { sig = s; rule = r; under = u } in
       record { wrote = h (rules.settle s r.atoms) r.actions (parts t); replacements = (d.done t).replacements; passes = (d.done t).passes }

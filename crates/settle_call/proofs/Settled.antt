@@ -1,11 +1,10 @@
 -- Settling a flat rule, as a call: what is asked of the work, and what it gives. Assumes nothing.
-use Prim.Native.Nat.{ℕ, ◌*◌, ◌/◌, ◌%◌, ◌≤◌}
+use Prim.Native.Nat.{ℕ, ◌*◌, ◌/◌, ◌≤◌}
 use native.Mathlib.Omega.{arith}
 use mathlib.Core.Path.{◌≡◌, refl, sym, ◌∙◌, ap}
-use mathlib.Core.Bool.{Bool, true, and-true}
+use mathlib.Core.Bool.{Bool, true}
 use mathlib.Core.List.{List, [], ◌∷◌}
 use lib.ListN.{length, take}
-use lib.Dec.{eqb}
 use Rattle.octets.specs.Words.{words}
 use Rattle.octets.proofs.Words.{length_words}
 use Rattle.rules.specs.Refusals.{Res, ok}
@@ -19,8 +18,8 @@ use Rattle.signature.specs.declared.Signature.{Signature}
 use Rattle.meaning.proofs.SignatureLaws.{signature_sound}
 use Rattle.meaning.proofs.Encodable.{flat_encodable}
 use Rattle.answers.specs.declared.Answer.{Answer}
-use Rattle.settle_call.specs.declared.Ended.{Ended}
-use Rattle.answers.specs.Answers.{whole_three, scratch_flat, Gives}
+use Rattle.answers.specs.declared.Counts.{Counts}
+use Rattle.answers.specs.Answers.{scratch_flat, Gives}
 use Rattle.answers.specs.Fronts.{flat_front}
 use Rattle.settle_call.specs.Settle.{FlatUnder, SomeFlat, EndedWith}
 use Rattle.answers.proofs.Slices.{every_whole}
@@ -48,11 +47,6 @@ module _ (k : Given) where
   settle_gives g = record { answer = g.answer; writes = g.writes }
 
   -- the fourth slice is tested first
-  pub settle_tested : {t b : Bool} → t ≡ eqb (length k.scratch % 4) 0 → b ≡ whole_three (length k.signature) (length k.rule) (length k.output) t
-      → b ≡ whole_words (settling k).lengths
-  settle_tested last three =
-      three ∙ ap (whole_three (length k.signature) (length k.rule) (length k.output)) (last ∙ sym (and-true (eqb (length k.scratch % 4) 0)))
-
   pub settle_whole : {b : Bool} → b ≡ whole_words (settling k).lengths → b ≡ true → Whole (settling k)
   settle_whole test h = record { all = sym test ∙ h; output = every_whole (settling k).lengths (sym test ∙ h) 2; counters = refl }
 
@@ -88,9 +82,9 @@ module _ (k : Given) where
         → SomeFlat (words k.rule) g × (16 * length (words k.rule) ≤ length (words (take cut k.scratch)))
     settle_asks l = (record { sig = y.sig; rule = y.passed.rule; under = under }, omega (arith, lent_words l))
 
-    pub settle_done : {e : Ended} {m : List ℕ} → ((s : Sig) (f : FlatRule) → FlatUnder (words k.rule) g s f → EndedWith s f e k.output m)
+    pub settle_done : {e : Counts} {m : List ℕ} → ((s : Sig) (f : FlatRule) → FlatUnder (words k.rule) g s f → EndedWith s f e k.output m)
         → length m ≡ length k.output → Bytes k.output → Bytes m
-        → Done y e.needed e.replacements e.passes m
+        → Done y e.words e.replacements e.passes m
     settle_done ends size before after =
         let z = ends y.sig y.passed.rule under in
         record {

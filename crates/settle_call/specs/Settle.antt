@@ -10,7 +10,7 @@ use Rattle.meaning.specs.Meaning.{All}
 use Rattle.meaning.specs.ReadBack.{Encodable}
 use Rattle.signature.specs.declared.Signature.{Signature}
 use Rattle.free_vars.specs.Head.{WroteIfRoom}
-use Rattle.settle_call.specs.declared.Ended.{Ended}
+use Rattle.answers.specs.declared.Counts.{Counts}
 
 -- the words are the flat rule f under the signature s, whose numbers are within the limits of 01 and are told by `sign`
 pub record FlatUnder (ws : List ℕ) (sign : Signature) (s : Sig) (f : FlatRule) : Type 0 where
@@ -31,7 +31,7 @@ pub record SomeFlat (ws : List ℕ) (sign : Signature) : Type 0 where
   pub under : FlatUnder ws sign sig rule
 
 -- the settled rule's words are written, if the output l has room for them, and it has become m. The two counts are the definition's
-pub record EndedWith (s : Sig) (f : FlatRule) (r : Ended) (l m : List ℕ) : Type 0 where
-  pub wrote : WroteIfRoom (encode (settle s f.atoms).tabs (bindings (settle s f.atoms).repls ++ f.actions)) r.needed l m
+pub record EndedWith (s : Sig) (f : FlatRule) (r : Counts) (l m : List ℕ) : Type 0 where
+  pub wrote : WroteIfRoom (encode (settle s f.atoms).tabs (bindings (settle s f.atoms).repls ++ f.actions)) r.words l m
   pub replacements : r.replacements ≡ length (settle s f.atoms).repls
   pub passes : r.passes ≡ (settle s f.atoms).passes

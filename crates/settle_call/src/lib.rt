@@ -42,8 +42,9 @@ fn settle_good(rule: &[u8], sign: Signature, output: &mut [u8], scratch: &mut [u
         size: octets::count(rule) - end,
         count: (counts % LIMIT_12) as usize,
     };
+    let words = emitting::finish(output, scratch, body, head);
     Counts {
-        words: emitting::finish(output, scratch, body, head),
+        words,
         replacements: body.replacements,
         passes: body.passes,
     }

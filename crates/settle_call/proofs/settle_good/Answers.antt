@@ -53,8 +53,8 @@ overflow_sub-head c =
     let at_atoms : Found at_get c.unwrap-end.result = found at_get c.atoms.result c.atoms.ensures c.unwrap-end.ensures in
     omega (arith, at_atoms.inside, c.count.ensures)
 
-pub finish-needed-requires : goal.finish-needed-requires
-finish-needed-requires c =
+pub finish-words-requires : goal.finish-words-requires
+finish-words-requires c =
     let at_get : (let a = c.args in Begun (words a.rule.now) a.sign (words a.scratch.now) c.get-counts.result) =
     begun c.requires.some_flat c.requires.rule_in_bounds c.get-counts.ensures in
     let at_atoms : Found at_get c.unwrap-end.result = found at_get c.atoms.result c.atoms.ensures c.unwrap-end.ensures in
@@ -69,4 +69,4 @@ returns c =
     let at_atoms : Found at_get c.unwrap-end.result = found at_get c.atoms.result c.atoms.ensures c.unwrap-end.ensures in
     let at_copy : Copied at_atoms (words c.copy.new.out) = copied at_atoms (length_words_kept _ _ c.copy.auto.out) c.copy.ensures in
     let at_settle : Done at_copy c.settle-body.result (words c.settle-body.new.s) = is_done at_copy refl refl c.settle-body.ensures in
-    ended at_settle c.count.ensures c.finish-needed.ensures
+    ended at_settle c.count.ensures c.finish-words.ensures
