@@ -5,11 +5,12 @@
 // nothing beside it but reading and writing, so that its read-only data is the reader's (02, Req 03).
 #![tactic(auto)]
 
-// A buffer holds more bytes than all lines that are read, so that one too many is seen, and their words.
+// A buffer holds more bytes than all lines that are read, so that one too many is seen, and their words. Nobody reads what a failed write would say.
 fn main(rt: HostRuntime) {
-    let mut input = streams::large_buffer();
-    let mut given = streams::large_buffer();
+    let mut input = streams::filled::<65536>(0);
+    let mut given = streams::filled::<65536>(0);
     let n = streams::read_full(&mut rt.stdin(), &mut input);
-    let read = lines::reading::read_lines(&input[..n], &mut given);
-    streams::write_all(&mut rt.stdout(), &given[..4 * read.count]);
+    if let Ok(count) = lines::reading::read_lines(&input[..n], &mut given) {
+        let _ = streams::write_all(&mut rt.stdout(), &given[..4 * count]);
+    }
 }

@@ -17,7 +17,11 @@ use Rattle.rules.specs.Refusals.{Res, ok, refuse, ◌>>=◌, demand, bad_line}
 use Rattle.rules.specs.Program.{are_digits, spelt, line_feed, line_at, lines_from, read_lines}
 use Rattle.meaning.proofs.Lists.{and_left, and_right}
 use Rattle.meaning.proofs.Results.{demand_ok}
-use Rattle.lines.specs.Reading.{first_words, lines_of, stored, LinesRead}
+use Rattle.std.specs.Prelude.{Ok, Err}
+use Rattle.refusals.specs.Numbers.{number_of, told}
+use Rattle.refusals.specs.declared.Reason.TheVariants.{BadLine}
+use Rattle.refusals.specs.declared.Refusal.{Refusal}
+use Rattle.lines.specs.Reading.{first_words, stored, LinesRead}
 
 -- ---- one line
 
@@ -143,37 +147,26 @@ module _ {input l m : List ℕ} {line : ℕ} (s : ReadTo input l m line) where
               let same : i ≡ line = omega (arith, ltb-false i line e) in
               ap (is_good input) same ∙ b
 
-  pub read_refused : line * 9 < length input → HasNone input line
-      → LinesRead input (words l) (words m) (record { refused = bad_line; place = line + 1; count = 0 })
-  read_refused h e =
-      let is : read_lines input ≡ refuse bad_line (suc line) = lines_refused input line s.good h (malformed_demanded (is_good input line) (suc line) (word_at input line) e) in
+  pub read_refused : line * 9 < length input → HasNone input line → (e : Refusal) → e.reason ≡ BadLine → e.place ≡ line + 1
+      → LinesRead input (words l) (words m) (Err e)
+  read_refused h none e reason place =
+      let is : read_lines input ≡ refuse bad_line (suc line) = lines_refused input line s.good h (malformed_demanded (is_good input line) (suc line) (word_at input line) none) in
       let before : suc line - 1 ≡ line = omega arith in
       record {
-        answers = ap (λ (p : ℕ). record { refused = bad_line; place = p; count = 0 }) (add-one line) ∙ ap lines_of (sym is);
+        answers = (λ j. refuse (number_of (reason j)) (place j)) ∙ ap (refuse bad_line) (add-one line) ∙ sym (ap (told length) is);
         writes = s.filled.made ∙ ap (λ (k : ℕ). splice (words l) 0 (first_words input k)) (sym before) ∙ ap (λ (r : Res (List ℕ)). splice (words l) 0 (stored input r)) (sym is);
-        known = omega arith;
-        few = omega arith;
-        near = omega arith;
+        known = reason;
+        few = tt;
+        near = omega (arith, s.filled.most);
       }
 
-  pub read_end : length input ≤ line * 9 → LinesRead input (words l) (words m) (record { refused = 0; place = 0; count = line })
-  read_end h =
-      let size : length input ≡ line * 9 = omega arith in
+  pub read_end : length input ≡ line * 9 → (n : ℕ) → n ≡ line → LinesRead input (words l) (words m) (Ok n)
+  read_end size n e =
       let is : read_lines input ≡ ok (first_words input line) = lines_all input line s.good size in
       record {
-        answers = ap (λ (n : ℕ). record { refused = 0; place = 0; count = n }) (sym s.filled.count) ∙ ap lines_of (sym is);
+        answers = ap ok (e ∙ sym s.filled.count) ∙ sym (ap (told length) is);
         writes = s.filled.made ∙ ap (λ (r : Res (List ℕ)). splice (words l) 0 (stored input r)) (sym is);
-        known = omega arith;
-        few = omega arith;
-        near = omega arith;
+        known = tt;
+        few = omega (arith, s.filled.most);
+        near = tt;
       }
-
-first_two : (a b c d : Bool) → (a && b && c && d) ≡ true → (a ≡ true) × (b ≡ true)
-first_two a b c d e =
-    let two = and_left (a && b) c (and_left (a && b && c) d e) in
-    (and_left a b two, and_right a b two)
-
--- a word is the line's own, and its tests held
-word_demanded : (b : Bool) (p x w : ℕ) → ok w ≡ demand b bad_line p x → (b ≡ true) × (w ≡ x)
-word_demanded true p x w e = (refl, cc)
-word_demanded false p x w e = absurd (let z : ◌≡◌ {A = ℕ} 0 1 = cc in omega arith)

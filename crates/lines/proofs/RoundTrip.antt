@@ -123,7 +123,7 @@ module _ (xs ys : List ℕ) (line w : ℕ) (behind : length xs ≡ line * 9) (ea
   print_line : line_at text (line * 9) line ≡ ok w
   print_line =
       let spells = printed_spells 8 w fits in
-      sym (line_spelt text line early long ended) ∙ ap (λ (bs : List ℕ). spelling bs line) eight
+      sym (line_spelt text (line * 9) line early long ended) ∙ ap (λ (bs : List ℕ). spelling bs line) eight
       ∙ ap₂ (λ (t : Bool) (v : ℕ). demand t bad_line (suc line) v) spells.0 spells.1
 
 -- ---- all lines

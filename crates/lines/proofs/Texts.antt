@@ -42,29 +42,6 @@ wrote_same {l} {m} {xs} {ys} {at} {r} e f = record { end = f.end ∙ ap (λ (zs 
 front_more : (l : List ℕ) (i : ℕ) → i < length l → part l 0 (i + 1) ≡ part l 0 i ++ (get_or l i 0 ∷ [])
 front_more l i h = rw (add-one, take-suc l i 0)
 
--- the first i of the bytes xs are written
-pub record BytesTo (l : List ℕ) (at : ℕ) (xs : List ℕ) (i : ℕ) (m : List ℕ) : Type 0 where
-  pub most : i ≤ length xs
-  pub size : length m ≡ length l
-  pub wrote : Wrote l at (part xs 0 i) m (at + i)
-
-pub bytes_start : (l : List ℕ) (at : ℕ) (xs : List ℕ) → BytesTo l at xs 0 l
-bytes_start l at xs = record { most = omega arith; size = refl; wrote = record { end = refl; bytes = sym (splice_nil l at) } }
-
-pub bytes_next : {l m xs : List ℕ} {at i : ℕ} → BytesTo l at xs i m → i < length xs → at + length xs ≤ length l → BytesTo l at xs (i + 1) (set m (at + i) (get_or xs i 0))
-bytes_next {l} {m} {xs} {at} {i} f h room =
-    let next : at + i + 1 ≡ at + (i + 1) = omega arith in
-    record {
-      most = omega arith;
-      size = length-set m (at + i) (get_or xs i 0) ∙ f.size;
-      wrote = rw next at (wrote_same (sym (front_more xs i h)) (wrote_snoc (get_or xs i 0) f.wrote (omega arith) (omega arith)));
-    }
-
-pub bytes_end : {l m xs : List ℕ} {at i : ℕ} → BytesTo l at xs i m → length xs ≤ i → Wrote l at xs m (at + i)
-bytes_end {l} {m} {xs} {at} {i} f h =
-    let e : i ≡ length xs = omega arith in
-    wrote_same (ap (part xs 0) e ∙ part_all xs) f.wrote
-
 -- ---- a word's digits, from the last to the first
 
 pub length_hexadecimal : (n w : ℕ) → length (hexadecimal n w) ≡ n
@@ -145,11 +122,6 @@ lines_next {l} {m} {k} {at} {n} {i} {end} {w} {ws} f h few room e size hex =
       place = omega arith;
       wrote = rw nine at (wrote_same (ap (λ (x : ℕ). words_of word_line (part ws 0 i) ++ word_line x) e ∙ sym more) (wrote_then f.wrote line (omega arith)));
     }
-
-pub lines_end : {l m : List ℕ} {at n i end : ℕ} {ws : List ℕ} → LinesTo l at ws n i m end → n ≤ i → Wrote l at (words_of word_line (part ws 0 n)) m end
-lines_end {l} {m} {at} {n} {i} {end} {ws} f h =
-    let e : i ≡ n = omega arith in
-    wrote_same (ap (λ (j : ℕ). words_of word_line (part ws 0 j)) e) f.wrote
 
 -- ---- decimal numbers
 

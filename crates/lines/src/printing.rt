@@ -21,12 +21,9 @@ fn put_bytes(text: &mut [u8], at: usize, bytes: &[u8]) -> usize
     requires { at + length bytes.now ≤ length text.old }
     ensures { Wrote text.old at bytes.now text.new result }
 {
-    let mut i = 0;
-    while i < bytes.len() {
-        text[at + i] = bytes[i];
-        i += 1;
-    }
-    at + i
+    let end = at + bytes.len();
+    text[at..end].copy_from_slice(bytes);
+    end
 }
 
 // A word's eight digits. The last one is the remainder, so they are written from the last to the first.
@@ -35,9 +32,7 @@ fn put_hexadecimal(text: &mut [u8], at: usize, w: u32)
     ensures { text.new ≡ splice text.old at (hexadecimal 8 w) }
 {
     let mut rest = w;
-    let mut i: usize = 8;
-    while i > 0 {
-        i -= 1;
+    for i in (0..8).rev() {
         text[at + i] = byte_of(rest % 16);
         rest /= 16;
     }
@@ -48,13 +43,11 @@ fn put_words(text: &mut [u8], at: usize, input: &[u8], n: usize) -> usize
     requires { (at + n * 9 ≤ length text.old) × (n ≤ length (words input.now)) }
     ensures { Wrote text.old at (words_of word_line (part (words input.now) 0 n)) text.new result }
 {
-    let mut i = 0;
     let mut end = at;
-    while i < n {
+    for i in 0..n {
         put_hexadecimal(text, end, octets::get(input, i));
         text[end + 8] = b'\n';
         end += 9;
-        i += 1;
     }
     end
 }

@@ -1,6 +1,6 @@
 // Standard input as words. A line is eight lowercase hexadecimal digits and a line feed; the first line that is none is refused, and so is
 // one beyond the last that is read. What lies behind it is not looked at.
-ghost use Rattle.std.specs.Prelude.{◌≡◌, ℕ, ◌+◌, ◌*◌, ◌<◌, ◌≤◌, length};
+ghost use Rattle.std.specs.Prelude.{◌≡◌, ℕ, ◌+◌, ◌<◌, ◌≤◌, length, MatchOption};
 ghost use Rattle.octets.specs.Words.{words};
 ghost use Rattle.octets.specs.Regions.{part};
 ghost use Rattle.rules.specs.Words.{max_lines};
@@ -8,101 +8,62 @@ ghost use Rattle.rules.specs.Program.{signature_length, line_at};
 ghost use Rattle.rules.specs.Program.{digit as Program·digit};
 ghost use Rattle.lines.specs.Reading.{spelling, line_says, LinesRead};
 
-// The lines that are read at most, and the number of the refusal of a line: 01, "Turned back".
-const MAX_LINES: usize = 4612;
+use refusals::{Reason, Refusal};
 
-const BAD_LINE: u32 = 13;
+// The lines that are read at most: 01, "Turned back".
+const MAX_LINES: usize = 4612;
 
 // H of a signature is from 1 to 4,096, and 0 has this word.
 const SIGNATURE_BASE: u32 = 0x0100_0000;
 
 const MAX_HEADS: u32 = 4096;
 
-// What stands in a line's place.
-#[derive(Clone, Copy)]
-pub enum Line {
-    Word(u32),
-    Malformed,
-}
-
-// What was read: the words written, or a refusal's number and place. `refused` is 0 where there is none.
-#[derive(Clone, Copy)]
-pub struct Lines {
-    pub refused: u32,
-    pub place: usize,
-    pub count: usize,
-}
-
-// The value of a digit. It is found by ranges, and no table is kept; 16 says that the byte is no digit.
-fn digit(b: u8) -> u32
-    ensures { (result ≡ Program·digit b) × (result ≤ 16) }
+// The value of a digit. It is found by ranges, and no table is kept.
+fn digit(b: u8) -> Option<u32>
+    ensures { MatchOption result (Program·digit b ≡ 16) (λ d. (Program·digit b ≡ d) × (d < 16)) }
 {
-    let d = b as u32;
+    let d = u32::from(b);
     match d {
-        48..=57 => d - 48,
-        97..=102 => d - 87,
-        _ => 16,
+        48..=57 => Some(d - 48),
+        97..=102 => Some(d - 87),
+        _ => None,
     }
 }
 
 // The word that the eight bytes from `at` on spell, the highest digit first; whichever line they are of.
-pub fn spelled(input: &[u8], at: usize) -> Line
+pub fn spelled(input: &[u8], at: usize) -> Option<u32>
     requires { at + 8 ≤ length input.now }
     ensures { (line : ℕ) → line_says result line ≡ spelling (part input.now at 8) line }
 {
     let mut w: u32 = 0;
-    let mut i: usize = 0;
-    while i < 8 {
-        let d = digit(input[at + i]);
-        if d == 16 {
-            return Line::Malformed;
-        }
-        w = w * 16 + d;
-        i += 1;
+    for b in &input[at..at + 8] {
+        w = w * 16 + digit(*b)?;
     }
-    Line::Word(w)
+    Some(w)
 }
 
-// The line with this number, from 0. Every line before it was good, so it starts at nine times its number.
-fn line_at(input: &[u8], line: usize) -> Line
-    requires { line * 9 < length input.now }
-    ensures { line_says result line ≡ line_at input.now (line * 9) line }
+// The word of the line with this number, from 0. A last line that lacks some of its bytes has none.
+fn line_at(text: &[u8], line: usize) -> Option<u32>
+    ensures { line_says result line ≡ line_at text.now 0 line }
 {
-    if line >= MAX_LINES {
-        return Line::Malformed;
+    if line >= MAX_LINES || text.len() < 9 || text[8] != b'\n' {
+        return None;
     }
-    let at = line * 9;
-    if input.len() - at < 9 {
-        return Line::Malformed;
-    }
-    if input[at + 8] != b'\n' {
-        return Line::Malformed;
-    }
-    spelled(input, at)
+    spelled(text, 0)
 }
 
-// The words of all lines, at the front of `out`. The bytes that a last line lacks are not made up: it is malformed.
-pub fn read_lines(input: &[u8], out: &mut [u8]) -> Lines
+// The words of all lines, at the front of `out`, and how many they are. Every line before one is whole, so it starts at nine times its number.
+pub fn read_lines(input: &[u8], out: &mut [u8]) -> Result<usize, Refusal>
     requires { max_lines ≤ length (words out.old) }
     ensures { LinesRead input.now (words out.old) (words out.new) result }
 {
-    let mut line = 0;
-    while line * 9 < input.len() {
-        let Line::Word(w) = line_at(input, line) else {
-            return Lines {
-                refused: BAD_LINE,
-                place: line + 1,
-                count: 0,
-            };
+    for (line, text) in input.chunks(9).enumerate() {
+        let Some(w) = line_at(text, line) else {
+            return Err(Reason::BadLine.at(line + 1));
         };
         octets::put(out, line, w);
-        line += 1;
     }
-    Lines {
-        refused: 0,
-        place: 0,
-        count: line,
-    }
+    Ok(input.len() / 9)
 }
 
 // How many of the first n words are the signature: four and H, or all of them if H can't be had.
@@ -113,13 +74,8 @@ pub fn signature_length(input: &[u8], n: usize) -> usize
     if n == 0 {
         return 0;
     }
-    let w = octets::get(input, 0);
-    if w <= SIGNATURE_BASE {
-        return n;
+    match octets::get(input, 0).checked_sub(SIGNATURE_BASE) {
+        Some(heads @ 1..=MAX_HEADS) => 4 + heads as usize,
+        _ => n,
     }
-    let heads = w - SIGNATURE_BASE;
-    if heads > MAX_HEADS {
-        return n;
-    }
-    4 + heads as usize
 }

@@ -11,7 +11,9 @@ use Rattle.octets.proofs.Splice.{take_splice_all}
 use Rattle.rules.specs.Refusals.{Res, ok, refuse, ◌>>=◌}
 use Rattle.rules.specs.Calls.{Result}
 use Rattle.rules.specs.Program.{read_lines, lower_all, printed, program}
-use Rattle.lines.specs.declared.reading.Lines.{Lines}
+use Rattle.std.specs.Prelude.{Ok, Err}
+use Rattle.refusals.specs.Numbers.{number_of}
+use Rattle.refusals.specs.declared.Refusal.{Refusal}
 use Rattle.lines.specs.Reading.{LinesRead, input_bytes}
 use Rattle.lines.specs.Printing.{Wrote, accepted}
 use Rattle.lines.proofs.Answers.{words_read, line_refused}
@@ -26,9 +28,10 @@ by_lines : {l m : List ℕ} {n : ℕ} (input : List ℕ) (x : Res (List ℕ)) �
 unfolding program
 by_lines input x e w = wrote_same (sym (ap (λ (y : Res (List ℕ)). printed (◌>>=◌ y lower_all)) e)) w
 
-pub wrote_line : {input before after : List ℕ} {r : Lines} → LinesRead input before after r → (r.refused ≡ 0 → ⊥) → {l m : List ℕ} {n : ℕ}
-    → Wrote l 0 (printed (refuse r.refused r.place)) m n → Wrote l 0 (program input) m n
-wrote_line {input} {r = r} told h w = by_lines input (refuse r.refused r.place) (line_refused told h) w
+pub wrote_line : {input before after : List ℕ} {e : Refusal} {k : ℕ} → LinesRead input before after (Err e) → k ≡ number_of e.reason → {l m : List ℕ} {n : ℕ}
+    → Wrote l 0 (printed (refuse k e.place)) m n → Wrote l 0 (program input) m n
+wrote_line {input} {e = e} {k} told is w =
+    by_lines input (refuse (number_of e.reason) e.place) (line_refused told) (wrote_same (ap (λ (j : ℕ). printed (refuse j e.place)) is) w)
 
 -- ---- the lines are read as words, and the rule in them is lowered: the answer is a, and the words of its output are `output`
 
@@ -37,9 +40,9 @@ pub record Told (input : List ℕ) (a : Answer) (output : List ℕ) : Type 0 whe
   pub read : read_lines input ≡ ok given
   pub tells : Tells (lower_all given) a output
 
-pub told : {input before after : List ℕ} {r : Lines} → LinesRead input before after r → r.refused ≡ 0 → {a : Answer} {output : List ℕ}
-    → Tells (lower_all (part after 0 r.count)) a output → Told input a output
-told lines fine tells = record { given = _; read = words_read lines fine; tells = tells }
+pub told : {input before after : List ℕ} {n : ℕ} → LinesRead input before after (Ok n) → {a : Answer} {output : List ℕ}
+    → Tells (lower_all (part after 0 n)) a output → Told input a output
+told lines tells = record { given = _; read = words_read lines; tells = tells }
 
 module _ {input : List ℕ} {a : Answer} {output : List ℕ} (t : Told input a output) where
   by_lowering : {l m : List ℕ} {n : ℕ} (x : Res Result) → lower_all t.given ≡ x → Wrote l 0 (printed x) m n → Wrote l 0 (program input) m n

@@ -3,5 +3,5 @@ use Rattle.std.proofs.Common.{arith}
 use Rattle.octets.proofs.Words.{length_words}
 use Rattle.line_reader.proofs.main.Goals as goal
 
-pub read_lines-read-requires : goal.read_lines-read-requires
-read_lines-read-requires c = omega (arith, c.large_buffer-given.ensures, length_words c.large_buffer-given.result)
+pub read_lines-requires : goal.read_lines-requires
+read_lines-requires c = omega (arith, c.filled-given.ensures.len, length_words c.filled-given.result)

@@ -1,16 +1,18 @@
--- Printing bytes as they are: after i turns the first i of them are written. Assumes nothing.
-use Rattle.lines.proofs.Texts.{bytes_start, bytes_next, bytes_end}
+-- Bytes copied to a part of the text are written there. Assumes nothing.
+use Prim.Native.Nat.{ℕ}
+use mathlib.Core.Path.{◌≡◌, refl, sym, ap, ◌∙◌}
+use mathlib.Core.List.{List, ◌++◌, append_assoc}
 use native.Mathlib.Omega.{arith}
+use lib.ListN.{length, take, drop}
+use lib.Seq.{drop-drop}
+use borrow.Rule.Slice.PartMut.{put_mid}
+use Rattle.octets.specs.Regions.{splice}
+use Rattle.octets.proofs.Splice.{splice_is}
 use Rattle.lines.proofs.printing.put_bytes.Goals as goal
 
-pub loop-i-init : goal.loop-i-init
-loop-i-init c = bytes_start _ _ _
-
-pub loop-i-preserved : goal.loop-i-preserved
-loop-i-preserved c = bytes_next c.loop-i.invariant (omega arith) (omega arith)
-
-pub shape_of-text : goal.shape_of-text
-shape_of-text c = c.loop-i.invariant.size
+copied : (at k : ℕ) (text xs ys : List ℕ) → ys ≡ xs → k ≡ length xs → put_mid at k text ys ≡ splice text at xs
+copied at k text xs ys is size =
+    sym (append_assoc (take at text) ys (drop k (drop at text))) ∙ (λ j. take at text ++ is j ++ drop (size j) (drop at text)) ∙ ap (λ (l : List ℕ). take at text ++ xs ++ l) (drop-drop (length xs) at text) ∙ sym (splice_is text at xs)
 
 pub returns : goal.returns
-returns c = bytes_end c.loop-i.invariant (omega arith)
+returns c = record { end = refl; bytes = copied _ _ _ _ _ c.copy_from_slice.ensures.after (omega arith) }

@@ -1,6 +1,5 @@
 -- Printing words: those passed are written, nine bytes each, so that the next one's place is known. Assumes nothing.
-use Rattle.lines.proofs.Texts.{lines_start, lines_next, lines_end}
-use native.Mathlib.Omega.{arith}
+use Rattle.lines.proofs.Texts.{lines_start, lines_next}
 use Rattle.lines.proofs.printing.put_words.Goals as goal
 
 pub loop-i-init : goal.loop-i-init
@@ -10,11 +9,3 @@ pub loop-i-preserved : goal.loop-i-preserved
 loop-i-preserved c =
     let p = c.put_hexadecimal in
     lines_next c.loop-i.invariant c.loop-i-test.true c.requires.1 c.requires.0 c.get.ensures.is p.auto.text p.ensures
-
--- ---- all are written
-
-pub shape_of-text : goal.shape_of-text
-shape_of-text c = c.loop-i.invariant.size
-
-pub returns : goal.returns
-returns c = lines_end c.loop-i.invariant (omega arith)

@@ -1,44 +1,79 @@
 -- Reading all lines: those passed are good and their words are written, so the first that is malformed is the one that `read_lines` refuses. Assumes nothing.
-use mathlib.Core.Path.{sym, ap, ◌∙◌}
-use Rattle.octets.proofs.Filling.{filled_count}
-use Rattle.lines.proofs.AllLines.{HasWord, read_start, read_good, read_next, read_refused, read_end}
-use Rattle.lines.specs.Reading.{line_says}
-use Rattle.lines.specs.declared.reading.Line.{Line}
+use Prim.Native.Nat.{ℕ, suc, ◌+◌, ◌*◌, ◌/◌, ◌<◌, min}
+use mathlib.Core.Path.{◌≡◌, sym, ap, ◌∙◌, subst}
+use mathlib.Core.List.{List, ◌++◌}
 use native.Mathlib.Omega.{arith}
+use lib.ListN.{length, set, drop, length-drop}
+use Rattle.octets.specs.Words.{words}
+use Rattle.octets.proofs.Filling.{filled_count}
+use Rattle.rules.specs.Program.{line_at}
+use Rattle.rules.specs.Refusals.{ok, refuse, bad_line}
+use Rattle.lines.proofs.AllLines.{ReadTo, HasWord, HasNone, read_start, read_good, read_next, read_refused, read_end}
+use Rattle.lines.proofs.Chunks.{Chunk, chunk_there, chunk_next, chunk_line}
 use Rattle.lines.proofs.reading.read_lines.Goals as goal
 
 pub loop-line-init : goal.loop-line-init
-loop-line-init c = read_start _ _
+loop-line-init c =
+    let e = c.enumerate-line-items.ensures in
+    let is = c.into_iter-line-iterator.ensures.into_iter_gives in
+    let text = ap (λ x. x.iter) is ∙ e.source in
+    let first : c.into_iter-line-iterator.result.count ≡ 0 = ap (λ x. x.count) is ∙ e.count in (
+      subst (ReadTo c.args.input.now c.args.out.now c.args.out.now) (sym first) (read_start _ _),
+      ap (λ x. x.rest.now) text ∙ c.chunks.ensures.rest ∙ sym (ap (λ (k : ℕ). drop (k * 9) c.args.input.now) first),
+      ap (λ x. x.size) text ∙ c.chunks.ensures.size,
+    )
 
-pub line_at-requires : goal.line_at-requires
-line_at-requires c = c.loop-line-test.true
+-- ---- a line
 
-pub shape_of-out-in_default : goal.shape_of-out-in_default
-shape_of-out-in_default c = c.loop-line.invariant.filled.size
+-- the chunk of this turn
+chunk : {input rest x rest' : List ℕ} {k size : ℕ} → rest ≡ drop (k * 9) input → size ≡ 9 → rest ≡ x ++ rest' → length x ≡ min size (length rest) → 0 < length rest
+    → Chunk input k rest x rest'
+chunk {rest = rest} begins nine cut len some = record { begins = begins; cut = cut; size = len ∙ ap (λ (n : ℕ). min n (length rest)) nine; some = some }
+
+-- what the chunk's answer says of the line
+word_there : {input rest x rest' : List ℕ} {k line w : ℕ} → Chunk input k rest x rest' → line ≡ k → ok w ≡ line_at x 0 line → HasWord input k w
+word_there {x = x} {w = w} here place is = subst (λ (j : ℕ). ok w ≡ line_at x 0 j) place is ∙ chunk_line here
+
+none_there : {input rest x rest' : List ℕ} {k line : ℕ} → Chunk input k rest x rest' → line ≡ k → refuse bad_line (suc line) ≡ line_at x 0 line → HasNone input k
+none_there {x = x} here place is = subst (λ (j : ℕ). refuse bad_line (suc j) ≡ line_at x 0 j) place is ∙ chunk_line here
 
 pub returns-in_default : goal.returns-in_default
 returns-in_default c =
-    read_refused c.loop-line.invariant c.loop-line-test.true (ap (λ (x : Line). line_says x c.loop-line.line) (sym c.in_default.is) ∙ c.line_at.ensures)
+    let s = c.loop-line.invariant in
+    let turn = c.in-Some.ensures.steps in
+    let here = chunk s.1 s.2 turn.0.1.0 turn.0.1.1 turn.0.1.2 in
+    read_refused s.0 (chunk_there here) (none_there here turn.1 c.in_default.ensures) c.at.result c.at.ensures.0
+    (c.at.ensures.1 ∙ ap (λ (k : ℕ). k + 1) turn.1)
 
 pub put-requires : goal.put-requires
 put-requires c =
-    let word_is_lem : HasWord c.args.input.now c.loop-line.line c.in-Word.w =
-    ap (λ (x : Line). line_says x c.loop-line.line) (sym c.in-Word.is) ∙ c.line_at.ensures in
     let s = c.loop-line.invariant in
-    let good = read_good s c.in-Word.w word_is_lem in
-    omega (arith, filled_count s.filled)
+    let turn = c.in-Some.ensures.steps in
+    let here = chunk s.1 s.2 turn.0.1.0 turn.0.1.1 turn.0.1.2 in
+    let good = read_good s.0 c.in-Some-line_at.w (word_there here turn.1 c.in-Some-line_at.ensures) in
+    omega (arith, good.0, turn.1, filled_count s.0.filled, c.requires)
 
 pub loop-line-preserved : goal.loop-line-preserved
 loop-line-preserved c =
-    let word_is_lem : HasWord c.args.input.now c.loop-line.line c.in-Word.w =
-    ap (λ (x : Line). line_says x c.loop-line.line) (sym c.in-Word.is) ∙ c.line_at.ensures in
-    let p = c.put in
-    read_next c.loop-line.invariant c.in-Word.w p.new.s c.requires word_is_lem p.auto.s p.ensures
+    let s = c.loop-line.invariant in
+    let turn = c.in-Some.ensures.steps in
+    let here = chunk s.1 s.2 turn.0.1.0 turn.0.1.1 turn.0.1.2 in
+    let word = word_there here turn.1 c.in-Some-line_at.ensures in
+    let good = read_good s.0 c.in-Some-line_at.w word in
+    let put = c.put.ensures ∙ ap (λ (k : ℕ). set (words c.loop-line.out) k c.in-Some-line_at.w) turn.1 in
+    let read = read_next s.0 c.in-Some-line_at.w c.put.new.s c.requires word c.put.auto.s put in (
+      subst (ReadTo c.args.input.now c.args.out.now c.put.new.s) (sym turn.2) read,
+      chunk_next here good.1 ∙ sym (ap (λ (k : ℕ). drop (k * 9) c.args.input.now) turn.2),
+      turn.0.0 ∙ s.2,
+    )
 
 -- ---- all are read
 
-pub shape_of-out : goal.shape_of-out
-shape_of-out c = c.loop-line.invariant.filled.size
-
 pub returns : goal.returns
-returns c = read_end c.loop-line.invariant (omega arith)
+returns c =
+    let s = c.loop-line.invariant in
+    let step = c.in-None.ensures.steps in
+    let rest : length (drop (c.loop-line.line-iterator.count * 9) c.args.input.now) ≡ 0 = sym (ap length s.1) ∙ step.0.1.0 in
+    let size : length c.args.input.now ≡ c.loop-line.line-iterator.count * 9 =
+    omega (arith, s.0.whole, rest, length-drop (c.loop-line.line-iterator.count * 9) c.args.input.now) in
+    read_end s.0 size (length c.args.input.now / 9) (omega arith)

@@ -1,9 +1,6 @@
-use Prim.Native.Nat.{◌-◌}
+-- The digits passed are good and spell w.
 use Rattle.lines.proofs.Spelling.{SpeltTo}
 use Rattle.lines.proofs.reading.spelled.Given as goal
 
-abbrev pub invariant-loop-i : goal.invariant-loop-i
-invariant-loop-i l = SpeltTo l.input l.at l.i l.w
-
-abbrev pub decreases-loop-i : goal.decreases-loop-i
-decreases-loop-i l = 8 - l.i
+abbrev pub invariant-loop-b : goal.invariant-loop-b
+invariant-loop-b l = SpeltTo l.b-items l.b-index l.w
