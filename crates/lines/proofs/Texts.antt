@@ -10,7 +10,7 @@ use lib.Seq.{take-suc, take-set-le, drop-cons, drop-set-lt, get_or-set_same}
 use lib.Dec.{ltb}
 use borrow.Author.Tests.{lt-ltb, le-ltb}
 use Rattle.octets.specs.Regions.{splice, part}
-use Rattle.octets.proofs.Splice.{part_all, splice_is, splice_nil, splice_one, splice_then}
+use Rattle.octets.proofs.Splice.{splice_is, splice_nil, splice_one, splice_then}
 use Rattle.rules.specs.Refusals.{ok}
 use Rattle.rules.specs.Flat.{words_of}
 use Rattle.rules.specs.Calls.{Result}
@@ -42,6 +42,22 @@ wrote_same {l} {m} {xs} {ys} {at} {r} e f = record { end = f.end ∙ ap (λ (zs 
 front_more : (l : List ℕ) (i : ℕ) → i < length l → part l 0 (i + 1) ≡ part l 0 i ++ (get_or l i 0 ∷ [])
 front_more l i h = rw (add-one, take-suc l i 0)
 
+-- the first i of the bytes xs are written
+pub record BytesTo (l : List ℕ) (at : ℕ) (xs : List ℕ) (i : ℕ) (m : List ℕ) : Type 0 where
+  pub size : length m ≡ length l
+  pub wrote : Wrote l at (part xs 0 i) m (at + i)
+
+pub bytes_start : (l : List ℕ) (at : ℕ) (xs : List ℕ) → BytesTo l at xs 0 l
+bytes_start l at xs = record { size = refl; wrote = record { end = refl; bytes = sym (splice_nil l at) } }
+
+pub bytes_next : {l m xs : List ℕ} {at i : ℕ} → BytesTo l at xs i m → i < length xs → at + length xs ≤ length l → BytesTo l at xs (i + 1) (set m (at + i) (get_or xs i 0))
+bytes_next {l} {m} {xs} {at} {i} f h room =
+    let next : at + i + 1 ≡ at + (i + 1) = omega arith in
+    record {
+      size = length-set m (at + i) (get_or xs i 0) ∙ f.size;
+      wrote = rw next at (wrote_same (sym (front_more xs i h)) (wrote_snoc (get_or xs i 0) f.wrote (omega (arith, f.size)) (omega arith)));
+    }
+
 -- ---- a word's digits, from the last to the first
 
 pub length_hexadecimal : (n w : ℕ) → length (hexadecimal n w) ≡ n
@@ -67,9 +83,6 @@ pub record LeftOf (l m : List ℕ) (at w i rest : ℕ) : Type 0 where
   pub most : i ≤ 8
   pub size : length m ≡ length l
   pub done : splice m at (hexadecimal i rest) ≡ splice l at (hexadecimal 8 w)
-
-pub left_start : (l : List ℕ) (at w : ℕ) → LeftOf l l at w 8 w
-left_start l at w = record { most = omega arith; size = refl; done = refl }
 
 pub left_next : {l m : List ℕ} {at w i rest : ℕ} → LeftOf l m at w i rest → 0 < i → at + 8 ≤ length l → (b : ℕ) → b ≡ byte_of (rest % 16)
     → LeftOf l (set m (at + (i - 1)) b) at w (i - 1) (rest / 16)

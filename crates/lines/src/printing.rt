@@ -16,14 +16,16 @@ fn byte_of(d: u32) -> u8
     if d < 10 { 48 + d as u8 } else { 87 + d as u8 }
 }
 
-// The bytes as they are.
+// The bytes as they are. They are stored one by one: by `copy_from_slice` the names that are printed would stand in the program's read-only data, which
+// is weighed (tools/read_only_data.py).
 fn put_bytes(text: &mut [u8], at: usize, bytes: &[u8]) -> usize
     requires { at + length bytes.now ≤ length text.old }
     ensures { Wrote text.old at bytes.now text.new result }
 {
-    let end = at + bytes.len();
-    text[at..end].copy_from_slice(bytes);
-    end
+    for (i, b) in bytes.iter().enumerate() {
+        text[at + i] = *b;
+    }
+    at + bytes.len()
 }
 
 // A word's eight digits. The last one is the remainder, so they are written from the last to the first.
