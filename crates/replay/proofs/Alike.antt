@@ -1,59 +1,28 @@
 -- Comparing: bytes are alike up to the first that is not, and where nothing differs the call gave what the case has. Assumes nothing.
-use mathlib.Core.Path.{◌≡◌, refl, sym, ap, ◌∙◌}
+use mathlib.Core.Path.{◌≡◌, refl, ap}
 use mathlib.Core.Bool.{Bool, true, false, cond}
 use mathlib.Core.List.{List, [], ◌∷◌}
-use Prim.Native.Nat.{ℕ, zero, suc, ◌+◌, ◌≤◌, ◌<◌}
+use Prim.Native.Nat.{ℕ, suc, ◌+◌}
 use native.Mathlib.Omega.{arith}
-use lib.ListN.{length, get_or, take}
-use lib.Dec.{eqb, ltb}
-use borrow.Author.Tests.{eq-eqb, ne_eqb, eqb-true, ltb-true, ltb-false}
+use lib.ListN.{length, take}
+use lib.Dec.{eqb}
+use borrow.Author.Tests.{eqb-true}
+use Rattle.std.specs.List.{zip, prefix_len}
 use Rattle.answers.specs.declared.Answer.{Answer}
 use Rattle.replay.specs.Differences.{differ, alike, bytes_differ, calls_differ}
 
 -- ---- the search for the first byte that is not alike
 
--- the bytes below i are alike
-pub record AlikeTo (xs ys : List ℕ) (i : ℕ) : Type 0 where
-  pub inside : i ≤ length xs
-  pub same : (j : ℕ) → j < i → get_or xs j 0 ≡ get_or ys j 0
-
-pub alike_start : (xs ys : List ℕ) → AlikeTo xs ys 0
-alike_start xs ys = record { inside = omega arith; same = λ j h. absurd (omega arith) }
-
--- they end at i: with the bytes, or since the next ones differ
-ends : (xs ys : List ℕ) (i : ℕ) → length xs ≤ length ys → i ≤ length xs → ((j : ℕ) → j < i → get_or xs j 0 ≡ get_or ys j 0)
-    → (i < length xs → get_or xs i 0 ≡ get_or ys i 0 → ⊥) → i ≡ alike xs ys
+-- the pairs of bytes at the front that are alike
+pub alike_is : (xs ys : List ℕ) → prefix_len (λ (p : ℕ × ℕ). eqb p.0 p.1) (zip xs ys) ≡ alike xs ys
 unfolding alike
-ends [] ys zero long inside same next = refl
-ends [] ys (suc i) long inside same next = absurd (omega arith)
-ends (x ∷ xs) [] i long inside same next = absurd (omega arith)
-ends (x ∷ xs) (y ∷ ys) zero long inside same next = rw (ne_eqb x y (next (omega arith)))
-ends (x ∷ xs) (y ∷ ys) (suc i) long inside same next =
-    rw (eq-eqb x y (same 0 (omega arith))) (ap suc (ends xs ys i (omega arith) (omega arith) (λ j h. same (suc j) (omega arith)) (λ h. next (omega arith))))
-
-module _ {xs ys : List ℕ} {i : ℕ} (a : AlikeTo xs ys i) where
-  pub alike_next : i < length xs → get_or xs i 0 ≡ get_or ys i 0 → AlikeTo xs ys (i + 1)
-  alike_next more here = record { inside = omega arith; same = λ j h. go j h (ltb j i) refl }
-    where
-      go : (j : ℕ) → j < i + 1 → (b : Bool) → ltb j i ≡ b → get_or xs j 0 ≡ get_or ys j 0
-      go j h true e = a.same j (ltb-true j i e)
-      go j h false e =
-          let is : j ≡ i = omega (arith, ltb-false j i e) in
-          ap (λ (k : ℕ). get_or xs k 0) is ∙ here ∙ ap (λ (k : ℕ). get_or ys k 0) (sym is)
-
-  pub alike_unlike : length xs ≤ length ys → (get_or xs i 0 ≡ get_or ys i 0 → ⊥) → i ≡ alike xs ys
-  alike_unlike long other = ends xs ys i long a.inside a.same (λ h. other)
-
-  pub alike_end : length xs ≤ length ys → length xs ≤ i → i ≡ alike xs ys
-  alike_end long all = ends xs ys i long a.inside a.same (λ h. absurd (omega arith))
+alike_is [] ys = refl
+alike_is (x ∷ xs) [] = refl
+alike_is (x ∷ xs) (y ∷ ys) =
+    let more : 1 + prefix_len (λ (p : ℕ × ℕ). eqb p.0 p.1) (zip xs ys) ≡ suc (alike xs ys) = omega (arith, alike_is xs ys) in
+    ap (λ (n : ℕ). cond (eqb x y) n 0) more
 
 -- ---- where nothing differs
-
-pub differ_same : (a b : ℕ) → a ≡ b → 0 ≡ differ a b
-differ_same a b e = rw (eq-eqb a b e)
-
-pub differ_other : (a b : ℕ) → (a ≡ b → ⊥) → 1 ≡ differ a b
-differ_other a b h = rw (ne_eqb a b h)
 
 differ_none : (a b : ℕ) → differ a b ≡ 0 → a ≡ b
 differ_none a b h = go (eqb a b) refl h

@@ -1,7 +1,42 @@
-// What stands in front of a case's parts, a word each: how many words follow, the call, the bytes that are lent, and the answer.
+// A case of the list: its number, the words in front of its parts, and what they say.
 ghost use Rattle.std.specs.Prelude.{◌+◌, ◌*◌, ◌<◌, ◌≤◌, length};
 
 use answers::Answer;
+use std::io::Stdout;
+
+// The calls of the key service that a case can name.
+#[derive(Clone, Copy)]
+pub enum Call {
+    Lower,
+    Settle,
+    FreeVars,
+}
+
+impl Call {
+    // The call by its number in the list. Behind the list's end all words are 0, which names none.
+    fn numbered(number: usize) -> Option<Call> {
+        match number {
+            0 => None,
+            1 => Some(Call::Lower),
+            2 => Some(Call::Settle),
+            _ => Some(Call::FreeVars),
+        }
+    }
+}
+
+// The words in front of a case's parts: how many words follow, the call, the bytes that are lent, and the answer.
+#[derive(Clone, Copy)]
+pub struct Front {
+    pub bytes: [u8; 48],
+}
+
+// A case, and where its differences are printed.
+#[derive(Clone, Copy)]
+pub struct Case {
+    pub number: usize,
+    pub front: Front,
+    pub out: Stdout,
+}
 
 // The word at an index, as a number to reckon with.
 pub fn number(bytes: &[u8], at: usize) -> usize
@@ -11,22 +46,29 @@ pub fn number(bytes: &[u8], at: usize) -> usize
     octets::get(bytes, at) as usize
 }
 
-// The same, but no more than there is room for.
-pub fn lent(front: &[u8; 48], at: usize, most: usize) -> usize
-    requires { at < 12 }
-    ensures { result ≤ most }
-{
-    let n = number(front, at);
-    if n < most { n } else { most }
-}
+impl Front {
+    // The call that the case names, if there is a case.
+    pub fn call(&self) -> Option<Call> {
+        Call::numbered(number(&self.bytes, 1))
+    }
 
-// The answer that the case has.
-pub fn expected(front: &[u8; 48]) -> Answer {
-    Answer {
-        number: number(front, 7) as u64,
-        place: number(front, 8) as u64,
-        words: number(front, 9) as u64,
-        replacements: number(front, 10) as u64,
-        passes: number(front, 11) as u64,
+    // The number at an index, but no more than there is room for.
+    pub fn lent(&self, at: usize, most: usize) -> usize
+        requires { at < 12 }
+        ensures { result ≤ most }
+    {
+        number(&self.bytes, at).min(most)
+    }
+
+    // The answer that the case has.
+    pub fn expected(&self) -> Answer {
+        let front = &self.bytes;
+        Answer {
+            number: number(front, 7) as u64,
+            place: number(front, 8) as u64,
+            words: number(front, 9) as u64,
+            replacements: number(front, 10) as u64,
+            passes: number(front, 11) as u64,
+        }
     }
 }
