@@ -20,7 +20,8 @@ fn byte_of(d: u32) -> u8
 // is weighed (tools/read_only_data.py).
 fn put_bytes(text: &mut [u8], at: usize, bytes: &[u8]) -> usize
     requires { at + length bytes.now ≤ length text.old }
-    ensures { Wrote text.old at bytes.now text.new result }
+    ensures wrote { Wrote text.old at bytes.now text.new result }
+    ensures end { result ≡ at + length bytes.now }
 {
     for (i, b) in bytes.iter().enumerate() {
         text[at + i] = *b;
