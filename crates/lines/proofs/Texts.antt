@@ -184,26 +184,7 @@ length_tenth k l =
 pub length_spaced : (k : ℕ) → length (spaced k) ≤ 21
 length_spaced k = omega (arith, length_decimal 20 k [])
 
--- ---- an answer, part by part
-
--- xs stand at the text's start, up to q, which is at most `most`
-pub record Front (l xs m : List ℕ) (q most : ℕ) : Type 0 where
-  pub wrote : Wrote l 0 xs m q
-  pub size : length m ≡ length l
-  pub near : q ≤ most
-
--- its name
-pub front_name : {l xs m : List ℕ} {q : ℕ} → Wrote l 0 xs m q → length m ≡ length l → Front l xs m q (length xs)
-front_name w size = record { wrote = w; size = size; near = omega (arith, w.end) }
-
-module _ {l xs m : List ℕ} {q most : ℕ} (f : Front l xs m q most) where
-  -- a number behind it
-  pub front_number : {ys n : List ℕ} {r : ℕ} → Wrote m q ys n r × (r ≤ q + 21) → length n ≡ length m → Front l (xs ++ ys) n r (most + 21)
-  front_number w size = record { wrote = wrote_then f.wrote w.0 (omega arith); size = size ∙ f.size; near = omega (arith, w.1, f.near) }
-
-  -- the end of its first line, and what comes behind
-  pub front_lines : {ys n : List ℕ} {r : ℕ} → q < length m → Wrote (set m q line_feed) (q + 1) ys n r → Wrote l 0 (xs ++ ((line_feed ∷ []) ++ ys)) n r
-  front_lines h w = wrote_then f.wrote (wrote_then (wrote_one m q line_feed h) w (omega arith)) (omega arith)
+-- ---- an answer
 
 -- the first number of a result counts its words
 pub printed_ok : (ws : List ℕ) (n replacements passes : ℕ) → length ws ≡ n

@@ -4,8 +4,7 @@ use native.Mathlib.Omega.{arith}
 use Rattle.lower.proofs.Telling.{cut_there, signature_lent, counters_lent, tells_all}
 use Rattle.lower.proofs.lower_words.Goals as goal
 
--- ---- the parts that are lent
-
+-- the bytes of the words, and the part of them that is the signature
 pub slice_bounds-tulgarent_lower-end : goal.slice_bounds-tulgarent_lower-end
 slice_bounds-tulgarent_lower-end c =
     let r = c.requires in
@@ -16,25 +15,6 @@ slice_bounds-tulgarent_lower-end-2 c =
     let r = c.requires in
     let cut = cut_there r.count_le_max_lines c.signature_length-signature.ensures c.min-cut.ensures r.zeros r.output_len in
     omega (arith, cut.inside, cut.bytes)
-
-pub overflow_mul-signature : goal.overflow_mul-signature
-overflow_mul-signature c =
-    let r = c.requires in
-    let cut = cut_there r.count_le_max_lines c.signature_length-signature.ensures c.min-cut.ensures r.zeros r.output_len in
-    omega (arith, cut.most)
-
-pub slice_bounds-tulgarent_lower-end-3 : goal.slice_bounds-tulgarent_lower-end-3
-slice_bounds-tulgarent_lower-end-3 c =
-    let r = c.requires in
-    let cut = cut_there r.count_le_max_lines c.signature_length-signature.ensures c.min-cut.ensures r.zeros r.output_len in
-    cut.counted
-
-pub slice_bounds-tulgarent_lower-end-4 : goal.slice_bounds-tulgarent_lower-end-4
-slice_bounds-tulgarent_lower-end-4 c =
-    let r = c.requires in
-    sym (counters_lent (cut_there r.count_le_max_lines c.signature_length-signature.ensures c.min-cut.ensures r.zeros r.output_len))
-
--- ---- what is answered
 
 pub returns : goal.returns
 returns c =

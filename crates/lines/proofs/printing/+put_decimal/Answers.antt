@@ -4,7 +4,6 @@ use mathlib.Core.List.{[], ◌∷◌, ◌++◌}
 use native.Mathlib.Omega.{arith}
 use Rattle.rules.specs.Program.{decimal_up_to}
 use Rattle.lines.proofs.Texts.{wrote_one, wrote_snoc, wrote_same, decimal_one, decimal_more, length_tenth}
-use lib.ListN.{length-set}
 use Prim.Native.Nat.{ℕ, ◌/◌}
 use Rattle.lines.proofs.printing.+put_decimal.Goals as goal
 
@@ -16,21 +15,7 @@ returns-then-k-lt10 t c =
     let digit = wrote_one a.text.now a.at c.byte_of.result (omega arith) in
     wrote_same (ap (λ (b : ℕ). b ∷ []) c.byte_of.ensures ∙ sym (decimal_one a.k (omega arith))) digit
 
--- ---- more than one: those of the tenth are written
-
-pub put_decimal-end-requires : goal.put_decimal-end-requires
-put_decimal-end-requires t c = (omega (arith, c.decreases), c.requires)
-
--- ---- and the last digit behind them
-
-pub bounds-text-end : goal.bounds-text-end
-bounds-text-end t c = omega (arith, length_tenth c.args.k (omega arith))
-
-pub overflow_add-result-2 : goal.overflow_add-result-2
-overflow_add-result-2 t c = omega (arith, length_tenth c.args.k (omega arith))
-
-pub shape_of-text : goal.shape_of-text
-shape_of-text t c = simp length-set c.put_decimal-end.auto.text
+-- ---- more than one: those of the tenth are written, and the last digit behind them
 
 pub returns : goal.returns
 returns t c =
