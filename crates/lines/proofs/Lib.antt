@@ -5,6 +5,5 @@ pub mod AllLines
 pub mod Answers
 pub mod Enough
 pub mod SignatureLengths
-pub mod Cut
 pub mod Texts
 pub mod RoundTrip

@@ -10,7 +10,7 @@ use lib.Seq.{take-suc, take-set-le, drop-cons, drop-set-lt, get_or-set_same}
 use lib.Dec.{ltb}
 use borrow.Author.Tests.{lt-ltb, le-ltb}
 use Rattle.octets.specs.Regions.{splice, part}
-use Rattle.octets.proofs.Splice.{splice_is, splice_nil, splice_one, splice_then}
+use Rattle.octets.proofs.Splice.{part_all, splice_is, splice_nil, splice_one, splice_then}
 use Rattle.rules.specs.Refusals.{ok}
 use Rattle.rules.specs.Flat.{words_of}
 use Rattle.rules.specs.Calls.{Result}
@@ -112,18 +112,18 @@ lines_more ws i h =
     ∙ ap (λ (l : List ℕ). words_of word_line (part ws 0 i) ++ l) (append-nil (word_line (get_or ws i 0)))
 
 -- i words are written, a line each
-pub record LinesTo (l : List ℕ) (at : ℕ) (ws : List ℕ) (n i : ℕ) (m : List ℕ) (end : ℕ) : Type 0 where
-  pub most : i ≤ n
+pub record LinesTo (l : List ℕ) (at : ℕ) (ws : List ℕ) (i : ℕ) (m : List ℕ) (end : ℕ) : Type 0 where
+  pub most : i ≤ length ws
   pub size : length m ≡ length l
   pub place : end ≡ at + i * 9
   pub wrote : Wrote l at (words_of word_line (part ws 0 i)) m end
 
-pub lines_start : (l : List ℕ) (at : ℕ) (ws : List ℕ) (n : ℕ) → LinesTo l at ws n 0 l at
-lines_start l at ws n = record { most = omega arith; size = refl; place = omega arith; wrote = wrote_nothing l at }
+pub lines_start : (l : List ℕ) (at : ℕ) (ws : List ℕ) → LinesTo l at ws 0 l at
+lines_start l at ws = record { most = omega arith; size = refl; place = omega arith; wrote = wrote_nothing l at }
 
-pub lines_next : {l m k : List ℕ} {at n i end w : ℕ} {ws : List ℕ} → LinesTo l at ws n i m end → i < n → n ≤ length ws → at + n * 9 ≤ length l
-    → w ≡ get_or ws i 0 → length k ≡ length m → k ≡ splice m end (hexadecimal 8 w) → LinesTo l at ws n (i + 1) (set k (end + 8) line_feed) (end + 9)
-lines_next {l} {m} {k} {at} {n} {i} {end} {w} {ws} f h few room e size hex =
+pub lines_next : {l m k : List ℕ} {at i end w : ℕ} {ws : List ℕ} → LinesTo l at ws i m end → i < length ws → at + length ws * 9 ≤ length l
+    → w ≡ get_or ws i 0 → length k ≡ length m → k ≡ splice m end (hexadecimal 8 w) → LinesTo l at ws (i + 1) (set k (end + 8) line_feed) (end + 9)
+lines_next {l} {m} {k} {at} {i} {end} {w} {ws} f h room e size hex =
     let eight : length (hexadecimal 8 w) ≡ 8 = length_hexadecimal 8 w in
     let digits : Wrote m end (hexadecimal 8 w) k (end + 8) = record { end = omega arith; bytes = hex } in
     let line : Wrote m end (word_line w) (set k (end + 8) line_feed) (end + 8 + 1) = wrote_snoc line_feed digits (omega arith) (omega arith) in
@@ -135,6 +135,11 @@ lines_next {l} {m} {k} {at} {n} {i} {end} {w} {ws} f h few room e size hex =
       place = omega arith;
       wrote = rw nine at (wrote_same (ap (λ (x : ℕ). words_of word_line (part ws 0 i) ++ word_line x) e ∙ sym more) (wrote_then f.wrote line (omega arith)));
     }
+
+pub lines_end : {l m : List ℕ} {at i end : ℕ} {ws : List ℕ} → LinesTo l at ws i m end → length ws ≤ i → Wrote l at (words_of word_line ws) m end
+lines_end {i = i} {ws = ws} f h =
+    let e : i ≡ length ws = omega (arith, f.most) in
+    wrote_same (ap (λ (j : ℕ). words_of word_line (part ws 0 j)) e ∙ ap (words_of word_line) (part_all ws)) f.wrote
 
 -- ---- decimal numbers
 

@@ -1,5 +1,8 @@
 // What the program prints, written into a slice that its caller lends. Each writer puts its bytes at `at`; one whose bytes vary in number
 // answers with the place behind them.
+//
+// Digits are written by hand, since std says neither which bytes `write!` leaves in a lent slice nor that it succeeds. Text and place stay two parameters:
+// a struct of both was tried, and each method has to promise that the slice is still the same and as long, which a `&mut [u8]` says by itself.
 ghost use Rattle.std.specs.Prelude.{◌≡◌, [], ◌+◌, ◌*◌, ◌<◌, ◌≤◌, length};
 ghost use Rattle.octets.specs.Words.{words};
 ghost use Rattle.octets.specs.Regions.{splice, part};
@@ -41,13 +44,13 @@ fn put_hexadecimal(text: &mut [u8], at: usize, w: u32)
     }
 }
 
-// The first n words of `input`, a line each.
-fn put_words(text: &mut [u8], at: usize, input: &[u8], n: usize) -> usize
-    requires { (at + n * 9 ≤ length text.old) × (n ≤ length (words input.now)) }
-    ensures { Wrote text.old at (words_of word_line (part (words input.now) 0 n)) text.new result }
+// The words of `input`, a line each.
+fn put_words(text: &mut [u8], at: usize, input: &[u8]) -> usize
+    requires { at + length (words input.now) * 9 ≤ length text.old }
+    ensures { Wrote text.old at (words_of word_line (words input.now)) text.new result }
 {
     let mut end = at;
-    for i in 0..n {
+    for i in 0..octets::count(input) {
         put_hexadecimal(text, end, octets::get(input, i));
         text[end + 8] = b'\n';
         end += 9;
@@ -79,23 +82,17 @@ fn put_spaced(text: &mut [u8], at: usize, k: u64) -> usize
     put_decimal(text, at + 1, k)
 }
 
-// A result: `ok`, its three counts, and its words.
-pub fn print_ok(
-    text: &mut [u8],
-    output: &[u8],
-    count: usize,
-    replacements: u64,
-    passes: u64,
-) -> usize
-    requires { (66 + count * 9 ≤ length text.old) × (count ≤ length (words output.now)) }
-    ensures { Wrote text.old 0 (printed (accepted (part (words output.now) 0 count) replacements passes)) text.new result }
+// A result: `ok`, its three counts, and its words, which are those of `output`.
+pub fn print_ok(text: &mut [u8], output: &[u8], replacements: u64, passes: u64) -> usize
+    requires { 66 + length (words output.now) * 9 ≤ length text.old }
+    ensures { Wrote text.old 0 (printed (accepted (words output.now) replacements passes)) text.new result }
 {
     let name = put_bytes(text, 0, b"ok");
-    let first = put_spaced(text, name, count as u64);
+    let first = put_spaced(text, name, octets::count(output) as u64);
     let second = put_spaced(text, first, replacements);
     let third = put_spaced(text, second, passes);
     text[third] = b'\n';
-    put_words(text, third + 1, output, count)
+    put_words(text, third + 1, output)
 }
 
 // A refusal: `refused`, its number and its place.

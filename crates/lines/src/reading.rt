@@ -66,11 +66,11 @@ pub fn read_lines(input: &[u8], out: &mut [u8]) -> Result<usize, Refusal>
     Ok(input.len() / 9)
 }
 
-// How many of the first n words are the signature: four and H, or all of them if H can't be had.
-pub fn signature_length(input: &[u8], n: usize) -> usize
-    requires { n ≤ length (words input.now) }
-    ensures { result ≡ signature_length (part (words input.now) 0 n) }
+// How many of the words are the signature: four and H, or all of them if H can't be had.
+pub fn signature_length(input: &[u8]) -> usize
+    ensures { result ≡ signature_length (words input.now) }
 {
+    let n = octets::count(input);
     if n == 0 {
         return 0;
     }

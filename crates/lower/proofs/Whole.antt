@@ -1,12 +1,13 @@
 -- The program's text, by how far it came: a line refused, a rule refused, a result. What is known once a rule is lowered is a record, `Told`. Assumes
 -- nothing.
-use mathlib.Core.Path.{◌≡◌, refl, sym, ap, ◌∙◌}
+use mathlib.Core.Path.{◌≡◌, refl, sym, ap, ◌∙◌, subst}
 use mathlib.Core.List.{List}
-use Prim.Native.Nat.{ℕ, ◌≤◌}
+use Prim.Native.Nat.{ℕ, ◌*◌, ◌≤◌}
 use native.Mathlib.Omega.{arith}
 use lib.ListN.{length, take, length-take}
 use Rattle.streams.specs.Counts.{IsPrefixLen}
-use Rattle.octets.specs.Regions.{part}
+use Rattle.octets.specs.Words.{words}
+use Rattle.octets.proofs.Words.{words_take}
 use Rattle.octets.proofs.Splice.{take_splice_all}
 use Rattle.rules.specs.Refusals.{Res, ok, refuse, ◌>>=◌}
 use Rattle.rules.specs.Calls.{Result}
@@ -40,9 +41,11 @@ pub record Told (input : List ℕ) (a : Answer) (output : List ℕ) : Type 0 whe
   pub read : read_lines input ≡ ok given
   pub tells : Tells (lower_all given) a output
 
-pub told : {input before after : List ℕ} {n : ℕ} → LinesRead input before after (Ok n) → {a : Answer} {output : List ℕ}
-    → Tells (lower_all (part after 0 n)) a output → Told input a output
-told lines tells = record { given = _; read = words_read lines; tells = tells }
+-- the words read are the first n of the bytes given
+pub told : {input before : List ℕ} (given : List ℕ) {n : ℕ} → LinesRead input before (words given) (Ok n) → {a : Answer} {output : List ℕ}
+    → Tells (lower_all (words (take (4 * n) given))) a output → Told input a output
+told given {n} lines {a} {output} tells =
+    record { given = _; read = words_read lines; tells = subst (λ (ws : List ℕ). Tells (lower_all ws) a output) (words_take n given) tells }
 
 module _ {input : List ℕ} {a : Answer} {output : List ℕ} (t : Told input a output) where
   by_lowering : {l m : List ℕ} {n : ℕ} (x : Res Result) → lower_all t.given ≡ x → Wrote l 0 (printed x) m n → Wrote l 0 (program input) m n
@@ -55,12 +58,12 @@ module _ {input : List ℕ} {a : Answer} {output : List ℕ} (t : Told input a o
       go (ok o) e z = absurd (h z.fine)
       go (refuse k p) e z = by_lowering (refuse k p) e (wrote_same (λ i. printed (refuse (z.number' i) (z.place' i))) w)
 
-  pub wrote_result : a.number ≡ 0 → {l m : List ℕ} {n : ℕ} → Wrote l 0 (printed (accepted (part output 0 a.words) a.replacements a.passes)) m n
+  pub wrote_result : a.number ≡ 0 → {ws l m : List ℕ} {n : ℕ} → ws ≡ take a.words output → Wrote l 0 (printed (accepted ws a.replacements a.passes)) m n
       → Wrote l 0 (program input) m n
-  wrote_result good {l} {m} {n} w = go (lower_all t.given) refl t.tells
+  wrote_result good {ws} {l} {m} {n} is w = go (lower_all t.given) refl t.tells
     where
       go : (x : Res Result) → lower_all t.given ≡ x → Tells x a output → Wrote l 0 (program input) m n
-      go (ok o) e z = by_lowering (ok o) e (wrote_same ((λ i. printed (accepted (z.words' i) (z.replacements' i) (z.passes' i))) ∙ printed_accepted o) w)
+      go (ok o) e z = by_lowering (ok o) e (wrote_same ((λ i. printed (accepted ((is ∙ z.words') i) (z.replacements' i) (z.passes' i))) ∙ printed_accepted o) w)
       go (refuse k p) e z = absurd (omega (arith, z.some, z.number'))
 
   -- an accepted answer's words are there

@@ -21,29 +21,17 @@ use answers::Answer;
 
 // ---- the program on bytes
 
-// Lowers the first `count` words. As many as the signature should have are the signature, or all of them if there are fewer; the rest is the rule. There is
-// a counter for each word that the signature should have, as in the definition, so that no head is without.
-fn lower_words(
-    given: &[u8],
-    count: usize,
-    counters: &mut [u8],
-    output: &mut [u8],
-    scratch: &mut [u8],
-) -> Answer
-    requires count_le_max_lines { (count ≤ max_lines) × (count ≤ length (words given.now)) }
+// Lowers words. As many as the signature should have are the signature, or all of them if there are fewer; the rest is the rule. There is a counter for each
+// word that the signature should have, as in the definition, so that no head is without.
+fn lower_words(given: &[u8], counters: &mut [u8], output: &mut [u8], scratch: &mut [u8]) -> Answer
+    requires whole_words { (length (words given.now) ≤ max_lines) × (length given.now ≡ 4 * length (words given.now)) }
     requires zeros { Zeros (4 * max_lines) counters.old }
     requires output_len { (length output.old ≡ 4 * scratch_words) × (length scratch.old ≡ 4 * scratch_words) }
-    ensures { Tells (lower_all (part (words given.now) 0 count)) result (words output.new) }
+    ensures { Tells (lower_all (words given.now)) result (words output.new) }
 {
-    let signature = lines::reading::signature_length(given, count);
-    let cut = 4 * signature.min(count);
-    tulgarent::tulgarent_lower(
-        &given[..cut],
-        &given[cut..4 * count],
-        &mut counters[..4 * signature],
-        output,
-        scratch,
-    )
+    let signature = lines::reading::signature_length(given);
+    let (front, rule) = given.split_at(given.len().min(4 * signature));
+    tulgarent::tulgarent_lower(front, rule, &mut counters[..4 * signature], output, scratch)
 }
 
 // The whole program: what `input` comes to, at the front of `text`. Answers with the place behind it. Words and counters have room for a word of each line.
@@ -62,14 +50,18 @@ fn print_program(input: &[u8], text: &mut [u8]) -> usize
     let mut counters = streams::filled::<18448>(0);
     let mut output = streams::filled::<65536>(0);
     let mut scratch = streams::filled::<65536>(0);
-    let answer = lower_words(&given, count, &mut counters, &mut output, &mut scratch);
+    let answer = lower_words(
+        &given[..4 * count],
+        &mut counters,
+        &mut output,
+        &mut scratch,
+    );
     if answer.number != 0 {
         return lines::printing::print_refused(text, answer.number, answer.place);
     }
     lines::printing::print_ok(
         text,
-        &output,
-        answer.words as usize,
+        &output[..4 * answer.words as usize],
         answer.replacements,
         answer.passes,
     )

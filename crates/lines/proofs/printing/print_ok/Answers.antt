@@ -1,11 +1,8 @@
 -- Printing a result: its name, three numbers, a line feed and its words, each written where the part before it ended. Assumes nothing.
-use mathlib.Core.Path.{◌≡◌}
 use native.Mathlib.Omega.{arith}
-use lib.ListN.{length}
 use Rattle.octets.specs.Words.{words}
-use Rattle.octets.specs.Regions.{part}
-use Rattle.octets.proofs.Splice.{length_part}
 use Rattle.lines.proofs.Texts.{wrote_one, wrote_then, wrote_same, printed_ok}
+use mathlib.Core.Path.{sym}
 use Rattle.lines.proofs.printing.print_ok.Goals as goal
 
 pub returns : goal.returns
@@ -15,6 +12,4 @@ returns c =
     let replacements = wrote_then count c.put_spaced-second.ensures.wrote (omega arith) in
     let passes = wrote_then replacements c.put_spaced-third.ensures.wrote (omega arith) in
     let lines = wrote_then (wrote_one c.put_spaced-third.new.text c.put_spaced-third.result 10 (omega arith)) c.put_words.ensures (omega arith) in
-    let ws = part (words a.output.now) 0 a.count in
-    let size : length ws ≡ a.count = length_part (words a.output.now) 0 a.count (omega (arith, c.requires.1)) in
-    wrote_same (printed_ok ws a.count a.replacements a.passes size) (wrote_then passes lines (omega arith))
+    wrote_same (printed_ok (words a.output.now) c.count.result a.replacements a.passes (sym c.count.ensures)) (wrote_then passes lines (omega arith))
