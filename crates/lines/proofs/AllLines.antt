@@ -150,11 +150,14 @@ module _ {input l m : List ℕ} {line : ℕ} (s : ReadTo input l m line) where
   pub read_refused : line * 9 < length input → HasNone input line → (e : Refusal) → e.reason ≡ BadLine → e.place ≡ line + 1
       → LinesRead input (words l) (words m) (Err e)
   read_refused h none e reason place =
-      let is : read_lines input ≡ refuse bad_line (suc line) = lines_refused input line s.good h (malformed_demanded (is_good input line) (suc line) (word_at input line) none) in
+      let is : read_lines input ≡ refuse bad_line (suc line) =
+      lines_refused input line s.good h (malformed_demanded (is_good input line) (suc line) (word_at input line) none) in
       let before : suc line - 1 ≡ line = omega arith in
       record {
         answers = (λ j. refuse (number_of (reason j)) (place j)) ∙ ap (refuse bad_line) (add-one line) ∙ sym (ap (told length) is);
-        writes = s.filled.made ∙ ap (λ (k : ℕ). splice (words l) 0 (first_words input k)) (sym before) ∙ ap (λ (r : Res (List ℕ)). splice (words l) 0 (stored input r)) (sym is);
+        writes =
+            s.filled.made ∙ ap (λ (k : ℕ). splice (words l) 0 (first_words input k)) (sym before)
+            ∙ ap (λ (r : Res (List ℕ)). splice (words l) 0 (stored input r)) (sym is);
         known = reason;
         few = tt;
         near = omega (arith, s.filled.most);

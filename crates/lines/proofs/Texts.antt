@@ -50,7 +50,8 @@ pub record BytesTo (l : List ℕ) (at : ℕ) (xs : List ℕ) (i : ℕ) (m : List
 pub bytes_start : (l : List ℕ) (at : ℕ) (xs : List ℕ) → BytesTo l at xs 0 l
 bytes_start l at xs = record { size = refl; wrote = record { end = refl; bytes = sym (splice_nil l at) } }
 
-pub bytes_next : {l m xs : List ℕ} {at i : ℕ} → BytesTo l at xs i m → i < length xs → at + length xs ≤ length l → BytesTo l at xs (i + 1) (set m (at + i) (get_or xs i 0))
+pub bytes_next : {l m xs : List ℕ} {at i : ℕ} → BytesTo l at xs i m → i < length xs → at + length xs ≤ length l
+    → BytesTo l at xs (i + 1) (set m (at + i) (get_or xs i 0))
 bytes_next {l} {m} {xs} {at} {i} f h room =
     let next : at + i + 1 ≡ at + (i + 1) = omega arith in
     record {

@@ -35,7 +35,8 @@ module _ (l : List ℕ) (k : ℕ) where
           ap (λ (n : ℕ). drop n l) is
       go false e =
           let is : min (length l) (4 * k) ≡ length l = omega (arith, leb-false (4 * k) (length l) e) in
-          ap (λ (n : ℕ). drop n l) is ∙ drop_of_length-le l {i = length l} (omega arith) ∙ sym (drop_of_length-le l {i = 4 * k} (omega (arith, leb-false (4 * k) (length l) e)))
+          ap (λ (n : ℕ). drop n l) is ∙ drop_of_length-le l {i = length l} (omega arith)
+          ∙ sym (drop_of_length-le l {i = 4 * k} (omega (arith, leb-false (4 * k) (length l) e)))
 
   pub signature_cut : words (take (min (length l) (4 * k)) l) ≡ take k (words l)
   signature_cut = ap words take_min ∙ words_take k l

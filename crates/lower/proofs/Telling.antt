@@ -121,7 +121,9 @@ module _ {given front rule counters output scratch : List ℕ} {signature : ℕ}
       zeros_words counters max_lines signature h.zeros (signature_most given h.few h.is) ∙ ap (λ (i : ℕ). replicate i 0) h.is in
       let room : length output / 4 ≡ scratch_words = omega (arith, h.room) in
       let work : length scratch / 4 ≡ scratch_words = omega (arith, h.work) in
-      ap (λ (t : Bool). ◌>>=◌ (demand t ragged 0 lengths) (λ ns. lower_words (words front) (words rule) (words cb) (length output / 4) (length scratch / 4))) whole_lem
+      ap
+      (λ (t : Bool). ◌>>=◌ (demand t ragged 0 lengths)
+      (λ ns. lower_words (words front) (words rule) (words cb) (length output / 4) (length scratch / 4))) whole_lem
       ∙ (λ i. lower_words (sb i) (rb i) (zero i) (room i) (work i))
 
   pub tells_all : {r : Answer} {m d : List ℕ} → GivesBoth (lower front rule cb output (length scratch)) r m d → Tells (lower_all (words given)) r (words m)

@@ -8,7 +8,8 @@ pub returns : goal.returns
 returns c =
     let given = c.args.given.now in
     let r = c.requires in
-    let lent : Lent given c.signature_length-signature.result c.split_at.result.0.now c.split_at.result.1.now c.args.counters.now c.args.output.now c.args.scratch.now =
+    let parts = c.split_at.result in
+    let lent : Lent given c.signature_length-signature.result parts.0.now parts.1.now c.args.counters.now c.args.output.now c.args.scratch.now =
     record {
       few = r.whole_words.0;
       whole = r.whole_words.1;

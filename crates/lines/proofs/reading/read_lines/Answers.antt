@@ -26,7 +26,8 @@ loop-line-init c =
 -- ---- a line
 
 -- the chunk of this turn
-chunk : {input rest x rest' : List ℕ} {k size : ℕ} → rest ≡ drop (k * 9) input → size ≡ 9 → rest ≡ x ++ rest' → length x ≡ min size (length rest) → 0 < length rest
+chunk : {input rest x rest' : List ℕ} {k size : ℕ} → rest ≡ drop (k * 9) input → size ≡ 9 → rest ≡ x ++ rest'
+    → length x ≡ min size (length rest) → 0 < length rest
     → Chunk input k rest x rest'
 chunk {rest = rest} begins nine cut len some = record { begins = begins; cut = cut; size = len ∙ ap (λ (n : ℕ). min n (length rest)) nine; some = some }
 
@@ -34,7 +35,8 @@ chunk {rest = rest} begins nine cut len some = record { begins = begins; cut = c
 word_there : {input rest x rest' : List ℕ} {k line w : ℕ} → Chunk input k rest x rest' → line ≡ k → ok w ≡ line_at x 0 line → HasWord input k w
 word_there {x = x} {w = w} here place is = subst (λ (j : ℕ). ok w ≡ line_at x 0 j) place is ∙ chunk_line here
 
-none_there : {input rest x rest' : List ℕ} {k line : ℕ} → Chunk input k rest x rest' → line ≡ k → refuse bad_line (suc line) ≡ line_at x 0 line → HasNone input k
+none_there : {input rest x rest' : List ℕ} {k line : ℕ} → Chunk input k rest x rest' → line ≡ k
+    → refuse bad_line (suc line) ≡ line_at x 0 line → HasNone input k
 none_there {x = x} here place is = subst (λ (j : ℕ). refuse bad_line (suc j) ≡ line_at x 0 j) place is ∙ chunk_line here
 
 pub returns-in_default : goal.returns-in_default

@@ -19,7 +19,9 @@ pub loop-b-init : goal.loop-b-init
 loop-b-init c = spelt_start _
 
 pub returns-in_err-w : goal.returns-in_err-w
-returns-in_err-w c = λ line. ap (λ r. line_says r line) c.from_residual.ensures ∙ spelt_bad c.loop-b.invariant c.loop-b-test.true c.in_err-w.ensures line ∙ eight c.args.input.now c.args.at line
+returns-in_err-w c =
+    λ line. ap (λ r. line_says r line) c.from_residual.ensures
+    ∙ spelt_bad c.loop-b.invariant c.loop-b-test.true c.in_err-w.ensures line ∙ eight c.args.input.now c.args.at line
 
 pub overflow_mul-w : goal.overflow_mul-w
 overflow_mul-w c = omega (arith, spelt_room c.loop-b.invariant (omega arith))
