@@ -13,14 +13,8 @@ ghost use Rattle.rules.specs.Signature.{read_signature};
 ghost use Rattle.written.specs.Written.{whole_of};
 ghost use Rattle.reads.specs.Answers.{Says, heads_behind, written_alone, flat_alone, Answers};
 
-<<<<<<< HEAD
-use lines::reading::Line;
 use refusals::{Reason, Refusal};
-use std::io::Stdout;
-=======
 use std::io::{Stdout, Write};
-use written::Ending;
->>>>>>> c8a01ad (replay: calls by an enum, a case as one value, comparison and printing by std)
 
 // The bytes of a word in a line: a space and eight digits.
 const SPACED: usize = 9;
@@ -70,13 +64,8 @@ fn read_words(line: &[u8], out: &mut [u8]) -> Option<usize>
         if word[0] != b' ' || octets::count(out) <= count {
             return None;
         }
-<<<<<<< HEAD
-        let Line::Word(w) = lines::reading::spelled(word, 1) else {
+        let Some(w) = lines::reading::spelled(word, 1) else {
             return None;
-=======
-        let Some(w) = lines::reading::spelled(line, at + 1) else {
-            return other();
->>>>>>> c8a01ad (replay: calls by an enum, a case as one value, comparison and printing by std)
         };
         octets::put(out, count, w);
         count += 1;
@@ -141,35 +130,13 @@ fn read_record(reader: Reader, bytes: &[u8], heads: u32) -> Answer
 
 // ---- printing
 
-<<<<<<< HEAD
-// Prints a reader's letter and what it answers for a record.
+// Prints a reader's letter and what it answers for a record. What can't be printed is passed over, here and below: the lines that follow are read all the same.
 fn print_answer(out: &mut Stdout, letter: u8, answer: Answer) {
-    let text = [letter];
-    streams::write_all(out, &text);
-    match answer.read {
-        Ok(count) => {
-            streams::write_all(out, b" ok ");
-            streams::print_decimal(out, count as u64);
-        }
-        Err(refusal) => {
-            streams::write_all(out, b" refused ");
-            streams::print_decimal(out, refusal.reason.number());
-            streams::write_all(out, b" ");
-            streams::print_decimal(out, refusal.place as u64);
-        }
-    }
-    streams::write_all(out, b"\n");
-=======
-// Prints a reader's letter and what it answers for a record of so many words. What can't be printed is passed over, here and below: the lines that follow
-// are read all the same.
-fn print_answer(out: &mut Stdout, letter: u8, answer: Answer, count: usize) {
     let reader = char::from(letter);
-    let _ = if answer.refused == 0 {
-        writeln!(out, "{reader} ok {count}")
-    } else {
-        writeln!(out, "{reader} refused {} {}", answer.refused, answer.place)
+    let _ = match answer.read {
+        Ok(count) => writeln!(out, "{reader} ok {count}"),
+        Err(refusal) => writeln!(out, "{reader} refused {} {}", refusal.reason.number(), refusal.place),
     };
->>>>>>> c8a01ad (replay: calls by an enum, a case as one value, comparison and printing by std)
 }
 
 // Reads a line's record and prints the answer. Returns H for the lines that follow.
@@ -177,17 +144,10 @@ fn print_record(out: &mut Stdout, line: &[u8], heads: u32) -> u32
     requires { 0 < length line.now }
 {
     let letter = line[0];
-<<<<<<< HEAD
-    let mut room = streams::large_buffer();
+    let mut room = streams::filled::<65536>(0);
     let read = (Reader::try_from(letter), read_words(line, &mut room));
     let (Ok(reader), Some(end)) = read else {
-        streams::write_all(out, b"malformed\n");
-=======
-    let mut room = streams::filled::<65536>(0);
-    let words = read_words(line, &mut room);
-    if !words.good || !is_reader(letter) {
         let _ = streams::write_all(out, b"malformed\n");
->>>>>>> c8a01ad (replay: calls by an enum, a case as one value, comparison and printing by std)
         return heads;
     };
     let answer = read_record(reader, &room[..end], heads);
@@ -197,15 +157,9 @@ fn print_record(out: &mut Stdout, line: &[u8], heads: u32) -> u32
 
 // Prints what a line comes to. Returns H for the lines that follow.
 fn print_line(out: &mut Stdout, line: &[u8], heads: u32) -> u32 {
-<<<<<<< HEAD
     if line.is_empty() || line[0] == b'#' {
-        streams::write_all(out, line);
-        streams::write_all(out, b"\n");
-=======
-    if line.len() == 0 || line[0] == b'#' {
         let _ = streams::write_all(out, line);
         let _ = streams::write_all(out, b"\n");
->>>>>>> c8a01ad (replay: calls by an enum, a case as one value, comparison and printing by std)
         return heads;
     }
     print_record(out, line, heads)
