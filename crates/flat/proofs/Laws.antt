@@ -27,11 +27,10 @@ use Rattle.meaning.proofs.Lists.{and_left}
 use Rattle.meaning.proofs.Results.{ok_inj}
 use Rattle.flat.specs.Flat.{AtomNumbers, term_numbers, atom_numbers, numbers_from, is_term_at, term_at, first_at, read_behind}
 use Rattle.written.specs.Written.{with_heads, with_globals, ending_of, or_unfit}
-use Rattle.written.proofs.Walking.{Went, stops, made, both, row, then_then}
+use Rattle.written.proofs.Walking.{stops, made, then_made, both, then_then}
 use Rattle.words.proofs.WordAt.{Here, There, NotKind}
 use Rattle.written.proofs.Expected.{word_fits, word_unfit, heads_with, heads_most, head_with, head_other, head_high, head_fits_lem, head_count}
 use Rattle.written.proofs.Expected.{no_code_lem, as_code, change_code, NoneOf, last_code}
-use Rattle.flat.proofs.Ends.{went_term}
 use Rattle.words.specs.declared.Word.TheVariants as Said
 
 -- ---- what an action may bind
@@ -130,9 +129,9 @@ module _ (s : Sig) (ws : List ℕ) (p : ℕ) {x : Option Term} (read : or_unfit 
 
 -- ---- rows
 
-module _ {A : Type 0} (ws : List ℕ) (one : Reader A) (went : (p : ℕ) → Went ws p 1 (one p)) where
+module _ {A : Type 0} (one : Reader A) where
   more : (n p : ℕ) → ending_of (read_row one (suc n) p) ≡ ending_of (◌>>=◌ (one p) (λ x. read_row one n x.at))
-  more = (row ws one went).more
+  more n p = then_made (one p) (read_row one n) _
 
   -- a row and one more: a row that is one longer
   pub row_last : {B : Type 0} (n p : ℕ) (f : Read (List A) → Read A → B)
@@ -316,7 +315,7 @@ module _ (H : ℕ) {ws : List ℕ} {p : ℕ} {a : Begun} (t : AtomAt ws p a) (is
   pair_goes two =
       let e = equality_is_word in
       rw (two, t.says.terms_at, add-one p, lt-ltb p (length ws) t.inside, e.0, eq-eqb (get_or ws p 0) equality_word (omega arith))
-      (row_pair ws (read_term (with_heads H) ws) (went_term (with_heads H) ws) (suc p) _)
+      (row_pair (read_term (with_heads H) ws) (suc p) _)
 
   pub odd_refused : ¬ (a.count ≡ 2) → refuse not_two p ≡ ending_of (read_atom (with_heads H) ws p)
   odd_refused odd =
@@ -352,7 +351,7 @@ module _ (H : ℕ) {ws : List ℕ} {p h : ℕ} {a : Begun} (t : AtomAt ws p a) (
       let n : ℕ = count_of (get_or ws p 0) in
       let up : a.count ≡ suc (n - 1) = omega arith in
       rw (t.says.terms_at, add-one p, lt-ltb p (length ws) t.inside, e.0, e.1, lt-ltb h H low, ne_eqb n 0 (λ z. some (omega arith)))
-      (ap (λ n. ending_of (read_row (read_term (with_heads H) ws) n (suc p))) up ∙ row_last ws (read_term (with_heads H) ws) (went_term (with_heads H) ws) (n - 1) (suc p) _)
+      (ap (λ n. ending_of (read_row (read_term (with_heads H) ws) n (suc p))) up ∙ row_last (read_term (with_heads H) ws) (n - 1) (suc p) _)
 
 -- ---- a kind 3 word and its terms
 
@@ -408,7 +407,7 @@ module _ (s : Sig) {ws : List ℕ} {p : ℕ} where
         change_code (by s ws p) t lo hi (here ∙ sym (made (read_terms s ws (suc p)) _)) (here ∙ sym (made (read_terms s ws (suc p)) _))
 
     pub union_goes : n ≡ 5 → z ≡ ending_of (read_row (read_term s ws) 2 (p + 1)) → z ≡ ending_of (read_core_action s ws p)
-    union_goes five e = action_by 5 five (e ∙ row_pair ws (read_term s ws) (went_term s ws) (p + 1) _)
+    union_goes five e = action_by 5 five (e ∙ row_pair (read_term s ws) (p + 1) _)
 
     pub panic_goes : n ≡ 6 → z ≡ ending_of (read_word ws is_literal_word (p + 1)) → z ≡ ending_of (read_core_action s ws p)
     panic_goes six e = action_by 6 six (e ∙ sym (made (read_word ws is_literal_word (p + 1)) _))
