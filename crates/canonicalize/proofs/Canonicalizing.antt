@@ -106,7 +106,8 @@ pub record Tabled (l : List ℕ) (at n to d table buckets : ℕ) : Type 0 where
   pub room : to + weight (atoms_in l at n) + binding_size * length (atoms_in l at n) + binding_size ≤ d
   pub top : d ≤ length l
 
-module _ {l : List ℕ} {at n to d : ℕ} (c : CanonicalizeAsks l at n to d) {m : List ℕ} {table buckets : ℕ} (place : table ≡ at + n) (b : Built l m at n table buckets) where
+module _ {l : List ℕ} {at n to d : ℕ} (c : CanonicalizeAsks l at n to d) {m : List ℕ} {table buckets : ℕ}
+    (place : table ≡ at + n) (b : Built l m at n table buckets) where
   made_table : Only l m table (table + 2 * buckets)
   made_table = built_only b (omega (arith, place, c.clear, c.room, c.top, b.few))
 

@@ -96,7 +96,8 @@ equality_read {l} {p} {r} e a =
     record { word = e; left = a.terms_at; right = omega (arith, a.terms_at); next = omega (arith, a.next_at, n, e) }
 
 -- the atom at p was read as an equality
-pub met : {l : List ℕ} {at n p d table buckets : ℕ} {r : word.Atom} → StepAsks l at n p d table buckets → AtomSays r (get_or l p 0) p → r.head ≡ Eq → Equality l p r
+pub met : {l : List ℕ} {at n p d table buckets : ℕ} {r : word.Atom} → StepAsks l at n p d table buckets → AtomSays r (get_or l p 0) p
+    → r.head ≡ Eq → Equality l p r
 met asks says is = equality_read (sign_word asks.begins.first says is) says
 
 -- ---- what two terms ask for
@@ -240,7 +241,8 @@ abbrev pub StepAnswers : Sig → (l m : List ℕ) (at n p d table buckets r : �
 StepAnswers s l m at n p d table buckets r = (r ≡ place_after (ask_at s l p) d) × Stepped (ask_at s l p) l m at n d table buckets
 
 -- its terms are a and b, and t says what they ask for
-pub asks_terms : (s : Sig) {l : List ℕ} {p a b : ℕ} {r : word.Atom} {t : prelude.Option code.Replacement} → Equality l p r → a ≡ get_or l r.terms 0 → b ≡ get_or l (r.terms + 1) 0
+pub asks_terms : (s : Sig) {l : List ℕ} {p a b : ℕ} {r : word.Atom} {t : prelude.Option code.Replacement} → Equality l p r
+    → a ≡ get_or l r.terms 0 → b ≡ get_or l (r.terms + 1) 0
     → t ≡ asked_of (replacement_of (same_term a b) (is_var s a) (is_var s b) a b) → t ≡ asked_of (ask_at s l p)
 unfolding ask_at
 asks_terms s {l} {p} q ea eb et =

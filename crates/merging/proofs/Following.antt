@@ -248,7 +248,8 @@ module _ {l m : List ℕ} {from n i links to next k : ℕ} {w : Following l m fr
         fits = omega (arith, g.below, g.fits);
       }
 
-module _ {l m : List ℕ} {from n i links to next k : ℕ} {w : Following l m from n i links to next k} {j : ℕ} {g : Met w j} {m₂ : List ℕ} {r : ℕ} (s : Stepped g m₂ r) where
+module _ {l m : List ℕ} {from n i links to next k : ℕ} {w : Following l m from n i links to next k} {j : ℕ} {g : Met w j}
+    {m₂ : List ℕ} {r : ℕ} (s : Stepped g m₂ r) where
   low_words : (p : ℕ) → links + 2 ≤ p → p ≤ links + j → get_or m₂ p 0 ≡ get_or m p 0
   low_words p x y = get_or_only_after p s.writing (omega (arith, room_then g)) ∙ get_or_only_before p s.marking (omega (arith, g.low))
 

@@ -57,7 +57,8 @@ pub record OneRead (s : Sig) (l : List ℕ) (left right p n : ℕ) (area : Area)
   pub asks : JoinOneAsks s l left p n area
   pub is : right ≡ get_or l p 0
 
-pub one_read : {s : Sig} {l : List ℕ} {left right p n : ℕ} {area : Area} → JoinOneAsks s l left p n area → right ≡ get_or l p 0 → OneRead s l left right p n area
+pub one_read : {s : Sig} {l : List ℕ} {left right p n : ℕ} {area : Area} → JoinOneAsks s l left p n area → right ≡ get_or l p 0
+    → OneRead s l left right p n area
 one_read asks is = record { asks = asks; is = is }
 
 module _ {s : Sig} {l : List ℕ} {left right p n : ℕ} {area : Area} (o : OneRead s l left right p n area) where

@@ -8,17 +8,20 @@ use Rattle.emitting.proofs.finish.Goals as goal
 
 pub overflow_mul-needed : goal.overflow_mul-needed
 overflow_mul-needed c =
-    let at_known = bounded c.requires (omega (arith, length_words c.args.scratch.now, c.well_formed)) (omega (arith, length_words c.args.head.source.now, c.well_formed)) in
+    let at_known = bounded c.requires (omega (arith, length_words c.args.scratch.now, c.well_formed))
+    (omega (arith, length_words c.args.head.source.now, c.well_formed)) in
     omega (arith, at_known)
 
 pub overflow_add-needed-2 : goal.overflow_add-needed-2
 overflow_add-needed-2 c =
-    let at_known = bounded c.requires (omega (arith, length_words c.args.scratch.now, c.well_formed)) (omega (arith, length_words c.args.head.source.now, c.well_formed)) in
+    let at_known = bounded c.requires (omega (arith, length_words c.args.scratch.now, c.well_formed))
+    (omega (arith, length_words c.args.head.source.now, c.well_formed)) in
     omega (arith, at_known)
 
 pub overflow_add-needed-3 : goal.overflow_add-needed-3
 overflow_add-needed-3 c =
-    let at_known = bounded c.requires (omega (arith, length_words c.args.scratch.now, c.well_formed)) (omega (arith, length_words c.args.head.source.now, c.well_formed)) in
+    let at_known = bounded c.requires (omega (arith, length_words c.args.scratch.now, c.well_formed))
+    (omega (arith, length_words c.args.head.source.now, c.well_formed)) in
     omega (arith, at_known)
 
 pub returns-then-count-needed : goal.returns-then-count-needed
@@ -26,12 +29,14 @@ returns-then-count-needed c b xs p = no_room p c.args.output.now (omega (arith, 
 
 pub overflow_cast-counts-2 : goal.overflow_cast-counts-2
 overflow_cast-counts-2 c =
-    let at_known = bounded c.requires (omega (arith, length_words c.args.scratch.now, c.well_formed)) (omega (arith, length_words c.args.head.source.now, c.well_formed)) in
+    let at_known = bounded c.requires (omega (arith, length_words c.args.scratch.now, c.well_formed))
+    (omega (arith, length_words c.args.head.source.now, c.well_formed)) in
     omega (arith, at_known)
 
 pub overflow_add-counts-3 : goal.overflow_add-counts-3
 overflow_add-counts-3 c =
-    let at_known = bounded c.requires (omega (arith, length_words c.args.scratch.now, c.well_formed)) (omega (arith, length_words c.args.head.source.now, c.well_formed)) in
+    let at_known = bounded c.requires (omega (arith, length_words c.args.scratch.now, c.well_formed))
+    (omega (arith, length_words c.args.head.source.now, c.well_formed)) in
     omega (arith, at_known)
 
 pub emit-requires : goal.emit-requires

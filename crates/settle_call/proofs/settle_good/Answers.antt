@@ -3,7 +3,8 @@ use mathlib.Core.Path.{refl}
 use native.Mathlib.Omega.{arith}
 use Rattle.octets.specs.Words.{words}
 use Rattle.octets.proofs.Words.{length_words_kept}
-use Rattle.settle_call.proofs.SettleGood.{some_word, few_globals, known_equals, Begun, begun, Found, read_well, found, copy_asks, Copied, copied, Done, is_done, stand, ended}
+use Rattle.settle_call.proofs.SettleGood.{some_word, few_globals, known_equals}
+use Rattle.settle_call.proofs.SettleGood.{Begun, begun, Found, read_well, found, copy_asks, Copied, copied, Done, is_done, stand, ended}
 use Rattle.settle_call.proofs.settle_good.Goals as goal
 
 pub get-counts-requires : goal.get-counts-requires

@@ -7,7 +7,9 @@ use Rattle.canonicalize.proofs.Fronting.{Fronting}
 use Rattle.canonicalize.proofs.Sweep.canonicalize_front.Given as goal
 
 abbrev pub invariant-loop-i : goal.invariant-loop-i
-invariant-loop-i l = (length l.s ≡ length l.initial.s) × Fronting (sig l.self.sign) (words l.initial.s) (words l.s) l.at l.e l.k l.to l.d l.self.spans.at l.self.spans.count l.i l.t
+invariant-loop-i l =
+    (length l.s ≡ length l.initial.s)
+    × Fronting (sig l.self.sign) (words l.initial.s) (words l.s) l.at l.e l.k l.to l.d l.self.spans.at l.self.spans.count l.i l.t
 
 abbrev pub decreases-loop-i : goal.decreases-loop-i
 decreases-loop-i l = l.e - l.i

@@ -7,7 +7,9 @@ use Rattle.merging.proofs.Following.{Following}
 use Rattle.merging.proofs.Pass.group.Given as goal
 
 abbrev pub invariant-loop-next : goal.invariant-loop-next
-invariant-loop-next l = (length l.s ≡ length l.initial.s) × Following (words l.initial.s) (words l.s) l.self.from l.self.n l.i l.self.links l.to (link_of l.next) l.k
+invariant-loop-next l =
+    (length l.s ≡ length l.initial.s)
+    × Following (words l.initial.s) (words l.s) l.self.from l.self.n l.i l.self.links l.to (link_of l.next) l.k
 
 abbrev pub decreases-loop-next : goal.decreases-loop-next
 decreases-loop-next l = left_from l.self.n (link_of l.next)

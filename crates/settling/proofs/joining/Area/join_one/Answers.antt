@@ -34,5 +34,8 @@ returns c =
     let asks : (let a = c.args in join_ask (sig a.self.sign) a.left c.get-right.result ≡ some r) =
     is_join_ask _ _ _ ∙ asked_some _ c.in-Some.asked (sym c.in-Some.is ∙ c.replacement_of.ensures) in
     let new_left : c.if-asked-left.now ≡ replace_term r c.args.left =
-    elim c.if-asked-left.branch [ then-asked-left w ↦ renamed _ _ _ w.if-asked-left.true w.now-is | else-asked-left w ↦ not_renamed _ _ _ w.if-asked-left.false w.now-is ] in
+    elim c.if-asked-left.branch [
+      | then-asked-left w ↦ renamed _ _ _ w.if-asked-left.true w.now-is
+      | else-asked-left w ↦ not_renamed _ _ _ w.if-asked-left.false w.now-is
+    ] in
     joined_asked (one_read c.requires c.get-right.ensures.is) asks c.replace_met.ensures c.replace.ensures c.put_three.ensures.1 new_left
