@@ -2,6 +2,7 @@
 //
 // A link is 1 + the offset of an atom in the body, or 0 for none. The link of the atom at offset i is the word at links + i + 1, and the word
 // behind it is its mark, 0 at first. The word at `links` itself stands for the last atom of an empty bucket, so that linking has no branch.
+// Links and buckets are words of the scratch, since there is no memory but what is lent.
 ghost use Rattle.std.specs.Prelude.{◌+◌, ◌≡◌, ◌<◌, length, get_or};
 ghost use Rattle.octets.specs.Words.{words};
 ghost use Rattle.bodies.specs.Standing.{size_at};

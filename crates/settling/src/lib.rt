@@ -66,6 +66,7 @@ pub fn settle(s: &mut [u8], at: usize, n: usize, q: Sign) -> Settled
     let end = at + 8 * n + 3;
     let mut c = canonicalize::canonicalize(s, at, n, body, end, q);
     let mut passes = 0;
+    // Passes are counted by hand: a range of them would have an end that is never reached, with an answer of its own.
     loop {
         let pass = Pass {
             from: body,
