@@ -9,10 +9,13 @@ use borrow.Author.Tests.{leb-true}
 use Rattle.octets.specs.Words.{words, bytes_of}
 use Rattle.octets.proofs.Words.{bytes_words, words_injective, length_words, length_words_kept}
 use Rattle.rules.specs.Refusals.{Res, ok, refuse, ◌>>=◌, short_output}
-use Rattle.rules.specs.Signature.{heads}
+use Rattle.rules.specs.Signature.{Sig, heads}
 use Rattle.rules.specs.Written.{Rule}
 use Rattle.rules.specs.ToCoreActions.{CoreRule, to_core_rule}
 use Rattle.rules.specs.RemoveDupVars.{settle}
+use Rattle.std.specs.Prelude.{Result as Outcome, Ok, Err}
+use Rattle.refusals.specs.Numbers.{number_of}
+use Rattle.refusals.specs.declared.Refusal.{Refusal}
 use Rattle.rules.specs.Calls.{Result, settled_result, lower_rule, whole_words, lower}
 use Rattle.refusals.specs.Numbers.{told}
 use Rattle.signature.specs.Signature.{sign_of}
@@ -92,9 +95,9 @@ module _ (k : Given) where
     abbrev core : Res CoreRule
     core = to_core_rule y.sig y.passed.rule (words k.counters)
 
--- ---- the rule is lowered: w, with the output m and the counters d left behind
+-- ---- the rule is lowered with the outcome w, which leaves the output m and the counters d
 
-pub record Worked (k : Given) {g : Signature} (y : Ready (lowering k) g) (w : Lowered) (m d : List ℕ) : Type 0 where
+pub record Worked (k : Given) {g : Signature} (y : Ready (lowering k) g) (w : Outcome Lowered Refusal) (m d : List ℕ) : Type 0 where
   pub lowers : LowersTo y.sig (core k y) (words k.counters) (words d) k.output m w
   pub output : length m ≡ length k.output
   pub counters : length d ≡ length k.counters
@@ -104,7 +107,7 @@ pub record Worked (k : Given) {g : Signature} (y : Ready (lowering k) g) (w : Lo
   pub counters_after : Bytes d
 
 module _ (k : Given) {g : Signature} (y : Ready (lowering k) g) where
-  pub worked : {w : Lowered} {m d : List ℕ}
+  pub worked : {w : Outcome Lowered Refusal} {m d : List ℕ}
       → LowersRead (words k.signature) (words k.rule) g (words k.counters) (words d) k.output m w
       → length m ≡ length k.output → length d ≡ length k.counters → Bytes k.output → Bytes m → Bytes k.counters → Bytes d → Worked k y w m d
   worked did em ed o m c d =
@@ -118,45 +121,41 @@ module _ (k : Given) {g : Signature} (y : Ready (lowering k) g) where
         counters_after = d;
       }
 
-module _ {k : Given} {g : Signature} {y : Ready (lowering k) g} {w : Lowered} {m d : List ℕ} (o : Worked k y w m d) where
-  abbrev Core : Res CoreRule → Type 0
-  Core x = LowersTo y.sig x (words k.counters) (words d) k.output m w
+abbrev result_of : Sig → CoreRule → Result
+result_of s c = settled_result (settle s c.body) c.head c.next
 
-  abbrev result_of : CoreRule → Result
-  result_of c = settled_result (settle y.sig c.body) c.head c.next
+abbrev settles : Sig → Res CoreRule → Res Result
+settles s x = ◌>>=◌ x (λ c. ok (result_of s c))
 
-  abbrev settles : Res CoreRule → Res Result
-  settles x = ◌>>=◌ x (λ c. ok (result_of c))
-
+module _ {k : Given} {g : Signature} {y : Ready (lowering k) g} {m d : List ℕ} where
   -- counters with the same words are the same bytes
-  unused : words d ≡ words k.counters → d ≡ k.counters
-  unused e = words_injective d k.counters o.counters_after o.counters_before (omega (arith, o.counters, y.whole.counters)) y.whole.counters e
+  unused : {w : Outcome Lowered Refusal} → Worked k y w m d → words d ≡ words k.counters → d ≡ k.counters
+  unused o e = words_injective d k.counters o.counters_after o.counters_before (omega (arith, o.counters, y.whole.counters)) y.whole.counters e
 
-  pub rule_refused : (w.refused ≡ 0 → ⊥) → {r : Answer} → r ≡ refused_with w.refused w.place → Answers (lowering k) r m d
-  rule_refused bad {r} a = go (core k y) refl o.lowers
+  pub rule_refused : {q : Refusal} → Worked k y (Err q) m d → {r : Answer} → r ≡ refused_with (number_of q.reason) q.place → Answers (lowering k) r m d
+  rule_refused {q} o {r} a = go (core k y) refl o.lowers
     where
-      go : (x : Res CoreRule) → core k y ≡ x → Core x → Answers (lowering k) r m d
-      go (ok c) e z = absurd (bad z.fine)
-      go (refuse n p) e z =
-          work_refuses y (ap settles e) (a ∙ (λ i. refused_with (z.number' i) (z.place' i))) z.output (unused z.counters)
+      go : (x : Res CoreRule) → core k y ≡ x → LowersTo y.sig x (words k.counters) (words d) k.output m (Err q) → Answers (lowering k) r m d
+      go (ok c) e z = absurd z
+      go (refuse n p) e z = work_refuses y (ap (settles y.sig) e) (a ∙ (λ i. refused_with (z.number' i) (z.place' i))) z.output (unused o z.counters)
 
-  module _ (fine : w.refused ≡ 0) where
+  module _ {w : Lowered} (o : Worked k y (Ok w) m d) where
     abbrev Accepted : Type 0
     Accepted = (c : CoreRule) × (core k y ≡ ok c) × LoweredTo y.sig c (words k.counters) (words d) k.output m w
 
     known : Accepted
     known = go (core k y) refl o.lowers
       where
-        go : (x : Res CoreRule) → core k y ≡ x → Core x → Accepted
+        go : (x : Res CoreRule) → core k y ≡ x → LowersTo y.sig x (words k.counters) (words d) k.output m (Ok w) → Accepted
         go (ok c) e z = (c, e, z)
-        go (refuse n p) e z = absurd (omega (arith, z.number', z.some))
+        go (refuse n p) e z = absurd z
 
     abbrev lower_done : Done y w.needed w.replacements w.passes m
     lower_done =
         let z = known.2 in
         record {
-          result = result_of known.0;
-          is = ap settles known.1;
+          result = result_of y.sig known.0;
+          is = ap (settles y.sig) known.1;
           wrote = z.wrote;
           replaced = z.replacements;
           passed = z.passes;
@@ -171,7 +170,7 @@ module _ {k : Given} {g : Signature} {y : Ready (lowering k) g} {w : Lowered} {m
 
       -- no room: the counters are as they were
       pub lower_short : count < w.needed → {r : Answer} → r ≡ refused_with short_output w.needed → Answers (lowering k) r m d
-      lower_short l a = too_short lower_done words_are l a (unused (known.2.uncounted (omega (arith, words_kept))))
+      lower_short l a = too_short lower_done words_are l a (unused o (known.2.uncounted (omega (arith, words_kept))))
 
       -- room for all of it: the counters are used
       pub lower_written : w.needed ≤ count → {r : Answer} → r ≡ answer_of w → Answers (lowering k) r m d

@@ -5,6 +5,8 @@ use native.Mathlib.Omega.{arith}
 use mathlib.Core.Path.{◌≡◌, refl, sym, ◌∙◌, ap, subst}
 use mathlib.Core.List.{List}
 use lib.ListN.{length, take}
+use Rattle.std.specs.Prelude.{Result, Ok, Err}
+use Rattle.refusals.specs.declared.Refusal.{Refusal}
 use Rattle.octets.specs.Words.{words}
 use Rattle.octets.specs.Regions.{part, At}
 use Rattle.octets.proofs.Words.{length_words_kept}
@@ -38,8 +40,8 @@ use Rattle.settling.proofs.Settling.{settle_asks}
 use Rattle.signature.specs.declared.Signature.{Signature}
 use Rattle.lower_call.specs.declared.Lowered.{Lowered}
 use Rattle.emitting.specs.Emit.{Parts, Stand}
-use Rattle.lower_call.specs.Lower.{LowerAsks, LowersTo, LowersRead, not_lowered, accepted_with}
-use Rattle.emitting.proofs.Emitting.{Finishes, settled_parts}
+use Rattle.lower_call.specs.Lower.{LowerAsks, LowersTo, LowersRead}
+use Rattle.emitting.proofs.Emitting.{terms_of, Finishes, settled_parts}
 
 module _ {gs ws : List ℕ} {g : Signature} {cs : List ℕ} {room : ℕ} (a : LowerAsks gs ws g cs room) where
   abbrev pub core_asks : Good gs ws cs room
@@ -63,21 +65,19 @@ module _ {gs ws : List ℕ} {g : Signature} {cs : List ℕ} {room : ℕ} (a : Lo
       omega (arith, a.under.equals, z.value_eq_known, z.few_heads)
 
 -- what `to_core_rule` ensures
-abbrev pub Cores : (gs ws cs m cs1 : List ℕ) → Lowering → Type 0
+abbrev pub Cores : (gs ws cs m cs1 : List ℕ) → Result Lowering Refusal → Type 0
 Cores gs ws cs m cs1 k =
     (sig : Sig) (rl : Rule) → read_signature gs ≡ ok sig → read_written sig ws ≡ ok rl → Lowers (to_core_rule sig rl cs) (length ws) cs m cs1 k
 
--- ---- lowering refuses: k
+-- ---- lowering refuses: q
 
-pub turned : {gs ws : List ℕ} {g : Signature} {cs m cs1 : List ℕ} {k : Lowering} → Cores gs ws cs m cs1 k → (out : List ℕ) → (k.refused ≡ 0 → ⊥)
-    → {w : Lowered} → w ≡ not_lowered k.refused k.place → LowersRead gs ws g cs cs1 out out w
-turned {ws = ws} {cs = cs} {m = m} {cs1 = cs1} {k = k} core out bad is s r u =
-    subst (LowersTo s (to_core_rule s r cs) cs cs1 out out) (sym is) (go (to_core_rule s r cs) (core s r u.signed u.written))
+pub turned : {gs ws : List ℕ} {g : Signature} {cs m cs1 : List ℕ} {q : Refusal} → Cores gs ws cs m cs1 (Err q) → (out : List ℕ)
+    → LowersRead gs ws g cs cs1 out out (Err q)
+turned {ws = ws} {cs = cs} {m = m} {cs1 = cs1} {q = q} core out s r u = go (to_core_rule s r cs) (core s r u.signed u.written)
   where
-    go : (x : Res CoreRule) → Lowers x (length ws) cs m cs1 k
-        → LowersTo s x cs cs1 out out (not_lowered k.refused k.place)
-    go (ok c) z = absurd (bad z.fine)
-    go (refuse i p) z = record { number' = ap (λ (l : Lowering). l.refused) z.is; place' = ap (λ (l : Lowering). l.place) z.is; some = z.some; counters = z.counters; output = refl }
+    go : (x : Res CoreRule) → Lowers x (length ws) cs m cs1 (Err q) → LowersTo s x cs cs1 out out (Err q)
+    go (ok c) z = absurd z
+    go (refuse i p) z = record { number' = z.number'; place' = z.place'; counters = z.counters; output = refl }
 
 -- ---- the rule is lowered: k, with m1 and cs1 left behind. Body, head and log stand there
 
@@ -110,12 +110,12 @@ module _ {gs ws : List ℕ} {g : Signature} {cs : List ℕ} {room : ℕ} (a : Lo
         small = omega (arith, query_words a.rule.facts cs q.0 q.1, words, made.body, rule_size_lem a.sig ws a.rule a.under.written);
       }
 
-  pub laid : length m1 ≡ room → Cores gs ws cs m1 cs1 k → k.refused ≡ 0 → Laid a m1 cs1 k
-  laid size cores fine = go (to_core_rule a.sig a.rule cs) refl (cores a.sig a.rule a.under.signed a.under.written)
+  pub laid : length m1 ≡ room → Cores gs ws cs m1 cs1 (Ok k) → Laid a m1 cs1 k
+  laid size cores = go (to_core_rule a.sig a.rule cs) refl (cores a.sig a.rule a.under.signed a.under.written)
     where
-      go : (x : Res CoreRule) → to_core_rule a.sig a.rule cs ≡ x → Lowers x (length ws) cs m1 cs1 k → Laid a m1 cs1 k
+      go : (x : Res CoreRule) → to_core_rule a.sig a.rule cs ≡ x → Lowers x (length ws) cs m1 cs1 (Ok k) → Laid a m1 cs1 k
       go (ok c) e z = laid_core c e z size
-      go (refuse i p) e z = absurd (omega (arith, ap (λ (l : Lowering). l.refused) z.is, z.some))
+      go (refuse i p) e z = absurd z
 
 module _ {gs ws : List ℕ} {g : Signature} {cs : List ℕ} {room : ℕ} {a : LowerAsks gs ws g cs room} {m1 cs1 : List ℕ} {k : Lowering} (c : Laid a m1 cs1 k) where
   pub asks_settle : SettleAsks m1 0 k.body
@@ -166,17 +166,15 @@ module _ {gs ws : List ℕ} {g : Signature} {cs : List ℕ} {room : ℕ} {a : Lo
   -- ---- it is written if there is room: `needed` words, and the output has become out'
 
   module _ {needed : ℕ} {out out' : List ℕ} (finished : Finishes m2 b k.actions m2 (24 * n) k.head needed out out') where
-    abbrev answer : Lowered
-    answer = accepted_with needed b.replacements b.passes
+    abbrev answer : Result Lowered Refusal
+    answer = Ok (record { needed = needed; replacements = b.replacements; passes = b.passes })
 
     -- what holds of the signature and the rule that are known holds of all that are read
-    of_read : {cs2 : List ℕ} → (needed ≤ length (words out) → cs2 ≡ c.core.next) → (length (words out) < needed → cs2 ≡ cs)
-        → {w : Lowered} → w ≡ answer → LowersRead gs ws g cs cs2 out out' w
-    of_read {cs2} good short is = subst (LowersRead gs ws g cs cs2 out out') (sym is) λ s r u.
+    of_read : {cs2 : List ℕ} → (needed ≤ length (words out) → cs2 ≡ c.core.next) → (length (words out) < needed → cs2 ≡ cs) → LowersRead gs ws g cs cs2 out out' answer
+    of_read {cs2} good short s r u =
         same_read (λ x y. LowersTo x (to_core_rule x y cs) cs cs2 out out' answer) (core_asks a) s r u.signed u.written
         (subst (λ (x : Res CoreRule). LowersTo a.sig x cs cs2 out out' answer) (sym c.is)
         (record {
-          fine = refl;
           wrote = finished (rules.settle a.sig c.core.body) c.core.head parts;
           replacements = d.done.replacements;
           passes = d.done.passes;
@@ -188,9 +186,8 @@ module _ {gs ws : List ℕ} {g : Signature} {cs : List ℕ} {room : ℕ} {a : Lo
       words_kept : count ≡ length (words out)
       words_kept = words_are ∙ length_words_kept _ _ kept
 
-      pub ends_short : count < needed → {cs2 : List ℕ} → cs2 ≡ undone (part m2 (30 * n) k.log) cs1
-          → {w : Lowered} → w ≡ answer → LowersRead gs ws g cs cs2 out out' w
+      pub ends_short : count < needed → {cs2 : List ℕ} → cs2 ≡ undone (part m2 (30 * n) k.log) cs1 → LowersRead gs ws g cs cs2 out out' answer
       ends_short h e = of_read (λ z. absurd (omega (arith, words_kept))) (λ _. e ∙ ap (λ (l : List ℕ). undone l cs1) d.logged ∙ c.made.undo)
 
-      pub ends_good : needed ≤ count → {w : Lowered} → w ≡ answer → LowersRead gs ws g cs cs1 out out' w
+      pub ends_good : needed ≤ count → LowersRead gs ws g cs cs1 out out' answer
       ends_good h = of_read (λ _. c.made.counters) (λ z. absurd (omega (arith, words_kept)))

@@ -1,5 +1,6 @@
 -- 01, "Turned back" and "Around it": what lowering behind the tests asks and gives, by the definition's result. Assumes nothing: these are definitions.
-use Rattle.std.specs.Prelude.{ℕ, ◌*◌, ◌≤◌, ◌<◌, ◌≡◌, List, ◌++◌, length}
+use Rattle.std.specs.Prelude.{ℕ, ◌*◌, ◌≤◌, ◌<◌, ◌≡◌, List, ◌++◌, length, Result}
+use Rattle.std.specs.Prelude.{Ok, Err}
 use Rattle.octets.specs.Words.{words}
 use Rattle.rules.specs.Words.{max_written}
 use Rattle.rules.specs.Refusals.{Res, ok, refuse}
@@ -9,6 +10,8 @@ use Rattle.rules.specs.Flat.{encode}
 use Rattle.rules.specs.ToCoreActions.{CoreRule, to_core_rule}
 use Rattle.rules.specs.Canonicalize.{bindings}
 use Rattle.rules.specs.RemoveDupVars.{settle}
+use Rattle.refusals.specs.Numbers.{number_of}
+use Rattle.refusals.specs.declared.Refusal.{Refusal}
 use Rattle.signature.specs.declared.Signature.{Signature}
 use Rattle.free_vars.specs.Head.{WroteIfRoom}
 use Rattle.answers.specs.declared.Answer.{Answer}
@@ -31,37 +34,29 @@ pub record LowerAsks (gs ws : List ℕ) (sign : Signature) (cs : List ℕ) (room
   pub scratch : 32 * length ws ≤ room
 
 -- a refusal: its number and place; counters, words, and output, bytes, are as they were
-pub record TurnedBack (number place : ℕ) (cs cs' l l' : List ℕ) (r : Lowered) : Type 0 where
-  pub number' : r.refused ≡ number
+pub record TurnedBack (number place : ℕ) (cs cs' l l' : List ℕ) (r : Refusal) : Type 0 where
+  pub number' : number_of r.reason ≡ number
   pub place' : r.place ≡ place
-  pub some : 0 < number
   pub counters : cs' ≡ cs
   pub output : l' ≡ l
 
 -- a result: it is written where there is room for it, and only then are the counters used
 pub record LoweredTo (s : Sig) (c : CoreRule) (cs cs' l l' : List ℕ) (r : Lowered) : Type 0 where
-  pub fine : r.refused ≡ 0
   pub wrote : WroteIfRoom (encode (settle s c.body).tabs (bindings (settle s c.body).repls ++ c.head)) r.needed l l'
   pub replacements : r.replacements ≡ length (settle s c.body).repls
   pub passes : r.passes ≡ (settle s c.body).passes
   pub counted : r.needed ≤ length (words l) → cs' ≡ c.next
   pub uncounted : length (words l) < r.needed → cs' ≡ cs
 
-abbrev pub LowersTo : Sig → Res CoreRule → (cs cs' l l' : List ℕ) → Lowered → Type 0
-LowersTo s (ok c) cs cs' l l' r = LoweredTo s c cs cs' l l' r
-LowersTo s (refuse m p) cs cs' l l' r = TurnedBack m p cs cs' l l' r
+abbrev pub LowersTo : Sig → Res CoreRule → (cs cs' l l' : List ℕ) → Result Lowered Refusal → Type 0
+LowersTo s (ok c) cs cs' l l' (Ok r) = LoweredTo s c cs cs' l l' r
+LowersTo s (ok c) cs cs' l l' (Err r) = ⊥
+LowersTo s (refuse m p) cs cs' l l' (Ok r) = ⊥
+LowersTo s (refuse m p) cs cs' l l' (Err r) = TurnedBack m p cs cs' l l' r
 
 -- so for whatever signature and rule the words are read as
-abbrev pub LowersRead : (gs ws : List ℕ) → Signature → (cs cs' l l' : List ℕ) → Lowered → Type 0
+abbrev pub LowersRead : (gs ws : List ℕ) → Signature → (cs cs' l l' : List ℕ) → Result Lowered Refusal → Type 0
 LowersRead gs ws sign cs cs' l l' r = (s : Sig) (rl : Rule) → WrittenUnder gs ws sign s rl → LowersTo s (to_core_rule s rl cs) cs cs' l l' r
-
--- what lowering comes to where the rule is refused: the refusal's number and place, and no counts
-abbrev pub not_lowered : (refused place : ℕ) → Lowered
-not_lowered n p = record { refused = n; place = p; needed = 0; replacements = 0; passes = 0 }
-
--- what it comes to where there is a result: the words that it needs, its replacements and passes
-abbrev pub accepted_with : (needed replacements passes : ℕ) → Lowered
-accepted_with n r p = record { refused = 0; place = 0; needed = n; replacements = r; passes = p }
 
 -- what the call answers where the result is written: 0 and the three counts
 abbrev pub answer_of : Lowered → Answer

@@ -4,67 +4,24 @@
 ghost use Rattle.std.specs.Prelude.{◌≡◌, [], ◌∷◌, length};
 ghost use Rattle.octets.specs.Words.{words};
 ghost use Rattle.rules.specs.Calls.{whole_words, lower};
-ghost use Rattle.answers.specs.Answers.{GivesBoth, scratch_written, Beyond, refused_with};
-ghost use Rattle.lower_call.specs.Lower.{LowerAsks, LowersRead, not_lowered, accepted_with, answer_of};
+ghost use Rattle.answers.specs.Answers.{GivesBoth, scratch_written, Beyond};
+ghost use Rattle.lower_call.specs.Lower.{LowerAsks, LowersRead, answer_of};
 
 use answers::fronts::written_front;
 use answers::{Answer, all_whole, whole};
 use bodies::terms::Sign;
-use emitting::Actions;
-use refusals::Reason;
+use refusals::Refusal;
 use signature::Signature;
 
 // The bytes of scratch that are lent on for each word of the rule: 32 words.
 const LENT: usize = 128;
 
-// What lowering comes to. Where `refused` is 0: the words that the result needs, its replacements and passes. Else `refused` is the refusal's number and
-// `place` its place.
+// What lowering comes to: the words that the result needs, its replacements and passes.
 #[derive(Clone, Copy)]
 pub struct Lowered {
-    pub refused: u32,
-    pub place: usize,
     pub needed: usize,
     pub replacements: usize,
     pub passes: usize,
-}
-
-// A refusal, which has a number and a place and no counts.
-fn not_lowered(refused: u32, place: usize) -> Lowered
-    ensures { result ≡ not_lowered refused place }
-{
-    Lowered {
-        refused,
-        place,
-        needed: 0,
-        replacements: 0,
-        passes: 0,
-    }
-}
-
-// A result, which has its three counts.
-fn accepted(needed: usize, replacements: usize, passes: usize) -> Lowered
-    ensures { result ≡ accepted_with needed replacements passes }
-{
-    Lowered {
-        refused: 0,
-        place: 0,
-        needed,
-        replacements,
-        passes,
-    }
-}
-
-// What the call answers where lowering refuses.
-fn refused(number: u32, place: usize) -> Answer
-    ensures { result ≡ refused_with number place }
-{
-    Answer {
-        number: number as u64,
-        place: place as u64,
-        words: 0,
-        replacements: 0,
-        passes: 0,
-    }
 }
 
 // What the call answers where the result is written.
@@ -88,16 +45,13 @@ fn lower_good(
     counters: &mut [u8],
     output: &mut [u8],
     scratch: &mut [u8],
-) -> Lowered
+) -> Result<Lowered, Refusal>
     requires { LowerAsks (words signature.now) (words rule.now) sign (words counters.old) (length (words scratch.old)) }
     ensures { LowersRead (words signature.now) (words rule.now) sign (words counters.old)
         (words counters.new) output.old output.new result }
 {
     let n = octets::count(rule);
-    let core = lowering::to_core_rule(signature, rule, counters, scratch);
-    if core.refused != 0 {
-        return not_lowered(core.refused, core.place);
-    }
+    let core = lowering::to_core_rule(signature, rule, counters, scratch)?;
     let terms = Sign {
         globals: sign.globals,
         equals: sign.equals,
@@ -105,19 +59,23 @@ fn lower_good(
     let body = settling::settle(scratch, 0, core.body, terms);
     let replacements = body.replacements;
     let passes = body.passes;
-    let head = Actions {
-        source: scratch,
-        from: lowering::HEAD_AT * n,
-        size: core.head,
-        count: core.actions,
-    };
-    let needed = emitting::finish(output, scratch, body, head);
-    let lowered = accepted(needed, replacements, passes);
+    let needed = emitting::finish(
+        output,
+        scratch,
+        body,
+        core.actions,
+        scratch,
+        lowering::HEAD_AT * n,
+        core.head,
+    );
     if octets::count(output) < needed {
         walks::restore(counters, scratch, lowering::LOG_AT * n, core.log);
-        return lowered;
     }
-    lowered
+    Ok(Lowered {
+        needed,
+        replacements,
+        passes,
+    })
 }
 
 // Two slices are whole words.
@@ -151,17 +109,17 @@ pub fn lower_bytes(
         Err(refusal) => return Answer::from(refusal),
     };
     let size = octets::count(rule);
-    let lowered = lower_good(
+    let lowered = match lower_good(
         signature,
         rule,
         sign,
         counters,
         output,
         &mut scratch[..LENT * size],
-    );
-    if lowered.refused != 0 {
-        return refused(lowered.refused, lowered.place);
-    }
+    ) {
+        Ok(lowered) => lowered,
+        Err(refusal) => return refused(refusal.reason.number() as usize, refusal.place),
+    };
     if octets::count(output) < lowered.needed {
         return Answer::from(Reason::ShortOutput.at(lowered.needed));
     }

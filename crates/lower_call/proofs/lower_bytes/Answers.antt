@@ -1,7 +1,7 @@
 -- Each test is the definition's, in its order; behind them a front of the scratch is lent, the rule is lowered and settled there, and written if there is
 -- room; only then are counters used. Assumes nothing.
 use Prim.Native.Nat.{ℕ}
-use mathlib.Core.Path.{◌≡◌, sym}
+use mathlib.Core.Path.{◌≡◌, sym, ap, ◌∙◌}
 use mathlib.Core.Bool.{Bool, true}
 use mathlib.Core.List.{List, [], ◌∷◌}
 use native.Mathlib.Omega.{arith}
@@ -13,7 +13,7 @@ use Rattle.rules.specs.Refusals.{ok}
 use Rattle.refusals.specs.Numbers.{told}
 use Rattle.signature.specs.Signature.{sign_of}
 use Rattle.signature.specs.declared.Signature.{Signature}
-use Rattle.answers.specs.Answers.{whole_three}
+use Rattle.answers.specs.Answers.{whole_three, refused_with}
 use Rattle.answers.specs.Fronts.{written_front}
 use Rattle.answers.proofs.Lent.{lent_size}
 use Rattle.answers.proofs.Calls.{from_refusal, Given, slices_ragged, Ready, front_refuses, ready}
@@ -75,40 +75,40 @@ slice_bounds-lower_good-end-2 c =
 
 -- ---- the rule is lowered and settled there
 
-pub lower_good-lowered-requires : goal.lower_good-lowered-requires
-lower_good-lowered-requires c =
+pub lower_good-requires : goal.lower_good-requires
+lower_good-requires c =
     let a = c.args in
     let k = given a.signature.now a.rule.now a.counters.now a.output.now a.scratch.now in
     let passed = tests_passed k c.both_whole-rest.ensures c.all_whole.ensures c.if-not-all_whole.false
     c.count-many.ensures c.count-room.ensures c.in-Ok.ensures in
     lower_asks k passed (lower_lent k passed c.count-size.ensures)
 
-pub returns-then-lowered-ne0-clause-gives_both : goal.returns-then-lowered-ne0-clause-gives_both
-returns-then-lowered-ne0-clause-gives_both c =
+pub returns-in-Err-clause-gives_both : goal.returns-in-Err-clause-gives_both
+returns-in-Err-clause-gives_both c =
     let a = c.args in
     let k = given a.signature.now a.rule.now a.counters.now a.output.now a.scratch.now in
     let passed = tests_passed k c.both_whole-rest.ensures c.all_whole.ensures c.if-not-all_whole.false
-    c.count-many.ensures c.count-room.ensures c.in-Ok.ensures in
-    let g = c.lower_good-lowered in
-    let done = worked k passed g.ensures g.auto.output g.auto.counters (search rules) (search rules) (search rules) (search rules) in
-    lower_gives k (rule_refused {y = passed} done c.if-lowered-ne0.true c.refused.ensures)
+    c.count-many.ensures c.count-room.ensures c.written_front-sign.ensures c.if-sign-ne0.false in
+    let g = c.lower_good in
+    let done = worked k passed c.in-Err.ensures g.auto.output g.auto.counters (search rules) (search rules) (search rules) (search rules) in
+    lower_gives k (rule_refused {y = passed} done (c.refused-in-Err.ensures ∙ ap (λ (i : ℕ). refused_with i c.in-Err.refusal.place) c.number.ensures))
 
 pub returns-then-count-lowered-clause-gives_both : goal.returns-then-count-lowered-clause-gives_both
 returns-then-count-lowered-clause-gives_both c =
     let a = c.args in
     let k = given a.signature.now a.rule.now a.counters.now a.output.now a.scratch.now in
     let passed = tests_passed k c.both_whole-rest.ensures c.all_whole.ensures c.if-not-all_whole.false
-    c.count-many.ensures c.count-room.ensures c.in-Ok.ensures in
-    let g = c.lower_good-lowered in
-    let done = worked k passed g.ensures g.auto.output g.auto.counters (search rules) (search rules) (search rules) (search rules) in
-    lower_gives k (lower_short {y = passed} done c.if-lowered-ne0.false c.count.ensures c.if-count-lowered.true (from_refusal c.at-then-count-lowered.ensures c.from-then-count-lowered.ensures))
+    c.count-many.ensures c.count-room.ensures c.written_front-sign.ensures c.if-sign-ne0.false in
+    let g = c.lower_good in
+    let done = worked k passed c.in-Ok.ensures g.auto.output g.auto.counters (search rules) (search rules) (search rules) (search rules) in
+    lower_gives k (lower_short {y = passed} done c.count.ensures c.if-count-lowered.true c.refused-then-count-lowered.ensures)
 
 pub returns-clause-gives_both : goal.returns-clause-gives_both
 returns-clause-gives_both c =
     let a = c.args in
     let k = given a.signature.now a.rule.now a.counters.now a.output.now a.scratch.now in
     let passed = tests_passed k c.both_whole-rest.ensures c.all_whole.ensures c.if-not-all_whole.false
-    c.count-many.ensures c.count-room.ensures c.in-Ok.ensures in
-    let g = c.lower_good-lowered in
-    let done = worked k passed g.ensures g.auto.output g.auto.counters (search rules) (search rules) (search rules) (search rules) in
-    lower_gives k (lower_written {y = passed} done c.if-lowered-ne0.false c.count.ensures c.if-count-lowered.false c.answer.ensures)
+    c.count-many.ensures c.count-room.ensures c.written_front-sign.ensures c.if-sign-ne0.false in
+    let g = c.lower_good in
+    let done = worked k passed c.in-Ok.ensures g.auto.output g.auto.counters (search rules) (search rules) (search rules) (search rules) in
+    lower_gives k (lower_written {y = passed} done c.count.ensures c.if-count-lowered.false c.answer.ensures)
