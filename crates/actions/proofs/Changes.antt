@@ -134,10 +134,12 @@ module _ {k : Site} {code more w : ℕ} (h : Changing k code more w) where
   pub change_refused : {s1 cs1 : List ℕ} {e : Stopped} → Argued k 2 max_depth (count_of w + more) w s1 cs1 (Err e) → LowersChange k code more s1 cs1 (Err e)
   change_refused {e = e} m =
       answers (Err e) refl
-      (λ t. stop (2 + t.it.exprs.size) k.at (lowered_all t.sig t.bound t.it.exprs.value k.cs) (closing code more (k.at + 1) (head_of w)) (m.walk t) (omega arith))
+      (λ t. stop (2 + t.it.exprs.size) k.at (lowered_all t.sig t.bound t.it.exprs.value k.cs) (closing code more (k.at + 1) (head_of w))
+      (m.walk t) (omega arith))
 
   -- they are fine, and the end of the action leaves s2 and cs2
-  pub change_ends : {s1 cs1 : List ℕ} {a : Walk} (m : Argued k 2 max_depth (count_of w + more) w s1 cs1 (Ok a)) {n : ℕ} {s2 cs2 : List ℕ} (r : Result Acted Stopped)
+  pub change_ends : {s1 cs1 : List ℕ} {a : Walk} (m : Argued k 2 max_depth (count_of w + more) w s1 cs1 (Ok a)) {n : ℕ} {s2 cs2 : List ℕ}
+      (r : Result Acted Stopped)
       → n ≡ count_of w + more → Closes code w n (k.at + 1) k.sp k.lg s1 cs1 s2 cs2 a r → LowersChange k code more s2 cs2 r
   change_ends {s1} {cs1} {a} m {n} {s2} {cs2} r count closes =
       let e = subst (λ (i : ℕ). Closes code w i (k.at + 1) k.sp k.lg s1 cs1 s2 cs2 a r) count closes in

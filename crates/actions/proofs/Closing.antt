@@ -25,7 +25,8 @@ module _ {w n place sp lg : ℕ} {s1 cs1 : List ℕ} {a : Walk} {s2 cs2 : List �
       → Closes code w n place sp lg s1 cs1 s3 cs2 a (Ok (acted_at a.next e (a.log + 1) 0 (a.log - lg + 1)))
   closed {u} {s3} {e} o put = (
     refl,
-    λ more at to size x s cs counts t. used_done t o 0 (Gave r) s3 (code ∷ w ∷ []) e 0 (change_piece code more (head_of w)) refl (omega arith) (omega arith) put (own more counts),
+    λ more at to size x s cs counts t. used_done t o 0 (Gave r) s3 (code ∷ w ∷ []) e 0 (change_piece code more (head_of w)) refl (omega arith) (omega arith)
+        put (own more counts),
   )
     where
       r : Result Acted Stopped

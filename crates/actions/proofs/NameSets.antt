@@ -156,7 +156,8 @@ module _ {k : Site} {v w : ℕ} (h : Naming k v w) where
             let i = x.inside in
             test t.sig t.bound (scope_after (length k.ws) x.size h.begun.scope_room (omega arith) (walk t).kept t.scoped) t.it.old
 
-        pub name_refused : {q : Refusal} → b ≡ false → (q.reason ≡ Unbound) × (q.place ≡ k.at + 1) → SetsName k s1 cs1 (Err (record { refusal = q; log = a.log }))
+        pub name_refused : {q : Refusal} → b ≡ false → (q.reason ≡ Unbound) × (q.place ≡ k.at + 1)
+            → SetsName k s1 cs1 (Err (record { refusal = q; log = a.log }))
         name_refused {q} not is = answers (λ t. refused t (stopped t))
           where
             ans : Result Walk Stopped
@@ -237,7 +238,8 @@ module _ {k : Site} {v w : ℕ} (h : Naming k v w) where
               (record { high = x.high; head = x.head; counter = x.counter; log = omega (arith, x.log); words = x.words; stack = omega (arith, f.stack) }, f.fits.1)
 
           -- it leaves s3 and cs2
-          pub set_ends : {n : ℕ} {s3 cs2 : List ℕ} {r : Result Acted Stopped} → n ≡ count_of w → Closes (action_word 2) w (n + 1) (k.at + 2) k.sp k.lg s2 cs1 s3 cs2 a r
+          pub set_ends : {n : ℕ} {s3 cs2 : List ℕ} {r : Result Acted Stopped} → n ≡ count_of w
+              → Closes (action_word 2) w (n + 1) (k.at + 2) k.sp k.lg s2 cs1 s3 cs2 a r
               → SetsName k s3 cs2 r
           set_ends {n} {s3} {cs2} {r} count closes =
               let e = subst (λ (i : ℕ). Closes (action_word 2) w (i + 1) (k.at + 2) k.sp k.lg s2 cs1 s3 cs2 a r) count closes in

@@ -103,7 +103,8 @@ pub fn lower_change(
 ) -> Result<Acted, Stopped>
     requires known { Asks (site_of (words rule.now) (words scratch.old) (words counters.old) at tops scope) (λ sig. ChangeAt sig (words rule.now) more at) at }
     requires few { more ≤ 1 }
-    ensures { LowersChange (site_of (words rule.now) (words scratch.old) (words counters.old) at tops scope) code more (words scratch.new) (words counters.new) result }
+    ensures { LowersChange (site_of (words rule.now) (words scratch.old) (words counters.old) at tops scope) code more
+        (words scratch.new) (words counters.new) result }
 {
     let w = octets::get(rule, at + 1);
     let n = words::head_word(w).count as usize + more;
@@ -121,7 +122,8 @@ pub fn lower_panic(
     tops: Tops,
 ) -> Result<Acted, Stopped>
     requires at_in_bounds { at + 1 < length (words rule.now) }
-    requires room { RoomAt (site_of (words rule.now) (words scratch.old) (words counters.old) at tops scope) at × ScopeRoomAt (site_of (words rule.now) (words scratch.old) (words counters.old) at tops scope) at }
+    requires room { RoomAt (site_of (words rule.now) (words scratch.old) (words counters.old) at tops scope) at
+        × ScopeRoomAt (site_of (words rule.now) (words scratch.old) (words counters.old) at tops scope) at }
     ensures { LowersPanic (site_of (words rule.now) (words scratch.old) (words counters.old) at tops scope) (words scratch.new) (words counters.new) result }
 {
     let l = octets::get(rule, at + 1);
@@ -144,8 +146,10 @@ pub fn lower_expression(
     scratch: &mut [u8],
     tops: Tops,
 ) -> Result<Acted, Stopped>
-    requires { Asks (site_of (words rule.now) (words scratch.old) (words counters.old) at tops scope) (λ sig. ExprAt sig (words rule.now) max_depth (at + 1)) at }
-    ensures { LowersExpression (site_of (words rule.now) (words scratch.old) (words counters.old) at tops scope) (words scratch.new) (words counters.new) result }
+    requires { Asks (site_of (words rule.now) (words scratch.old) (words counters.old) at tops scope)
+        (λ sig. ExprAt sig (words rule.now) max_depth (at + 1)) at }
+    ensures { LowersExpression (site_of (words rule.now) (words scratch.old) (words counters.old) at tops scope)
+        (words scratch.new) (words counters.new) result }
 {
     let e = lower(rule, at + 1, MAX_DEPTH, scope, counters, scratch, tops)?;
     Ok(Acted {

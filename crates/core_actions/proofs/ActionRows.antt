@@ -202,7 +202,8 @@ module _ (sig : Sig) (bound ws : List ℕ) (n at to lg : ℕ) (c : Scope) (s cs 
                   (subst (λ (y : Res Piece). Makes names s1 cs1 w (a.count + more) y (f.size + fs.size) s' cs' r)
                   (sym (row_piece d (to_core_actions sig d.bound fs.value d.next)))
                   (walk_then f.size fs.size w.next w.to (c.first + names) (c.first + (names + a.names)) w.log s1 cs1 s2 cs2 s' cs' (come_to a)
-                  r2 (omega arith) (omega arith) 0 (λ b p. p.count ≡ a.count + more) (done_piece (ok d)) (λ k. done_piece (to_core_actions sig d.bound fs.value k))
+                  r2 (omega arith) (omega arith) 0 (λ b p. p.count ≡ a.count + more) (done_piece (ok d))
+                  (λ k. done_piece (to_core_actions sig d.bound fs.value k))
                   (omega arith) z.piece u (λ b p q t v. plus p.count q.count more t v))))
                   (λ b p e. sum p.count more e);
             }

@@ -78,7 +78,8 @@ module _ {gs : List ℕ} {k : Site} {w : ℕ} (g : Coded gs k w) where
         let i = y.exprs.inside in
         acts_same sig bound k.scope (length k.ws) x same none g.scope_room (omega arith) sc
         (subst (λ (p : Res Piece). WalkedAt k 0 (Gave r) p (2 + y.exprs.size) k.at s' cs' (walk_of r)) (sym is)
-        (subst (λ (u : ℕ). WalkedAt k 0 (Gave r) (changed sig bound u more (k.at + 1) head y.exprs.value k.cs) (2 + y.exprs.size) k.at s' cs' (walk_of r)) e walk))
+        (subst (λ (u : ℕ). WalkedAt k 0 (Gave r) (changed sig bound u more (k.at + 1) head y.exprs.value k.cs) (2 + y.exprs.size) k.at
+        s' cs' (walk_of r)) e walk))
 
     pub set_done : w - action_base ≡ 2 → LowersChange k w 1 s' cs' r → LowersAction gs k s' cs' r
     set_done e does sig x bound n sc sg =

@@ -168,7 +168,8 @@ module _ {h : Head} {left : ℕ} {s1 cs1 : List ℕ} {r : Acted} (row : Row h le
             let q = turn_room in
             omega (arith, few.1, row.written, g.up_to, first.inside, q.words, q.stack, q.log, row.scratch, row.fits)
 
-        pub row_next : length cs2 ≡ length cs1 → length s2 ≡ length s1 → Row h (left - 1) s2 cs2 (acted_at a.next a.to a.log (r.names + a.names) (r.count + a.count))
+        pub row_next : length cs2 ≡ length cs1 → length s2 ≡ length s1
+            → Row h (left - 1) s2 cs2 (acted_at a.next a.to a.log (r.names + a.names) (r.count + a.count))
         row_next ec es =
             let q = row.known in
             record {
@@ -179,7 +180,8 @@ module _ {h : Head} {left : ℕ} {s1 cs1 : List ℕ} {r : Acted} (row : Row h le
               scratch = es ∙ row.scratch;
               counters = ec ∙ row.counters;
               going =
-                  left_going q.sig q.known.2.bound h.ws h.n h.at h.to h.lg h.scope h.s h.cs q.known.0 left r.names r.count s1 cs1 (come_to r) here some turn_room s2 cs2 a
+                  left_going q.sig q.known.2.bound h.ws h.n h.at h.to h.lg h.scope h.s h.cs q.known.0 left r.names r.count s1 cs1 (come_to r) here some
+                  turn_room s2 cs2 a
                   (λ y. does under q.sig y here.now (counted_kept q.known.1 row.counters) here.scoped q.known.3) row.room row.going;
               written = omega (arith, few.1, row.written);
               rest =

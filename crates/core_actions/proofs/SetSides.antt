@@ -86,14 +86,16 @@ module _ {gs ws : List ℕ} {at : ℕ} {g : Begun gs ws at} {w : ℕ} (f : Flagg
       pub left_nameless : v < name_base → Sides gs ws at None
       left_nameless small sig x few sg =
           side_call sig ws few (at + 1) x.left w f.is (λ t. None ≡ set_side sig t x.right.value) low
-          (λ es. side sig ws few (at + 1 + x.left.size) x.right v (right_word sig x few) (λ t. None ≡ set_side sig (call (at + 1) (head_of w) es) t) (λ fs. refl)
+          (λ es. side sig ws few (at + 1 + x.left.size) x.right v (right_word sig x few)
+          (λ t. None ≡ set_side sig (call (at + 1) (head_of w) es) t) (λ fs. refl)
           (sym (rw (lt-leb name_base v small))))
 
       pub left_becomes : {b : Bool} → Kind gs w b → b ≡ true → name_base ≤ v → Sides gs ws at (Some Left)
       left_becomes kind yes' name sig x few sg =
           let constructs = sg.kinds (head_of w) (head_of_lem sig x few).1 ∙ sym kind ∙ yes' in
           side_call sig ws few (at + 1) x.left w f.is (λ t. Some Left ≡ set_side sig t x.right.value) low
-          (λ es. side_leaf sig ws few (at + 1 + x.left.size) x.right v (right_word sig x few) (λ t. Some Left ≡ set_side sig (call (at + 1) (head_of w) es) t) (omega arith)
+          (λ es. side_leaf sig ws few (at + 1 + x.left.size) x.right v (right_word sig x few)
+          (λ t. Some Left ≡ set_side sig (call (at + 1) (head_of w) es) t) (omega arith)
           (sym (rw (le-leb name_base v name, flagged sig sg, constructs))))
 
     pub passed_inside : {p : ℕ} → Passed ws (at + 1) p → p < length ws

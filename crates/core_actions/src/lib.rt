@@ -19,6 +19,7 @@ use refusals::Reason;
 use walks::{Stopped, Tops};
 
 // Lowers the action at `at`, by its code.
+// A `match` on the number: lowering decides over the codes 1 to 8 as they are written, and refuses any other.
 fn lower_action(
     signature: &[u8],
     rule: &[u8],
@@ -28,9 +29,11 @@ fn lower_action(
     scratch: &mut [u8],
     tops: Tops,
 ) -> Result<Acted, Stopped>
-    requires known { AsksSigned (words signature.now) (site_of (words rule.now) (words scratch.old) (words counters.old) at tops scope) (λ sig. ActionAt sig (words rule.now) at) at }
+    requires known { AsksSigned (words signature.now) (site_of (words rule.now) (words scratch.old) (words counters.old) at tops scope)
+        (λ sig. ActionAt sig (words rule.now) at) at }
     requires top { scope.first + scope.names ≡ tops.sp }
-    ensures { LowersAction (words signature.now) (site_of (words rule.now) (words scratch.old) (words counters.old) at tops scope) (words scratch.new) (words counters.new) result }
+    ensures { LowersAction (words signature.now) (site_of (words rule.now) (words scratch.old) (words counters.old) at tops scope)
+        (words scratch.new) (words counters.new) result }
 {
     let w = octets::get(rule, at);
     let code = w - words::ACTION_BASE;

@@ -36,6 +36,7 @@ fn arity(w: u32) -> usize
 }
 
 // The place behind the expression at `at`. It counts the expressions that are still to be passed.
+// A `while`, since how many words it passes is told only by those that it reads: a `for` over the rule would have an end that is never reached.
 fn skip(rule: &[u8], at: usize) -> usize
     requires { Under (λ sig. ExprAt sig (words rule.now) max_depth at × (heads sig ≤ limit12)) }
     ensures { (sig : Sig) (x : ExprAt sig (words rule.now) max_depth at) → heads sig ≤ limit12 → result ≡ at + x.size }
@@ -99,8 +100,10 @@ pub fn lower_union(
     scratch: &mut [u8],
     tops: Tops,
 ) -> Result<Acted, Stopped>
-    requires { AsksSigned (words signature.now) (site_of (words rule.now) (words scratch.old) (words counters.old) at tops scope) (λ sig. PairAt sig (words rule.now) at) at }
-    ensures { LowersUnion (words signature.now) (site_of (words rule.now) (words scratch.old) (words counters.old) at tops scope) (words scratch.new) (words counters.new) result }
+    requires { AsksSigned (words signature.now) (site_of (words rule.now) (words scratch.old) (words counters.old) at tops scope)
+        (λ sig. PairAt sig (words rule.now) at) at }
+    ensures { LowersUnion (words signature.now) (site_of (words rule.now) (words scratch.old) (words counters.old) at tops scope)
+        (words scratch.new) (words counters.new) result }
 {
     match as_set(signature, rule, at) {
         Some(Side::Left) => lower_change(rule, at, SET, 1, scope, counters, scratch, tops),

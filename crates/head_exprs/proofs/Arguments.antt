@@ -114,8 +114,8 @@ module _ {k : Site} {d n left top : ℕ} {s1 cs1 : List ℕ} {w : Walk} (row : R
           (row.rest (tree sig x bound c i)) some here.room s2 cs2 e (λ y. does sig y bound (counted_kept c row.counters) (in_scope_lem i)))
 
       -- and behind any other, whose term is pushed, which leaves s3, one less is left
-      pub row_next : {a : Walk} {s3 : List ℕ} → LowersExpr d (next k top s1 cs1 w) s2 cs2 (Ok a) → length cs2 ≡ length cs1 → length s3 ≡ length s1 → s3 ≡ set s2 top a.term
-          → Row k d n (left - 1) (top + 1) s3 cs2 a
+      pub row_next : {a : Walk} {s3 : List ℕ} → LowersExpr d (next k top s1 cs1 w) s2 cs2 (Ok a) → length cs2 ≡ length cs1 → length s3 ≡ length s1
+          → s3 ≡ set s2 top a.term → Row k d n (left - 1) (top + 1) s3 cs2 a
       row_next {a} {s3} does ec es put =
           let g = row.begun in
           let t = g.tree in

@@ -19,7 +19,8 @@ use Rattle.head_exprs.specs.Lowered.{call_piece, Binds}
 module _ {w n place sp : ℕ} {s1 cs1 : List ℕ} {a : Walk} {s2 cs2 : List ℕ} where
   -- the words are written, up to e, which leaves s3
   pub bound_done : {v : ℕ} {s3 : List ℕ} {e : ℕ} → Used 3 w n sp place s1 cs1 a s2 cs2 (Ok v) → n ≡ count_of w
-      → (e ≡ a.to + 3 + n) × (s3 ≡ splice s2 a.to (action_word 7 ∷ v ∷ w ∷ part s2 sp n)) → Binds w n place sp s1 cs1 s3 cs2 a (Ok (reached_at a.next e (a.log + 1) v))
+      → (e ≡ a.to + 3 + n) × (s3 ≡ splice s2 a.to (action_word 7 ∷ v ∷ w ∷ part s2 sp n))
+      → Binds w n place sp s1 cs1 s3 cs2 a (Ok (reached_at a.next e (a.log + 1) v))
   bound_done {v} {s3} {e} o counts put at to size lg x s cs t =
       used_done t o 1 (InAnswer lg) s3 (action_word 7 ∷ v ∷ w ∷ []) e v (call_piece (head_of w)) refl (omega arith) (omega arith) put own
     where

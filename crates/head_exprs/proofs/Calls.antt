@@ -119,8 +119,8 @@ pub record Argued {k : Place} {B : Sig → List ℕ → Type 0} {g : Begun k B} 
   pub scratch : length s1 ≡ length k.s
 
 -- so it is behind a walk over n of them
-pub argued : {k : Place} {B : Sig → List ℕ → Type 0} {g : Begun k B} (h : Called g) {n : ℕ} {s1 cs1 : List ℕ} {r : Result Walk Stopped} → n ≡ count_of k.w → Rowed k B n s1 cs1 r
-    → length cs1 ≡ length k.cs → length s1 ≡ length k.s → Argued h s1 cs1 r
+pub argued : {k : Place} {B : Sig → List ℕ → Type 0} {g : Begun k B} (h : Called g) {n : ℕ} {s1 cs1 : List ℕ} {r : Result Walk Stopped}
+    → n ≡ count_of k.w → Rowed k B n s1 cs1 r → length cs1 ≡ length k.cs → length s1 ≡ length k.s → Argued h s1 cs1 r
 argued {k} {B} h {n} {s1} {cs1} {r} count walk counters scratch =
     record {
       walk =

@@ -65,7 +65,8 @@ module _ (sig : Sig) (bound ws : List ℕ) (d at to sp lg : ℕ) (s cs : List �
   abbrev Leaf-ends : Result Walk Stopped → Type 0
   Leaf-ends r = Walked 1 (InAnswer lg) (lowered sig bound x.value cs) x.size at to sp lg s cs s cs r
 
-  by_leaf : (r : Result Walk Stopped) → (w < fresh_base → Walked 1 (InAnswer lg) (demand b unbound at (leaf_piece sig bound w cs)) 1 at to sp lg s cs s cs r) → Leaf-ends r
+  by_leaf : (r : Result Walk Stopped)
+      → (w < fresh_base → Walked 1 (InAnswer lg) (demand b unbound at (leaf_piece sig bound w cs)) 1 at to sp lg s cs s cs r) → Leaf-ends r
   by_leaf r f =
       leaf_cases sig ws c.few (λ t k. Walked 1 (InAnswer lg) (lowered sig bound t cs) k at to sp lg s cs s cs r) d at w x is high
       (λ i old. rw (lowered_leaf sig bound at w cs, sym (test old)) (f old))

@@ -170,7 +170,8 @@ module _ {gs ws : List ℕ} {g : Signature} {cs : List ℕ} {room : ℕ} {a : Lo
     answer = Ok (record { needed = needed; replacements = b.replacements; passes = b.passes })
 
     -- what holds of the signature and the rule that are known holds of all that are read
-    of_read : {cs2 : List ℕ} → (needed ≤ length (words out) → cs2 ≡ c.core.next) → (length (words out) < needed → cs2 ≡ cs) → LowersRead gs ws g cs cs2 out out' answer
+    of_read : {cs2 : List ℕ} → (needed ≤ length (words out) → cs2 ≡ c.core.next)
+        → (length (words out) < needed → cs2 ≡ cs) → LowersRead gs ws g cs cs2 out out' answer
     of_read {cs2} good short s r u =
         same_read (λ x y. LowersTo x (to_core_rule x y cs) cs cs2 out out' answer) (core_asks a) s r u.signed u.written
         (subst (λ (x : Res CoreRule). LowersTo a.sig x cs cs2 out out' answer) (sym c.is)

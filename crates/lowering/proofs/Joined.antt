@@ -50,7 +50,8 @@ same_read {gs} {ws} P g sig r es er p =
 
 -- the refusal of a walk is the rule's, once the counters are back
 refused : {m p : ℕ} {q : Refusal} {e : Stopped} {cs cs' : List ℕ} → q ≡ e.refusal → Refuses m p e → cs' ≡ cs → Back m p cs cs' q
-refused is z counters = record { number' = ap (λ (r : Refusal). number_of r.reason) is ∙ z.number; place' = ap (λ (r : Refusal). r.place) is ∙ z.place; counters = counters }
+refused is z counters =
+    record { number' = ap (λ (r : Refusal). number_of r.reason) is ∙ z.number; place' = ap (λ (r : Refusal). r.place) is ∙ z.place; counters = counters }
 
 -- ---- the words are counted, n, and the header is read, w
 
@@ -199,7 +200,8 @@ module _ {gs ws cs s : List ℕ} {n w : ℕ} {k : Begun gs ws cs s n w} {s1 cs1 
 
 -- ---- the head is lowered with the answer h, which leaves s2 and cs2
 
-module _ {gs ws cs s : List ℕ} {n w : ℕ} {k : Begun gs ws cs s n w} {s1 cs1 : List ℕ} {b : Walk} {f : Flattened k s1 cs1 (Ok b)} {g : ℕ} (y : Ready f g) (s2 cs2 : List ℕ) (h : Result Acted Stopped) where
+module _ {gs ws cs s : List ℕ} {n w : ℕ} {k : Begun gs ws cs s n w} {s1 cs1 : List ℕ} {b : Walk} {f : Flattened k s1 cs1 (Ok b)} {g : ℕ} (y : Ready f g)
+    (s2 cs2 : List ℕ) (h : Result Acted Stopped) where
   -- under a scope
   abbrev pub LowerUnder : Scope → Type 0
   LowerUnder c =
@@ -260,9 +262,12 @@ module _ {gs ws cs s : List ℕ} {n w : ℕ} {k : Begun gs ws cs s n w} {s1 cs1 
 
   -- it is fine, h
   pub head_ends : {h : Acted} → Headed y s2 cs2 (Ok h) → (24 * n ≤ h.to)
-  head_ends m = (went (done_piece (to_core_actions k.good.sig (names_at y).bound (Actions k).value cs1)) (m.lower (actions_at y) (names_at y).bound (names_at y).scoped)).from
+  head_ends m =
+      let bound = (names_at y).bound in
+      (went (done_piece (to_core_actions k.good.sig bound (Actions k).value cs1)) (m.lower (actions_at y) bound (names_at y).scoped)).from
 
-  pub both_done : {h : Acted} → Headed y s2 cs2 (Ok h) → Answers k s2 cs2 (Ok (record { body = b.to; head = h.to - 24 * n; actions = h.count; log = h.log - 30 * n }))
+  pub both_done : {h : Acted} → Headed y s2 cs2 (Ok h)
+      → Answers k s2 cs2 (Ok (record { body = b.to; head = h.to - 24 * n; actions = h.count; log = h.log - 30 * n }))
   both_done {h} m = by_cases m cs2 _ (λ q is z x u. go q is z x u)
     where
       go : (q : Query) → to_query (Facts k).value cs ≡ ok q → BodyWalk k s1 cs1 (Ok b) (ok q) → (x : Res Done) → HeadWalk y s2 cs2 (Ok h) x (Actions k).size

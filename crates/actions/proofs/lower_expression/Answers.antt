@@ -17,7 +17,8 @@ returns-in_err-e c =
     let at_start = starts a.rule.now a.scratch.now a.counters.now c.requires (omega arith) (omega arith) in
     let l = c.lower in
     let p = err_from_is_err_and c.from_residual.result c.from_residual.ensures.1 in
-    rw (p.1, p.2) (expression_refused at_start (low_at at_start c.in_err-e.ensures (length_words_kept _ _ l.auto.scratch) (length_words_kept _ _ l.auto.counters)))
+    rw (p.1, p.2)
+    (expression_refused at_start (low_at at_start c.in_err-e.ensures (length_words_kept _ _ l.auto.scratch) (length_words_kept _ _ l.auto.counters)))
 
 pub overflow_sub-result : goal.overflow_sub-result
 overflow_sub-result c =

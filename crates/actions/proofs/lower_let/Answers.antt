@@ -31,17 +31,20 @@ overflow_add-at c =
 
 pub returns-then-taken : goal.returns-then-taken
 returns-then-taken c =
-    let at_get = let a = c.args in letting a.rule.now a.scratch.now a.counters.now c.requires.known c.requires.top (omega arith) (omega arith) c.get-name.ensures.is in
+    let at_get =
+    let a = c.args in letting a.rule.now a.scratch.now a.counters.now c.requires.known c.requires.top (omega arith) (omega arith) c.get-name.ensures.is in
     let_twice at_get (taken_as c.get-name.result c.taken.ensures) c.if-taken.true c.at.ensures
 
 pub overflow_add-at-2 : goal.overflow_add-at-2
 overflow_add-at-2 c =
-    let at_get = let a = c.args in letting a.rule.now a.scratch.now a.counters.now c.requires.known c.requires.top (omega arith) (omega arith) c.get-name.ensures.is in
+    let at_get =
+    let a = c.args in letting a.rule.now a.scratch.now a.counters.now c.requires.known c.requires.top (omega arith) (omega arith) c.get-name.ensures.is in
     omega (arith, at_get.begun)
 
 pub returns-in_err-e : goal.returns-in_err-e
 returns-in_err-e c =
-    let at_get = let a = c.args in letting a.rule.now a.scratch.now a.counters.now c.requires.known c.requires.top (omega arith) (omega arith) c.get-name.ensures.is in
+    let at_get =
+    let a = c.args in letting a.rule.now a.scratch.now a.counters.now c.requires.known c.requires.top (omega arith) (omega arith) c.get-name.ensures.is in
     let at_free = is_free at_get (taken_as c.get-name.result c.taken.ensures) c.if-taken.false in
     let at_lower = let e = c.lower in low_at at_get.begun c.in_err-e.ensures (length_words_kept _ _ e.auto.scratch) (length_words_kept _ _ e.auto.counters) in
     let p = err_from_is_err_and c.from_residual.result c.from_residual.ensures.1 in
@@ -49,14 +52,16 @@ returns-in_err-e c =
 
 pub put_three-end-requires : goal.put_three-end-requires
 put_three-end-requires c =
-    let at_get = let a = c.args in letting a.rule.now a.scratch.now a.counters.now c.requires.known c.requires.top (omega arith) (omega arith) c.get-name.ensures.is in
+    let at_get =
+    let a = c.args in letting a.rule.now a.scratch.now a.counters.now c.requires.known c.requires.top (omega arith) (omega arith) c.get-name.ensures.is in
     let at_free = is_free at_get (taken_as c.get-name.result c.taken.ensures) c.if-taken.false in
     let at_lower = let e = c.lower in low_at at_get.begun c.in_ok-e.ensures (length_words_kept _ _ e.auto.scratch) (length_words_kept _ _ e.auto.counters) in
     (let_fine at_free at_lower).words
 
 pub put-requires : goal.put-requires
 put-requires c =
-    let at_get = let a = c.args in letting a.rule.now a.scratch.now a.counters.now c.requires.known c.requires.top (omega arith) (omega arith) c.get-name.ensures.is in
+    let at_get =
+    let a = c.args in letting a.rule.now a.scratch.now a.counters.now c.requires.known c.requires.top (omega arith) (omega arith) c.get-name.ensures.is in
     let at_free = is_free at_get (taken_as c.get-name.result c.taken.ensures) c.if-taken.false in
     let at_lower = let e = c.lower in low_at at_get.begun c.in_ok-e.ensures (length_words_kept _ _ e.auto.scratch) (length_words_kept _ _ e.auto.counters) in
     let at_three : length (words c.put_three-end.new.buf) ≡ length (words c.lower.new.scratch) = length_words_kept _ _ c.put_three-end.auto.buf in
@@ -64,14 +69,16 @@ put-requires c =
 
 pub overflow_sub-result : goal.overflow_sub-result
 overflow_sub-result c =
-    let at_get = let a = c.args in letting a.rule.now a.scratch.now a.counters.now c.requires.known c.requires.top (omega arith) (omega arith) c.get-name.ensures.is in
+    let at_get =
+    let a = c.args in letting a.rule.now a.scratch.now a.counters.now c.requires.known c.requires.top (omega arith) (omega arith) c.get-name.ensures.is in
     let at_free = is_free at_get (taken_as c.get-name.result c.taken.ensures) c.if-taken.false in
     let at_lower = let e = c.lower in low_at at_get.begun c.in_ok-e.ensures (length_words_kept _ _ e.auto.scratch) (length_words_kept _ _ e.auto.counters) in
     (let_fine at_free at_lower).logged
 
 pub returns : goal.returns
 returns c =
-    let at_get = let a = c.args in letting a.rule.now a.scratch.now a.counters.now c.requires.known c.requires.top (omega arith) (omega arith) c.get-name.ensures.is in
+    let at_get =
+    let a = c.args in letting a.rule.now a.scratch.now a.counters.now c.requires.known c.requires.top (omega arith) (omega arith) c.get-name.ensures.is in
     let at_free = is_free at_get (taken_as c.get-name.result c.taken.ensures) c.if-taken.false in
     let at_lower = let e = c.lower in low_at at_get.begun c.in_ok-e.ensures (length_words_kept _ _ e.auto.scratch) (length_words_kept _ _ e.auto.counters) in
     let_done at_free at_lower c.put_three-end.ensures c.put.ensures

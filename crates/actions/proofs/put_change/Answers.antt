@@ -17,5 +17,6 @@ pub returns : goal.returns
 returns c =
     let t = c.take in
     closed c.args.code
-    (head_used c.requires.0 (head_says c.head_word-h.ensures) c.in_ok-take.ensures (length_words_kept _ _ t.auto.scratch) (length_words_kept _ _ t.auto.counters))
+    (head_used c.requires.0 (head_says c.head_word-h.ensures) c.in_ok-take.ensures
+    (length_words_kept _ _ t.auto.scratch) (length_words_kept _ _ t.auto.counters))
     c.put_terms-end.ensures

@@ -45,54 +45,67 @@ overflow_add-at-2 c =
 
 pub overflow_add-at-3 : goal.overflow_add-at-3
 overflow_add-at-3 c =
-    let at_get = let a = c.args in naming a.rule.now a.scratch.now a.counters.now c.requires (omega arith) (omega arith) c.get-name.ensures.is c.get-w.ensures.is in
+    let at_get =
+    let a = c.args in naming a.rule.now a.scratch.now a.counters.now c.requires (omega arith) (omega arith) c.get-name.ensures.is c.get-w.ensures.is in
     omega (arith, at_get.begun)
 
 pub returns-in_err-args : goal.returns-in_err-args
 returns-in_err-args c =
-    let at_get = let a = c.args in naming a.rule.now a.scratch.now a.counters.now c.requires (omega arith) (omega arith) c.get-name.ensures.is c.get-w.ensures.is in
+    let at_get =
+    let a = c.args in naming a.rule.now a.scratch.now a.counters.now c.requires (omega arith) (omega arith) c.get-name.ensures.is c.get-w.ensures.is in
     let counted = count_says c.head_word-n.ensures in
-    let at_args = let a = c.lower_all in argued counted at_get.begun (length_words_kept _ _ a.auto.scratch) (length_words_kept _ _ a.auto.counters) c.in_err-args.ensures in
+    let at_args =
+    let a = c.lower_all in argued counted at_get.begun (length_words_kept _ _ a.auto.scratch) (length_words_kept _ _ a.auto.counters) c.in_err-args.ensures in
     let p = err_from_is_err_and c.from_residual.result c.from_residual.ensures.1 in
     rw (p.1, p.2) (args_refused at_get at_args)
 
 pub may_read-requires : goal.may_read-requires
 may_read-requires c =
-    let at_get = let a = c.args in naming a.rule.now a.scratch.now a.counters.now c.requires (omega arith) (omega arith) c.get-name.ensures.is c.get-w.ensures.is in
+    let at_get =
+    let a = c.args in naming a.rule.now a.scratch.now a.counters.now c.requires (omega arith) (omega arith) c.get-name.ensures.is c.get-w.ensures.is in
     let counted = count_says c.head_word-n.ensures in
-    let at_args = let a = c.lower_all in argued counted at_get.begun (length_words_kept _ _ a.auto.scratch) (length_words_kept _ _ a.auto.counters) c.in_ok-args.ensures in
+    let at_args =
+    let a = c.lower_all in argued counted at_get.begun (length_words_kept _ _ a.auto.scratch) (length_words_kept _ _ a.auto.counters) c.in_ok-args.ensures in
     let at_else = is_fine at_args (omega arith) in
     name_asks at_get at_args at_else
 
 pub overflow_add-tops : goal.overflow_add-tops
 overflow_add-tops c =
     let counted = count_says c.head_word-n.ensures in
-    let at_get = let a = c.args in naming a.rule.now a.scratch.now a.counters.now c.requires (omega arith) (omega arith) c.get-name.ensures.is c.get-w.ensures.is in
-    let at_args = let a = c.lower_all in argued counted at_get.begun (length_words_kept _ _ a.auto.scratch) (length_words_kept _ _ a.auto.counters) c.in_ok-args.ensures in
+    let at_get =
+    let a = c.args in naming a.rule.now a.scratch.now a.counters.now c.requires (omega arith) (omega arith) c.get-name.ensures.is c.get-w.ensures.is in
+    let at_args =
+    let a = c.lower_all in argued counted at_get.begun (length_words_kept _ _ a.auto.scratch) (length_words_kept _ _ a.auto.counters) c.in_ok-args.ensures in
     let at_else = is_fine at_args (omega arith) in
     omega (arith, at_else, counted)
 
 pub put-requires : goal.put-requires
 put-requires c =
     let counted = count_says c.head_word-n.ensures in
-    let at_get = let a = c.args in naming a.rule.now a.scratch.now a.counters.now c.requires (omega arith) (omega arith) c.get-name.ensures.is c.get-w.ensures.is in
-    let at_args = let a = c.lower_all in argued counted at_get.begun (length_words_kept _ _ a.auto.scratch) (length_words_kept _ _ a.auto.counters) c.in_ok-args.ensures in
+    let at_get =
+    let a = c.args in naming a.rule.now a.scratch.now a.counters.now c.requires (omega arith) (omega arith) c.get-name.ensures.is c.get-w.ensures.is in
+    let at_args =
+    let a = c.lower_all in argued counted at_get.begun (length_words_kept _ _ a.auto.scratch) (length_words_kept _ _ a.auto.counters) c.in_ok-args.ensures in
     let at_else = is_fine at_args (omega arith) in
     omega (arith, at_else, counted)
 
 pub overflow_add-at-then-may_read : goal.overflow_add-at-then-may_read
 overflow_add-at-then-may_read c =
     let counted = count_says c.head_word-n.ensures in
-    let at_get = let a = c.args in naming a.rule.now a.scratch.now a.counters.now c.requires (omega arith) (omega arith) c.get-name.ensures.is c.get-w.ensures.is in
-    let at_args = let a = c.lower_all in argued counted at_get.begun (length_words_kept _ _ a.auto.scratch) (length_words_kept _ _ a.auto.counters) c.in_ok-args.ensures in
+    let at_get =
+    let a = c.args in naming a.rule.now a.scratch.now a.counters.now c.requires (omega arith) (omega arith) c.get-name.ensures.is c.get-w.ensures.is in
+    let at_args =
+    let a = c.lower_all in argued counted at_get.begun (length_words_kept _ _ a.auto.scratch) (length_words_kept _ _ a.auto.counters) c.in_ok-args.ensures in
     let at_else = is_fine at_args (omega arith) in
     omega (arith, at_else)
 
 pub put_change-requires : goal.put_change-requires
 put_change-requires c =
     let counted = count_says c.head_word-n.ensures in
-    let at_get = let a = c.args in naming a.rule.now a.scratch.now a.counters.now c.requires (omega arith) (omega arith) c.get-name.ensures.is c.get-w.ensures.is in
-    let at_args = let a = c.lower_all in argued counted at_get.begun (length_words_kept _ _ a.auto.scratch) (length_words_kept _ _ a.auto.counters) c.in_ok-args.ensures in
+    let at_get =
+    let a = c.args in naming a.rule.now a.scratch.now a.counters.now c.requires (omega arith) (omega arith) c.get-name.ensures.is c.get-w.ensures.is in
+    let at_args =
+    let a = c.lower_all in argued counted at_get.begun (length_words_kept _ _ a.auto.scratch) (length_words_kept _ _ a.auto.counters) c.in_ok-args.ensures in
     let at_else = is_fine at_args (omega arith) in
     let pushed : words c.put.new.s ≡ set (words c.lower_all.new.scratch) (c.args.tops.sp + count_of c.get-w.result) c.get-name.result =
     c.put.ensures ∙ ap (λ (i : ℕ). set (words c.lower_all.new.scratch) (c.args.tops.sp + i) c.get-name.result) counted in
@@ -102,9 +115,11 @@ put_change-requires c =
 
 pub returns-then-may_read : goal.returns-then-may_read
 returns-then-may_read c =
-    let at_get = let a = c.args in naming a.rule.now a.scratch.now a.counters.now c.requires (omega arith) (omega arith) c.get-name.ensures.is c.get-w.ensures.is in
+    let at_get =
+    let a = c.args in naming a.rule.now a.scratch.now a.counters.now c.requires (omega arith) (omega arith) c.get-name.ensures.is c.get-w.ensures.is in
     let counted = count_says c.head_word-n.ensures in
-    let at_args = let a = c.lower_all in argued counted at_get.begun (length_words_kept _ _ a.auto.scratch) (length_words_kept _ _ a.auto.counters) c.in_ok-args.ensures in
+    let at_args =
+    let a = c.lower_all in argued counted at_get.begun (length_words_kept _ _ a.auto.scratch) (length_words_kept _ _ a.auto.counters) c.in_ok-args.ensures in
     let at_else = is_fine at_args (omega arith) in
     let pushed : words c.put.new.s ≡ set (words c.lower_all.new.scratch) (c.args.tops.sp + count_of c.get-w.result) c.get-name.result =
     c.put.ensures ∙ ap (λ (i : ℕ). set (words c.lower_all.new.scratch) (c.args.tops.sp + i) c.get-name.result) counted in
@@ -116,15 +131,19 @@ returns-then-may_read c =
 pub overflow_add-at-4 : goal.overflow_add-at-4
 overflow_add-at-4 c =
     let counted = count_says c.head_word-n.ensures in
-    let at_get = let a = c.args in naming a.rule.now a.scratch.now a.counters.now c.requires (omega arith) (omega arith) c.get-name.ensures.is c.get-w.ensures.is in
-    let at_args = let a = c.lower_all in argued counted at_get.begun (length_words_kept _ _ a.auto.scratch) (length_words_kept _ _ a.auto.counters) c.in_ok-args.ensures in
+    let at_get =
+    let a = c.args in naming a.rule.now a.scratch.now a.counters.now c.requires (omega arith) (omega arith) c.get-name.ensures.is c.get-w.ensures.is in
+    let at_args =
+    let a = c.lower_all in argued counted at_get.begun (length_words_kept _ _ a.auto.scratch) (length_words_kept _ _ a.auto.counters) c.in_ok-args.ensures in
     let at_else = is_fine at_args (omega arith) in
     omega (arith, at_else)
 
 pub returns : goal.returns
 returns c =
-    let at_get = let a = c.args in naming a.rule.now a.scratch.now a.counters.now c.requires (omega arith) (omega arith) c.get-name.ensures.is c.get-w.ensures.is in
+    let at_get =
+    let a = c.args in naming a.rule.now a.scratch.now a.counters.now c.requires (omega arith) (omega arith) c.get-name.ensures.is c.get-w.ensures.is in
     let counted = count_says c.head_word-n.ensures in
-    let at_args = let a = c.lower_all in argued counted at_get.begun (length_words_kept _ _ a.auto.scratch) (length_words_kept _ _ a.auto.counters) c.in_ok-args.ensures in
+    let at_args =
+    let a = c.lower_all in argued counted at_get.begun (length_words_kept _ _ a.auto.scratch) (length_words_kept _ _ a.auto.counters) c.in_ok-args.ensures in
     let at_else = is_fine at_args (omega arith) in
     name_refused at_get at_args at_else (reads_as c.get-name.result c.may_read.ensures) c.if-may_read.false c.at.ensures

@@ -24,7 +24,8 @@ use Rattle.head_exprs.proofs.Calls.{args_refused, end_asks, call_answer}
 use Rattle.head_exprs.proofs.+lower_lower_all.Goals as goal
 
 -- the word w of the expression is read
-word_read : (rule scratch : List ℕ) {cs : List ℕ} {d at w : ℕ} {t : Tops} {scope : Scope} → Asks (site_of (words rule) (words scratch) cs at t scope) (λ sig. ExprAt sig (words rule) d at) at
+word_read : (rule scratch : List ℕ) {cs : List ℕ} {d at w : ℕ} {t : Tops} {scope : Scope}
+    → Asks (site_of (words rule) (words scratch) cs at t scope) (λ sig. ExprAt sig (words rule) d at) at
     → length rule < 2 ^ 64 → length scratch < 2 ^ 64 → w ≡ get_or (words rule) at 0
     → Begun (place (words rule) (words scratch) cs d at t.to t.sp t.log w) (λ sig bound. Scoped sig bound (words scratch) scope)
 word_read rule scratch asks rule_fits scratch_fits is =

@@ -17,7 +17,8 @@ use Rattle.head_exprs.proofs.lower_arguments.Goals as goal
 
 -- what is known at the start, where the row may be d deep
 row_begun : (d : ℕ) (rule scratch : List ℕ) {cs : List ℕ} {n at : ℕ} {t : Tops} {scope : Scope}
-    → (let k = site_of (words rule) (words scratch) cs at t scope in Asks k (λ sig. ExprsAt sig k.ws d n at) at → length rule < 2 ^ 64 → length scratch < 2 ^ 64 → Begun k (Row k d n))
+    → (let k = site_of (words rule) (words scratch) cs at t scope in
+    Asks k (λ sig. ExprsAt sig k.ws d n at) at → length rule < 2 ^ 64 → length scratch < 2 ^ 64 → Begun k (Row k d n))
 row_begun d rule scratch asks rule_fits scratch_fits =
     begun_as (begun asks (omega (arith, length_words rule)) (omega (arith, length_words scratch))) (λ sig x. record { exprs = x })
 

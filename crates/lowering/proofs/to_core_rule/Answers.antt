@@ -37,21 +37,27 @@ pub back-requires : goal.back-requires
 back-requires c =
     let k = header_read c.args.scratch.now c.requires (omega arith) c.count-n.ensures c.get-counts.ensures.is in
     let q = c.to_query in
-    let f = flattened {k = k} (length_words_kept _ _ q.auto.scratch) (length_words_kept _ _ q.auto.counters) (c.in-Err.ensures k.good.sig k.read.facts k.counted) in
+    let f =
+    flattened {k = k} (length_words_kept _ _ q.auto.scratch) (length_words_kept _ _ q.auto.counters)
+    (c.in-Err.ensures k.good.sig k.read.facts k.counted) in
     (f.log_from, omega (arith, f))
 
 pub returns-in-Err : goal.returns-in-Err
 returns-in-Err c =
     let k = header_read c.args.scratch.now c.requires (omega arith) c.count-n.ensures c.get-counts.ensures.is in
     let q = c.to_query in
-    let f = flattened {k = k} (length_words_kept _ _ q.auto.scratch) (length_words_kept _ _ q.auto.counters) (c.in-Err.ensures k.good.sig k.read.facts k.counted) in
+    let f =
+    flattened {k = k} (length_words_kept _ _ q.auto.scratch) (length_words_kept _ _ q.auto.counters)
+    (c.in-Err.ensures k.good.sig k.read.facts k.counted) in
     body_back f c.back.ensures
 
 pub to_core_actions-requires : goal.to_core_actions-requires
 to_core_actions-requires c =
     let k = header_read c.args.scratch.now c.requires (omega arith) c.count-n.ensures c.get-counts.ensures.is in
     let q = c.to_query in
-    let f = flattened {k = k} (length_words_kept _ _ q.auto.scratch) (length_words_kept _ _ q.auto.counters) (c.in-Ok.ensures k.good.sig k.read.facts k.counted) in
+    let f =
+    flattened {k = k} (length_words_kept _ _ q.auto.scratch) (length_words_kept _ _ q.auto.counters)
+    (c.in-Ok.ensures k.good.sig k.read.facts k.counted) in
     let y = ready f c.get-globals.ensures.is in
     rw c.new.ensures
     (record { sig = k.good.sig; known = (actions_at y, head_counted y, names_at y, k.signature.signed) }, (head_room y, head_scope_room y))
@@ -60,7 +66,9 @@ pub back-requires-in-Err-to_core_actions : goal.back-requires-in-Err-to_core_act
 back-requires-in-Err-to_core_actions c =
     let k = header_read c.args.scratch.now c.requires (omega arith) c.count-n.ensures c.get-counts.ensures.is in
     let q = c.to_query in
-    let f = flattened {k = k} (length_words_kept _ _ q.auto.scratch) (length_words_kept _ _ q.auto.counters) (c.in-Ok.ensures k.good.sig k.read.facts k.counted) in
+    let f =
+    flattened {k = k} (length_words_kept _ _ q.auto.scratch) (length_words_kept _ _ q.auto.counters)
+    (c.in-Ok.ensures k.good.sig k.read.facts k.counted) in
     let y = ready f c.get-globals.ensures.is in
     let a = c.to_core_actions in
     let m = headed y (words a.new.scratch) (words a.new.counters) (Err c.in-Err-to_core_actions.in_head) c.new.ensures (length_words_kept _ _ a.auto.scratch)
@@ -71,7 +79,9 @@ pub returns-in-Err-to_core_actions : goal.returns-in-Err-to_core_actions
 returns-in-Err-to_core_actions c =
     let k = header_read c.args.scratch.now c.requires (omega arith) c.count-n.ensures c.get-counts.ensures.is in
     let q = c.to_query in
-    let f = flattened {k = k} (length_words_kept _ _ q.auto.scratch) (length_words_kept _ _ q.auto.counters) (c.in-Ok.ensures k.good.sig k.read.facts k.counted) in
+    let f =
+    flattened {k = k} (length_words_kept _ _ q.auto.scratch) (length_words_kept _ _ q.auto.counters)
+    (c.in-Ok.ensures k.good.sig k.read.facts k.counted) in
     let y = ready f c.get-globals.ensures.is in
     let a = c.to_core_actions in
     let m = headed y (words a.new.scratch) (words a.new.counters) (Err c.in-Err-to_core_actions.in_head) c.new.ensures (length_words_kept _ _ a.auto.scratch)
@@ -82,7 +92,9 @@ pub overflow_sub-result : goal.overflow_sub-result
 overflow_sub-result c =
     let k = header_read c.args.scratch.now c.requires (omega arith) c.count-n.ensures c.get-counts.ensures.is in
     let q = c.to_query in
-    let f = flattened {k = k} (length_words_kept _ _ q.auto.scratch) (length_words_kept _ _ q.auto.counters) (c.in-Ok.ensures k.good.sig k.read.facts k.counted) in
+    let f =
+    flattened {k = k} (length_words_kept _ _ q.auto.scratch) (length_words_kept _ _ q.auto.counters)
+    (c.in-Ok.ensures k.good.sig k.read.facts k.counted) in
     let y = ready f c.get-globals.ensures.is in
     let a = c.to_core_actions in
     let m = headed y (words a.new.scratch) (words a.new.counters) (Ok c.in-Ok-to_core_actions.acted) c.new.ensures (length_words_kept _ _ a.auto.scratch)
@@ -93,7 +105,9 @@ pub overflow_sub-result-2 : goal.overflow_sub-result-2
 overflow_sub-result-2 c =
     let k = header_read c.args.scratch.now c.requires (omega arith) c.count-n.ensures c.get-counts.ensures.is in
     let q = c.to_query in
-    let f = flattened {k = k} (length_words_kept _ _ q.auto.scratch) (length_words_kept _ _ q.auto.counters) (c.in-Ok.ensures k.good.sig k.read.facts k.counted) in
+    let f =
+    flattened {k = k} (length_words_kept _ _ q.auto.scratch) (length_words_kept _ _ q.auto.counters)
+    (c.in-Ok.ensures k.good.sig k.read.facts k.counted) in
     let y = ready f c.get-globals.ensures.is in
     let a = c.to_core_actions in
     let m = headed y (words a.new.scratch) (words a.new.counters) (Ok c.in-Ok-to_core_actions.acted) c.new.ensures (length_words_kept _ _ a.auto.scratch)
@@ -104,7 +118,9 @@ pub returns : goal.returns
 returns c =
     let k = header_read c.args.scratch.now c.requires (omega arith) c.count-n.ensures c.get-counts.ensures.is in
     let q = c.to_query in
-    let f = flattened {k = k} (length_words_kept _ _ q.auto.scratch) (length_words_kept _ _ q.auto.counters) (c.in-Ok.ensures k.good.sig k.read.facts k.counted) in
+    let f =
+    flattened {k = k} (length_words_kept _ _ q.auto.scratch) (length_words_kept _ _ q.auto.counters)
+    (c.in-Ok.ensures k.good.sig k.read.facts k.counted) in
     let y = ready f c.get-globals.ensures.is in
     let a = c.to_core_actions in
     let m = headed y (words a.new.scratch) (words a.new.counters) (Ok c.in-Ok-to_core_actions.acted) c.new.ensures (length_words_kept _ _ a.auto.scratch)
