@@ -22,7 +22,7 @@ use Rattle.walks.proofs.Steps.{went, stop, retold}
 use Rattle.walks.proofs.Read.{call_cases, exprs_many}
 use Rattle.head_exprs.specs.Lowered.{lowered, lowered_all, call_piece, and_call, Binds}
 use Rattle.head_exprs.proofs.Pieces.{lowered_call}
-use Rattle.head_exprs.proofs.Expressions.{standing, none_way, read_way, unbound_way}
+use Rattle.head_exprs.proofs.Expressions.{none_way, read_way, unbound_way}
 
 -- the expression: the words, where it stands and where its walk writes, how deep it may be, and its word w
 pub record Place : Type 0 where
@@ -130,10 +130,10 @@ argued {k} {B} h {n} {s1} {cs1} {r} count walk counters scratch =
     }
 
 -- there are none
-pub bare : {k : Place} {B : Sig → List ℕ → Type 0} {g : Begun k B} (h : Called g) → count_of k.w ≡ 0 → Argued h k.s k.cs (Ok (standing (k.at + 1) k.to k.lg))
-bare {k} h zero =
+pub bare : {k : Place} {B : Sig → List ℕ → Type 0} {g : Begun k B} (h : Called g) {u : ℕ} → count_of k.w ≡ 0 → Argued h k.s k.cs (Ok (reached_at (k.at + 1) k.to k.lg u))
+bare {k} h {u} zero =
     record {
-      walk = λ sig es bound n i. none_way sig bound k.ws (k.d - 1) (count_of k.w) (k.at + 1) k.to k.sp k.lg k.s k.cs zero es;
+      walk = λ sig es bound n i. none_way sig bound k.ws (k.d - 1) (count_of k.w) (k.at + 1) k.to k.sp k.lg u k.s k.cs zero es;
       counters = refl;
       scratch = refl;
     }

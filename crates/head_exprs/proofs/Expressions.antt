@@ -47,15 +47,15 @@ scope_going n r g h x =
 pub scope_in : {n at to sp : ℕ} {c : Scope} → ScopeRoom n at to sp c → ScopeRoom n (at + 1) to sp c
 scope_in r = record { few = r.few; body = r.body; names = omega (arith, r.names); top = r.top }
 
--- a row of none, where the walk stands
+-- where a walk stands without a term, and a row of none there
 abbrev pub standing : (at to lg : ℕ) → Walk
 standing p t l = reached_at p t l 0
 
-pub none_way : (sig : Sig) (bound ws : List ℕ) (d n at to sp lg : ℕ) (s cs : List ℕ) → n ≡ 0 → (es : ExprsAt sig ws d n at)
-    → Walked n (OnStack sp n lg s) (lowered_all sig bound es.value cs) es.size at to sp lg s cs s cs (Ok (standing at to lg))
-none_way sig bound ws d n at to sp lg s cs z es =
-    left_none (lowered sig bound) (lowered_all sig bound) (lowered_row sig bound) sig ws d n at to sp lg s cs es n sp s cs (standing at to lg)
-    (left_all (lowered sig bound) (lowered_all sig bound) (lowered_row sig bound) sig ws d n at to sp lg s cs es 0) z
+pub none_way : (sig : Sig) (bound ws : List ℕ) (d n at to sp lg u : ℕ) (s cs : List ℕ) → n ≡ 0 → (es : ExprsAt sig ws d n at)
+    → Walked n (OnStack sp n lg s) (lowered_all sig bound es.value cs) es.size at to sp lg s cs s cs (Ok (reached_at at to lg u))
+none_way sig bound ws d n at to sp lg u s cs z es =
+    left_none (lowered sig bound) (lowered_all sig bound) (lowered_row sig bound) sig ws d n at to sp lg s cs es n sp s cs (reached_at at to lg u)
+    (left_all (lowered sig bound) (lowered_all sig bound) (lowered_row sig bound) sig ws d n at to sp lg s cs es u) z
 
 -- ---- a name or a literal
 

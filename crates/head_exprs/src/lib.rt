@@ -59,14 +59,15 @@ pub fn lower(
         (words scratch.new) (words counters.new) result }
 {
     let w = octets::get(rule, at);
+    let here = Walk {
+        next: at + 1,
+        to: tops.to,
+        log: tops.log,
+        term: w,
+    };
     if words::is_leaf(w) {
         if scope.may_read(scratch, w) {
-            return Ok(Walk {
-                next: at + 1,
-                to: tops.to,
-                log: tops.log,
-                term: w,
-            });
+            return Ok(here);
         }
         return Err(Stopped {
             refusal: Reason::Unbound.at(at),
@@ -74,18 +75,11 @@ pub fn lower(
         });
     }
     let n = words::head_word(w).count as usize;
-    let first = at + 1;
     if n == 0 {
-        let none = Walk {
-            next: first,
-            to: tops.to,
-            log: tops.log,
-            term: 0,
-        };
-        return put_called(none, at, w, n, counters, scratch, tops.sp);
+        return put_called(here, at, w, n, counters, scratch, tops.sp);
     }
     let less = depth - 1;
-    let args = lower_all(rule, first, n, less, scope, counters, scratch, tops)?;
+    let args = lower_all(rule, here.next, n, less, scope, counters, scratch, tops)?;
     put_called(args, at, w, n, counters, scratch, tops.sp)
 }
 

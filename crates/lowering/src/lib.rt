@@ -65,23 +65,19 @@ pub fn to_core_rule(
         Err(in_body) => return Err(back(in_body, counters, scratch, log)),
     };
     let globals = octets::get(signature, 1) - words::SIGNATURE_BASE;
-    let head = match core_actions::to_core_actions(
-        signature,
-        rule,
-        body.next,
-        (counts % words::LIMIT_12) as usize,
-        Scope::new(globals, body.to, sp),
-        counters,
-        scratch,
-        HEAD_AT * n,
-        body.log,
-    ) {
+    let scope = Scope::new(globals, body.to, sp);
+    let actions = (counts % words::LIMIT_12) as usize;
+    let to = HEAD_AT * n;
+    let lowered = core_actions::to_core_actions(
+        signature, rule, body.next, actions, scope, counters, scratch, to, body.log,
+    );
+    let head = match lowered {
         Ok(acted) => acted,
         Err(in_head) => return Err(back(in_head, counters, scratch, log)),
     };
     Ok(Lowering {
         body: body.to,
-        head: head.to - HEAD_AT * n,
+        head: head.to - to,
         actions: head.count,
         log: head.log - log,
     })

@@ -43,8 +43,8 @@ word_read rule scratch asks rule_fits scratch_fits is =
 
 -- ---- a name or a literal
 
-pub lower-overflow_add-result : goal.lower-overflow_add-result
-lower-overflow_add-result t c =
+pub lower-overflow_add-here : goal.lower-overflow_add-here
+lower-overflow_add-here t c =
     let word = word_read c.args.rule.now c.args.scratch.now c.requires (omega arith) (omega arith) c.get-w.ensures.is in
     omega (arith, word_inside word, word.rule_fits)
 
@@ -59,11 +59,6 @@ lower-returns-then-is_leaf t c =
     let word = word_read c.args.rule.now c.args.scratch.now c.requires (omega arith) (omega arith) c.get-w.ensures.is in
     let high = leaf_high c.is_leaf.ensures c.if-is_leaf.true in
     leaf_unbound word high (reads_as c.get-w.result c.may_read.ensures) c.if-may_read.false c.at.ensures
-
-pub lower-overflow_add-first : goal.lower-overflow_add-first
-lower-overflow_add-first t c =
-    let word = word_read c.args.rule.now c.args.scratch.now c.requires (omega arith) (omega arith) c.get-w.ensures.is in
-    omega (arith, word_inside word, word.rule_fits)
 
 -- ---- a call without arguments
 

@@ -51,42 +51,42 @@ returns-in-Err c =
     (c.in-Err.ensures k.good.sig k.read.facts k.counted) in
     body_back f c.back.ensures
 
-pub to_core_actions-requires : goal.to_core_actions-requires
-to_core_actions-requires c =
+pub to_core_actions-lowered-requires : goal.to_core_actions-lowered-requires
+to_core_actions-lowered-requires c =
     let k = header_read c.args.scratch.now c.requires (omega arith) c.count-n.ensures c.get-counts.ensures.is in
     let q = c.to_query in
     let f =
     flattened {k = k} (length_words_kept _ _ q.auto.scratch) (length_words_kept _ _ q.auto.counters)
     (c.in-Ok.ensures k.good.sig k.read.facts k.counted) in
     let y = ready f c.get-globals.ensures.is in
-    rw c.new.ensures
+    rw c.new-scope.ensures
     (record { sig = k.good.sig; known = (actions_at y, head_counted y, names_at y, k.signature.signed) }, (head_room y, head_scope_room y))
 
-pub back-requires-in-Err-to_core_actions : goal.back-requires-in-Err-to_core_actions
-back-requires-in-Err-to_core_actions c =
+pub back-requires-in-Err-lowered : goal.back-requires-in-Err-lowered
+back-requires-in-Err-lowered c =
     let k = header_read c.args.scratch.now c.requires (omega arith) c.count-n.ensures c.get-counts.ensures.is in
     let q = c.to_query in
     let f =
     flattened {k = k} (length_words_kept _ _ q.auto.scratch) (length_words_kept _ _ q.auto.counters)
     (c.in-Ok.ensures k.good.sig k.read.facts k.counted) in
     let y = ready f c.get-globals.ensures.is in
-    let a = c.to_core_actions in
-    let m = headed y (words a.new.scratch) (words a.new.counters) (Err c.in-Err-to_core_actions.in_head) c.new.ensures (length_words_kept _ _ a.auto.scratch)
-    (λ x bound sc. (c.in-Err-to_core_actions.ensures k.good.sig x bound (head_counted y) sc k.signature.signed).0) in
+    let a = c.to_core_actions-lowered in
+    let m = headed y (words a.new.scratch) (words a.new.counters) (Err c.in-Err-lowered.in_head) c.new-scope.ensures (length_words_kept _ _ a.auto.scratch)
+    (λ x bound sc. (c.in-Err-lowered.ensures k.good.sig x bound (head_counted y) sc k.signature.signed).0) in
     (m.log_from, omega (arith, m))
 
-pub returns-in-Err-to_core_actions : goal.returns-in-Err-to_core_actions
-returns-in-Err-to_core_actions c =
+pub returns-in-Err-lowered : goal.returns-in-Err-lowered
+returns-in-Err-lowered c =
     let k = header_read c.args.scratch.now c.requires (omega arith) c.count-n.ensures c.get-counts.ensures.is in
     let q = c.to_query in
     let f =
     flattened {k = k} (length_words_kept _ _ q.auto.scratch) (length_words_kept _ _ q.auto.counters)
     (c.in-Ok.ensures k.good.sig k.read.facts k.counted) in
     let y = ready f c.get-globals.ensures.is in
-    let a = c.to_core_actions in
-    let m = headed y (words a.new.scratch) (words a.new.counters) (Err c.in-Err-to_core_actions.in_head) c.new.ensures (length_words_kept _ _ a.auto.scratch)
-    (λ x bound sc. (c.in-Err-to_core_actions.ensures k.good.sig x bound (head_counted y) sc k.signature.signed).0) in
-    head_back m c.back-in-Err-to_core_actions.ensures
+    let a = c.to_core_actions-lowered in
+    let m = headed y (words a.new.scratch) (words a.new.counters) (Err c.in-Err-lowered.in_head) c.new-scope.ensures (length_words_kept _ _ a.auto.scratch)
+    (λ x bound sc. (c.in-Err-lowered.ensures k.good.sig x bound (head_counted y) sc k.signature.signed).0) in
+    head_back m c.back-in-Err-lowered.ensures
 
 pub overflow_sub-result : goal.overflow_sub-result
 overflow_sub-result c =
@@ -96,9 +96,9 @@ overflow_sub-result c =
     flattened {k = k} (length_words_kept _ _ q.auto.scratch) (length_words_kept _ _ q.auto.counters)
     (c.in-Ok.ensures k.good.sig k.read.facts k.counted) in
     let y = ready f c.get-globals.ensures.is in
-    let a = c.to_core_actions in
-    let m = headed y (words a.new.scratch) (words a.new.counters) (Ok c.in-Ok-to_core_actions.acted) c.new.ensures (length_words_kept _ _ a.auto.scratch)
-    (λ x bound sc. (c.in-Ok-to_core_actions.ensures k.good.sig x bound (head_counted y) sc k.signature.signed).0) in
+    let a = c.to_core_actions-lowered in
+    let m = headed y (words a.new.scratch) (words a.new.counters) (Ok c.in-Ok-lowered.acted) c.new-scope.ensures (length_words_kept _ _ a.auto.scratch)
+    (λ x bound sc. (c.in-Ok-lowered.ensures k.good.sig x bound (head_counted y) sc k.signature.signed).0) in
     head_ends m
 
 pub overflow_sub-result-2 : goal.overflow_sub-result-2
@@ -109,9 +109,9 @@ overflow_sub-result-2 c =
     flattened {k = k} (length_words_kept _ _ q.auto.scratch) (length_words_kept _ _ q.auto.counters)
     (c.in-Ok.ensures k.good.sig k.read.facts k.counted) in
     let y = ready f c.get-globals.ensures.is in
-    let a = c.to_core_actions in
-    let m = headed y (words a.new.scratch) (words a.new.counters) (Ok c.in-Ok-to_core_actions.acted) c.new.ensures (length_words_kept _ _ a.auto.scratch)
-    (λ x bound sc. (c.in-Ok-to_core_actions.ensures k.good.sig x bound (head_counted y) sc k.signature.signed).0) in
+    let a = c.to_core_actions-lowered in
+    let m = headed y (words a.new.scratch) (words a.new.counters) (Ok c.in-Ok-lowered.acted) c.new-scope.ensures (length_words_kept _ _ a.auto.scratch)
+    (λ x bound sc. (c.in-Ok-lowered.ensures k.good.sig x bound (head_counted y) sc k.signature.signed).0) in
     m.log_from
 
 pub returns : goal.returns
@@ -122,7 +122,7 @@ returns c =
     flattened {k = k} (length_words_kept _ _ q.auto.scratch) (length_words_kept _ _ q.auto.counters)
     (c.in-Ok.ensures k.good.sig k.read.facts k.counted) in
     let y = ready f c.get-globals.ensures.is in
-    let a = c.to_core_actions in
-    let m = headed y (words a.new.scratch) (words a.new.counters) (Ok c.in-Ok-to_core_actions.acted) c.new.ensures (length_words_kept _ _ a.auto.scratch)
-    (λ x bound sc. (c.in-Ok-to_core_actions.ensures k.good.sig x bound (head_counted y) sc k.signature.signed).0) in
+    let a = c.to_core_actions-lowered in
+    let m = headed y (words a.new.scratch) (words a.new.counters) (Ok c.in-Ok-lowered.acted) c.new-scope.ensures (length_words_kept _ _ a.auto.scratch)
+    (λ x bound sc. (c.in-Ok-lowered.ensures k.good.sig x bound (head_counted y) sc k.signature.signed).0) in
     both_done m
