@@ -21,10 +21,10 @@ use Rattle.refusals.specs.Numbers.{told}
 use Rattle.signature.specs.Signature.{sign_of}
 use Rattle.signature.specs.declared.Signature.{Signature}
 use Rattle.answers.specs.declared.Answer.{Answer}
-use Rattle.lower_call.specs.declared.Lowered.{Lowered}
-use Rattle.answers.specs.Answers.{whole_three, scratch_written, refused_with, GivesBoth}
+use Rattle.answers.specs.declared.Counts.{Counts}
+use Rattle.answers.specs.Answers.{scratch_written, refused_with, answered, GivesBoth}
 use Rattle.answers.specs.Fronts.{written_front}
-use Rattle.lower_call.specs.Lower.{WrittenUnder, LowerAsks, LoweredTo, LowersTo, LowersRead, answer_of}
+use Rattle.lower_call.specs.Lower.{WrittenUnder, LowerAsks, LoweredTo, LowersTo, LowersRead}
 use Rattle.answers.proofs.Slices.{every_whole}
 use Rattle.answers.proofs.Tests.{written, front}
 use Rattle.answers.proofs.Lent.{Lent, lent_words}
@@ -46,11 +46,6 @@ module _ (k : Given) where
       → GivesBoth (lower k.signature k.rule k.counters k.output (length k.scratch)) r m d
   unfolding lower
   lower_gives g = g
-
-  -- the last two slices are tested first
-  pub lower_tested : {t b : Bool} → t ≡ whole_words (length k.output ∷ length k.scratch ∷ [])
-      → b ≡ whole_three (length k.signature) (length k.rule) (length k.counters) t → b ≡ whole_words (lowering k).lengths
-  lower_tested last three = three ∙ ap (whole_three (length k.signature) (length k.rule) (length k.counters)) last
 
   pub lower_whole : {b : Bool} → b ≡ whole_words (lowering k).lengths → b ≡ true → Whole (lowering k)
   lower_whole test h =
@@ -97,7 +92,7 @@ module _ (k : Given) where
 
 -- ---- the rule is lowered with the outcome w, which leaves the output m and the counters d
 
-pub record Worked (k : Given) {g : Signature} (y : Ready (lowering k) g) (w : Outcome Lowered Refusal) (m d : List ℕ) : Type 0 where
+pub record Worked (k : Given) {g : Signature} (y : Ready (lowering k) g) (w : Outcome Counts Refusal) (m d : List ℕ) : Type 0 where
   pub lowers : LowersTo y.sig (core k y) (words k.counters) (words d) k.output m w
   pub output : length m ≡ length k.output
   pub counters : length d ≡ length k.counters
@@ -107,7 +102,7 @@ pub record Worked (k : Given) {g : Signature} (y : Ready (lowering k) g) (w : Ou
   pub counters_after : Bytes d
 
 module _ (k : Given) {g : Signature} (y : Ready (lowering k) g) where
-  pub worked : {w : Outcome Lowered Refusal} {m d : List ℕ}
+  pub worked : {w : Outcome Counts Refusal} {m d : List ℕ}
       → LowersRead (words k.signature) (words k.rule) g (words k.counters) (words d) k.output m w
       → length m ≡ length k.output → length d ≡ length k.counters → Bytes k.output → Bytes m → Bytes k.counters → Bytes d → Worked k y w m d
   worked did em ed o m c d =
@@ -129,7 +124,7 @@ settles s x = ◌>>=◌ x (λ c. ok (result_of s c))
 
 module _ {k : Given} {g : Signature} {y : Ready (lowering k) g} {m d : List ℕ} where
   -- counters with the same words are the same bytes
-  unused : {w : Outcome Lowered Refusal} → Worked k y w m d → words d ≡ words k.counters → d ≡ k.counters
+  unused : {w : Outcome Counts Refusal} → Worked k y w m d → words d ≡ words k.counters → d ≡ k.counters
   unused o e = words_injective d k.counters o.counters_after o.counters_before (omega (arith, o.counters, y.whole.counters)) y.whole.counters e
 
   pub rule_refused : {q : Refusal} → Worked k y (Err q) m d → {r : Answer} → r ≡ refused_with (number_of q.reason) q.place → Answers (lowering k) r m d
@@ -139,7 +134,7 @@ module _ {k : Given} {g : Signature} {y : Ready (lowering k) g} {m d : List ℕ}
       go (ok c) e z = absurd z
       go (refuse n p) e z = work_refuses y (ap (settles y.sig) e) (a ∙ (λ i. refused_with (z.number' i) (z.place' i))) z.output (unused o z.counters)
 
-  module _ {w : Lowered} (o : Worked k y (Ok w) m d) where
+  module _ {w : Counts} (o : Worked k y (Ok w) m d) where
     abbrev Accepted : Type 0
     Accepted = (c : CoreRule) × (core k y ≡ ok c) × LoweredTo y.sig c (words k.counters) (words d) k.output m w
 
@@ -150,7 +145,7 @@ module _ {k : Given} {g : Signature} {y : Ready (lowering k) g} {m d : List ℕ}
         go (ok c) e z = (c, e, z)
         go (refuse n p) e z = absurd z
 
-    abbrev lower_done : Done y w.needed w.replacements w.passes m
+    abbrev lower_done : Done y w.words w.replacements w.passes m
     lower_done =
         let z = known.2 in
         record {
@@ -169,13 +164,13 @@ module _ {k : Given} {g : Signature} {y : Ready (lowering k) g} {m d : List ℕ}
       words_kept = words_are ∙ length_words_kept _ _ o.output
 
       -- no room: the counters are as they were
-      pub lower_short : count < w.needed → {r : Answer} → r ≡ refused_with short_output w.needed → Answers (lowering k) r m d
+      pub lower_short : count < w.words → {r : Answer} → r ≡ refused_with short_output w.words → Answers (lowering k) r m d
       lower_short l a = too_short lower_done words_are l a (unused o (known.2.uncounted (omega (arith, words_kept))))
 
       -- room for all of it: the counters are used
-      pub lower_written : w.needed ≤ count → {r : Answer} → r ≡ answer_of w → Answers (lowering k) r m d
-      lower_written l a =
+      pub lower_written : w.words ≤ count → Answers (lowering k) (answered (Ok w)) m d
+      lower_written l =
           let counts : d ≡ bytes_of known.0.next =
           sym (bytes_words d o.counters_after (omega (arith, o.counters, y.whole.counters)))
           ∙ ap bytes_of (known.2.counted (omega (arith, words_kept))) in
-          subst (λ (r : Answer). Answers (lowering k) r m d) (sym a) (all_written lower_done words_are l counts)
+          all_written lower_done words_are l counts

@@ -38,10 +38,10 @@ use Rattle.settling.specs.declared.Settled.{Settled}
 use Rattle.settling.specs.Settle.{SettleAsks, SettledAt}
 use Rattle.settling.proofs.Settling.{settle_asks}
 use Rattle.signature.specs.declared.Signature.{Signature}
-use Rattle.lower_call.specs.declared.Lowered.{Lowered}
+use Rattle.answers.specs.declared.Counts.{Counts}
 use Rattle.emitting.specs.Emit.{Parts, Stand}
 use Rattle.lower_call.specs.Lower.{LowerAsks, LowersTo, LowersRead}
-use Rattle.emitting.proofs.Emitting.{terms_of, Finishes, settled_parts}
+use Rattle.emitting.proofs.Emitting.{Finishes, settled_parts}
 
 module _ {gs ws : List ℕ} {g : Signature} {cs : List ℕ} {room : ℕ} (a : LowerAsks gs ws g cs room) where
   abbrev pub core_asks : Good gs ws cs room
@@ -166,8 +166,8 @@ module _ {gs ws : List ℕ} {g : Signature} {cs : List ℕ} {room : ℕ} {a : Lo
   -- ---- it is written if there is room: `needed` words, and the output has become out'
 
   module _ {needed : ℕ} {out out' : List ℕ} (finished : Finishes m2 b k.actions m2 (24 * n) k.head needed out out') where
-    abbrev answer : Result Lowered Refusal
-    answer = Ok (record { needed = needed; replacements = b.replacements; passes = b.passes })
+    abbrev answer : Result Counts Refusal
+    answer = Ok (record { words = needed; replacements = b.replacements; passes = b.passes })
 
     -- what holds of the signature and the rule that are known holds of all that are read
     of_read : {cs2 : List ℕ} → (needed ≤ length (words out) → cs2 ≡ c.core.next)

@@ -14,8 +14,7 @@ use Rattle.refusals.specs.Numbers.{number_of}
 use Rattle.refusals.specs.declared.Refusal.{Refusal}
 use Rattle.signature.specs.declared.Signature.{Signature}
 use Rattle.free_vars.specs.Head.{WroteIfRoom}
-use Rattle.answers.specs.declared.Answer.{Answer}
-use Rattle.lower_call.specs.declared.Lowered.{Lowered}
+use Rattle.answers.specs.declared.Counts.{Counts}
 
 -- the words are read as the signature s, which `sign` tells of, and as the rule r under it
 pub record WrittenUnder (gs ws : List ℕ) (sign : Signature) (s : Sig) (r : Rule) : Type 0 where
@@ -41,23 +40,19 @@ pub record TurnedBack (number place : ℕ) (cs cs' l l' : List ℕ) (r : Refusal
   pub output : l' ≡ l
 
 -- a result: it is written where there is room for it, and only then are the counters used
-pub record LoweredTo (s : Sig) (c : CoreRule) (cs cs' l l' : List ℕ) (r : Lowered) : Type 0 where
-  pub wrote : WroteIfRoom (encode (settle s c.body).tabs (bindings (settle s c.body).repls ++ c.head)) r.needed l l'
+pub record LoweredTo (s : Sig) (c : CoreRule) (cs cs' l l' : List ℕ) (r : Counts) : Type 0 where
+  pub wrote : WroteIfRoom (encode (settle s c.body).tabs (bindings (settle s c.body).repls ++ c.head)) r.words l l'
   pub replacements : r.replacements ≡ length (settle s c.body).repls
   pub passes : r.passes ≡ (settle s c.body).passes
-  pub counted : r.needed ≤ length (words l) → cs' ≡ c.next
-  pub uncounted : length (words l) < r.needed → cs' ≡ cs
+  pub counted : r.words ≤ length (words l) → cs' ≡ c.next
+  pub uncounted : length (words l) < r.words → cs' ≡ cs
 
-abbrev pub LowersTo : Sig → Res CoreRule → (cs cs' l l' : List ℕ) → Result Lowered Refusal → Type 0
+abbrev pub LowersTo : Sig → Res CoreRule → (cs cs' l l' : List ℕ) → Result Counts Refusal → Type 0
 LowersTo s (ok c) cs cs' l l' (Ok r) = LoweredTo s c cs cs' l l' r
 LowersTo s (ok c) cs cs' l l' (Err r) = ⊥
 LowersTo s (refuse m p) cs cs' l l' (Ok r) = ⊥
 LowersTo s (refuse m p) cs cs' l l' (Err r) = TurnedBack m p cs cs' l l' r
 
 -- so for whatever signature and rule the words are read as
-abbrev pub LowersRead : (gs ws : List ℕ) → Signature → (cs cs' l l' : List ℕ) → Result Lowered Refusal → Type 0
+abbrev pub LowersRead : (gs ws : List ℕ) → Signature → (cs cs' l l' : List ℕ) → Result Counts Refusal → Type 0
 LowersRead gs ws sign cs cs' l l' r = (s : Sig) (rl : Rule) → WrittenUnder gs ws sign s rl → LowersTo s (to_core_rule s rl cs) cs cs' l l' r
-
--- what the call answers where the result is written: 0 and the three counts
-abbrev pub answer_of : Lowered → Answer
-answer_of w = record { number = 0; place = 0; words = w.needed; replacements = w.replacements; passes = w.passes }

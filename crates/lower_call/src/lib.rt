@@ -1,41 +1,21 @@
 // The call of lowering: a written rule tested, lowered and settled, the source's `to_canonicalized_core_rule`, and written to the output.
 #![tactic(auto)]
 
-ghost use Rattle.std.specs.Prelude.{◌≡◌, [], ◌∷◌, length};
+ghost use Rattle.std.specs.Prelude.{length};
 ghost use Rattle.octets.specs.Words.{words};
-ghost use Rattle.rules.specs.Calls.{whole_words, lower};
-ghost use Rattle.answers.specs.Answers.{GivesBoth, scratch_written, Beyond};
-ghost use Rattle.lower_call.specs.Lower.{LowerAsks, LowersRead, answer_of};
+ghost use Rattle.rules.specs.Calls.{lower};
+ghost use Rattle.answers.specs.Answers.{answered, GivesBoth, scratch_written, Beyond};
+ghost use Rattle.lower_call.specs.Lower.{LowerAsks, LowersRead};
 
 use answers::fronts::written_front;
-use answers::{Answer, all_whole, whole};
+use answers::{Answer, Counts, whole_words};
 use bodies::terms::Sign;
-use refusals::Refusal;
+use emitting::Actions;
+use refusals::{Reason, Refusal};
 use signature::Signature;
 
 // The bytes of scratch that are lent on for each word of the rule: 32 words.
 const LENT: usize = 128;
-
-// What lowering comes to: the words that the result needs, its replacements and passes.
-#[derive(Clone, Copy)]
-pub struct Lowered {
-    pub needed: usize,
-    pub replacements: usize,
-    pub passes: usize,
-}
-
-// What the call answers where the result is written.
-fn answer(lowered: Lowered) -> Answer
-    ensures { result ≡ answer_of lowered }
-{
-    Answer {
-        number: 0,
-        place: 0,
-        words: lowered.needed as u64,
-        replacements: lowered.replacements as u64,
-        passes: lowered.passes as u64,
-    }
-}
 
 // Lowers a rule that was read, settles it and writes it. Where the output has no room the counters are taken back, since only an accepted call uses them.
 fn lower_good(
@@ -45,7 +25,7 @@ fn lower_good(
     counters: &mut [u8],
     output: &mut [u8],
     scratch: &mut [u8],
-) -> Result<Lowered, Refusal>
+) -> Result<Counts, Refusal>
     requires { LowerAsks (words signature.now) (words rule.now) sign (words counters.old) (length (words scratch.old)) }
     ensures { LowersRead (words signature.now) (words rule.now) sign (words counters.old)
         (words counters.new) output.old output.new result }
@@ -57,35 +37,53 @@ fn lower_good(
         equals: sign.equals,
     };
     let body = settling::settle(scratch, 0, core.body, terms);
-    let replacements = body.replacements;
-    let passes = body.passes;
-    let needed = emitting::finish(
-        output,
-        scratch,
-        body,
-        core.actions,
-        scratch,
-        lowering::HEAD_AT * n,
-        core.head,
-    );
-    if octets::count(output) < needed {
+    let head = Actions {
+        source: scratch,
+        from: lowering::HEAD_AT * n,
+        size: core.head,
+        count: core.actions,
+    };
+    let words = emitting::finish(output, scratch, body, head);
+    if octets::count(output) < words {
         walks::restore(counters, scratch, lowering::LOG_AT * n, core.log);
     }
-    Ok(Lowered {
-        needed,
-        replacements,
-        passes,
+    Ok(Counts {
+        words,
+        replacements: body.replacements,
+        passes: body.passes,
     })
 }
 
-// Two slices are whole words.
-fn both_whole(a: &[u8], b: &[u8]) -> bool
-    ensures { result ≡ whole_words (length a.now ∷ length b.now ∷ []) }
+// The call, before its outcome becomes an answer. The scratch is cut before it is lent on, so that nothing behind the cut can be read or written.
+fn lower_or_refuse(
+    signature: &[u8],
+    rule: &[u8],
+    counters: &mut [u8],
+    output: &mut [u8],
+    scratch: &mut [u8],
+) -> Result<Counts, Refusal>
+    ensures gives_both { GivesBoth
+        (lower signature.now rule.now counters.old output.old (length scratch.old))
+        (answered result) output.new counters.new }
+    ensures beyond { Beyond (scratch_written rule.now) scratch.old scratch.new }
 {
-    whole(a) && whole(b)
+    let lengths = [signature.len(), rule.len(), counters.len(), output.len(), scratch.len()];
+    if !whole_words(&lengths) {
+        return Err(Reason::Ragged.at(0));
+    }
+    let many = octets::count(counters);
+    let room = octets::count(scratch);
+    let sign = written_front(signature, rule, many, room)?;
+    let size = octets::count(rule);
+    let lent = &mut scratch[..LENT * size];
+    let counts = lower_good(signature, rule, sign, counters, output, lent)?;
+    if octets::count(output) < counts.words {
+        return Err(Reason::ShortOutput.at(counts.words));
+    }
+    Ok(counts)
 }
 
-// A written rule, lowered and settled. The scratch is cut before it is lent on, so that nothing behind the cut can be read or written.
+// A written rule, lowered and settled.
 pub fn lower_bytes(
     signature: &[u8],
     rule: &[u8],
@@ -98,30 +96,5 @@ pub fn lower_bytes(
         result output.new counters.new }
     ensures beyond { Beyond (scratch_written rule.now) scratch.old scratch.new }
 {
-    let rest = both_whole(output, scratch);
-    if !all_whole(signature, rule, counters, rest) {
-        return Answer::from(Reason::Ragged.at(0));
-    }
-    let many = octets::count(counters);
-    let room = octets::count(scratch);
-    let sign = match written_front(signature, rule, many, room) {
-        Ok(sign) => sign,
-        Err(refusal) => return Answer::from(refusal),
-    };
-    let size = octets::count(rule);
-    let lowered = match lower_good(
-        signature,
-        rule,
-        sign,
-        counters,
-        output,
-        &mut scratch[..LENT * size],
-    ) {
-        Ok(lowered) => lowered,
-        Err(refusal) => return refused(refusal.reason.number() as usize, refusal.place),
-    };
-    if octets::count(output) < lowered.needed {
-        return Answer::from(Reason::ShortOutput.at(lowered.needed));
-    }
-    answer(lowered)
+    Answer::from(lower_or_refuse(signature, rule, counters, output, scratch))
 }

@@ -1,9 +1,10 @@
 -- The rule is lowered into the scratch, its body settled in front of its head and of the log, and all of it written; where there is no room the log, which
 -- is as it was, takes the counters back. Assumes nothing.
 use native.Mathlib.Omega.{arith}
+use mathlib.Core.Path.{refl}
 use Rattle.std.proofs.lemmas.Result.{err_from_is_err_and}
 use Rattle.octets.proofs.Words.{length_words_kept}
-use Rattle.lower_call.proofs.Lowering.{core_asks, good_sign, turned, laid, asks_settle, is_done, stands, ends_short, ends_good}
+use Rattle.lower_call.proofs.Lowering.{core_asks, few_globals, known_equals, turned, laid, asks_settle, is_done, stands, ends_short, ends_good}
 use Rattle.lower_call.proofs.lower_good.Goals as goal
 
 pub to_core_rule-requires : goal.to_core_rule-requires
@@ -20,44 +21,44 @@ invariant_of-terms c = record { few_globals = few_globals c.requires; known_equa
 pub settle-body-requires : goal.settle-body-requires
 settle-body-requires c =
     let at_core = laid c.requires (length_words_kept _ _ c.to_core_rule.auto.scratch) c.in_ok-core.ensures in
-    record { good_sign = good_sign c.requires; settle_asks = asks_settle at_core }
+    asks_settle at_core
 
 -- ---- the rule is written, if there is room
+
+pub overflow_mul-head : goal.overflow_mul-head
+overflow_mul-head c =
+    let at_core = laid c.requires (length_words_kept _ _ c.to_core_rule.auto.scratch) c.in_ok-core.ensures in
+    let at_settle = is_done at_core c.count-n.ensures refl refl c.settle-body.ensures in
+    omega (arith, at_settle.fits)
+
+pub finish-words-requires : goal.finish-words-requires
+finish-words-requires c =
+    let at_core = laid c.requires (length_words_kept _ _ c.to_core_rule.auto.scratch) c.in_ok-core.ensures in
+    let at_settle = is_done at_core c.count-n.ensures refl refl c.settle-body.ensures in
+    stands at_settle
 
 pub overflow_mul-n : goal.overflow_mul-n
 overflow_mul-n c =
     let at_core = laid c.requires (length_words_kept _ _ c.to_core_rule.auto.scratch) c.in_ok-core.ensures in
-    let at_settle = is_done at_core c.count-n.ensures c.settle-body.ensures in
-    omega (arith, at_settle.fits)
-
-pub finish-needed-requires : goal.finish-needed-requires
-finish-needed-requires c =
-    let at_core = laid c.requires (length_words_kept _ _ c.to_core_rule.auto.scratch) c.in_ok-core.ensures in
-    let at_settle = is_done at_core c.count-n.ensures c.settle-body.ensures in
-    stands at_settle
-
-pub overflow_mul-n-then-count-needed : goal.overflow_mul-n-then-count-needed
-overflow_mul-n-then-count-needed c =
-    let at_core = laid c.requires (length_words_kept _ _ c.to_core_rule.auto.scratch) c.in_ok-core.ensures in
-    let at_settle = is_done at_core c.count-n.ensures c.settle-body.ensures in
+    let at_settle = is_done at_core c.count-n.ensures refl refl c.settle-body.ensures in
     omega (arith, at_settle.fits)
 
 pub restore-requires : goal.restore-requires
 restore-requires c =
     let at_core = laid c.requires (length_words_kept _ _ c.to_core_rule.auto.scratch) c.in_ok-core.ensures in
-    let at_settle = is_done at_core c.count-n.ensures c.settle-body.ensures in
+    let at_settle = is_done at_core c.count-n.ensures refl refl c.settle-body.ensures in
     at_settle.log
 
-pub returns-then-count-needed : goal.returns-then-count-needed
-returns-then-count-needed c =
+pub returns-then-count-words : goal.returns-then-count-words
+returns-then-count-words c =
     let at_core = laid c.requires (length_words_kept _ _ c.to_core_rule.auto.scratch) c.in_ok-core.ensures in
-    let at_settle = is_done at_core c.count-n.ensures c.settle-body.ensures in
-    let f = c.finish-needed in
-    ends_short at_settle f.ensures c.count.ensures f.auto.output c.if-count-needed.true c.restore.ensures
+    let at_settle = is_done at_core c.count-n.ensures refl refl c.settle-body.ensures in
+    let f = c.finish-words in
+    ends_short at_settle f.ensures c.count.ensures f.auto.output c.if-count-words.true c.restore.ensures
 
-pub returns-else-count-needed : goal.returns-else-count-needed
-returns-else-count-needed c =
+pub returns-else-count-words : goal.returns-else-count-words
+returns-else-count-words c =
     let at_core = laid c.requires (length_words_kept _ _ c.to_core_rule.auto.scratch) c.in_ok-core.ensures in
-    let at_settle = is_done at_core c.count-n.ensures c.settle-body.ensures in
-    let f = c.finish-needed in
-    ends_good at_settle f.ensures c.count.ensures f.auto.output c.if-count-needed.false
+    let at_settle = is_done at_core c.count-n.ensures refl refl c.settle-body.ensures in
+    let f = c.finish-words in
+    ends_good at_settle f.ensures c.count.ensures f.auto.output c.if-count-words.false
