@@ -51,7 +51,7 @@ pub fn lower_let(
         });
     }
     let e = lower(rule, at + 2, MAX_DEPTH, scope, counters, scratch, tops)?;
-    let end = octets::rows::put_three(scratch, e.to, LET, name, e.term);
+    let end = octets::rows::put_all(scratch, e.to, &[LET, name, e.term]);
     octets::put(scratch, tops.sp, name);
     Ok(Acted {
         next: e.next,
@@ -79,7 +79,7 @@ fn put_change(
 {
     let h = words::head_word(w).head;
     walks::take(counters, scratch, terms.log, h, place)?;
-    let end = octets::rows::put_terms(scratch, terms.to, code, w, tops.sp, n);
+    let end = octets::rows::put_row(scratch, terms.to, &[code, w], tops.sp, n);
     Ok(Acted {
         next: terms.next,
         to: end,
@@ -127,7 +127,7 @@ pub fn lower_panic(
     ensures { LowersPanic (site_of (words rule.now) (words scratch.old) (words counters.old) at tops scope) (words scratch.new) (words counters.new) result }
 {
     let l = octets::get(rule, at + 1);
-    let end = octets::rows::put_two(scratch, tops.to, PANIC, l);
+    let end = octets::rows::put_all(scratch, tops.to, &[PANIC, l]);
     Ok(Acted {
         next: at + 2,
         to: end,
@@ -176,7 +176,7 @@ pub fn unite(
     let left = lower(rule, at + 1, MAX_DEPTH, scope, counters, scratch, tops)?;
     let behind = left.tops(tops.sp);
     let right = lower(rule, left.next, MAX_DEPTH, scope, counters, scratch, behind)?;
-    let end = octets::rows::put_three(scratch, right.to, UNION, left.term, right.term);
+    let end = octets::rows::put_all(scratch, right.to, &[UNION, left.term, right.term]);
     Ok(Acted {
         next: right.next,
         to: end,

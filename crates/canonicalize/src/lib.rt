@@ -57,7 +57,7 @@ pub fn resolve_terms(s: &mut [u8], to: usize, a: u32, b: u32, q: Sign) -> usize
     if same_term(a, b) {
         return 0;
     }
-    octets::rows::put_four(s, to, HEAD_BASE + q.equals * LIMIT_16 + 3, a, b, UNIT);
+    octets::rows::put_all(s, to, &[HEAD_BASE + q.equals * LIMIT_16 + 3, a, b, UNIT]);
     4
 }
 
@@ -152,7 +152,7 @@ impl Sweep {
             return d;
         };
         self.spans.replace(s, at, n, asked);
-        octets::rows::put_three(s, d - 3, LET, asked.old, asked.new);
+        octets::rows::put_all(s, d - 3, &[LET, asked.old, asked.new]);
         d - 3
     }
 

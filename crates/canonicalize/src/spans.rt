@@ -48,7 +48,7 @@ fn one_bucket(s: &mut [u8], at: usize, n: usize, table: usize) -> usize
     requires { SpanAsks (words s.old) at n table }
     ensures { Built (words s.old) (words s.new) at n table result }
 {
-    octets::rows::put_two(s, table, at as u32, (at + n) as u32);
+    octets::rows::put_all(s, table, &[at as u32, (at + n) as u32]);
     1
 }
 

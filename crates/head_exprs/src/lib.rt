@@ -34,7 +34,7 @@ fn put_called(
 {
     let h = words::head_word(w).head;
     let v = walks::take(counters, scratch, args.log, h, place)?;
-    let end = octets::rows::put_call(scratch, args.to, words::CALL, v, w, sp, n);
+    let end = octets::rows::put_row(scratch, args.to, &[words::CALL, v, w], sp, n);
     Ok(Walk {
         next: args.next,
         to: end,
@@ -85,6 +85,7 @@ pub fn lower(
 
 // Lowers the n expressions from `at` on; their terms go onto the stack.
 #[cycle(lower_lower_all)]
+#[inline(always)]
 pub fn lower_all(
     rule: &[u8],
     at: usize,

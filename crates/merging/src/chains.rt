@@ -32,7 +32,7 @@ impl Pass {
         let bucket = self.table + buckets::bucket(key, count);
         let last = octets::get(s, bucket) as usize;
         octets::put(s, self.links + last, (i + 1) as u32);
-        octets::rows::put_two(s, self.links + i + 1, 0, 0);
+        octets::rows::put_all(s, self.links + i + 1, &[0, 0]);
         octets::put(s, bucket, (i + 1) as u32);
         z
     }

@@ -101,7 +101,7 @@ impl Pass {
             return 0;
         }
         let left = output(s, self.from + i);
-        octets::rows::put_two(s, to, left, k as u32);
+        octets::rows::put_all(s, to, &[left, k as u32]);
         k + 2
     }
 

@@ -37,54 +37,6 @@ pub fn put_row<const N: usize>(
     end + n
 }
 
-// Writes two words at `at`.
-pub fn put_two(buf: &mut [u8], at: usize, a: u32, b: u32) -> usize
-    requires { at + 2 ≤ length (words buf.old) }
-    ensures { (result ≡ at + 2) × (words buf.new ≡ splice (words buf.old) at (a ∷ b ∷ [])) }
-{
-    put(buf, at, a);
-    put(buf, at + 1, b);
-    at + 2
-}
-
-// Writes three words at `at`.
-pub fn put_three(buf: &mut [u8], at: usize, a: u32, b: u32, c: u32) -> usize
-    requires { at + 3 ≤ length (words buf.old) }
-    ensures { (result ≡ at + 3) × (words buf.new ≡ splice (words buf.old) at (a ∷ b ∷ c ∷ [])) }
-{
-    let end = put_two(buf, at, a, b);
-    put(buf, end, c);
-    end + 1
-}
-
-// Writes four words at `at`.
-pub fn put_four(buf: &mut [u8], at: usize, a: u32, b: u32, c: u32, d: u32) -> usize
-    requires { at + 4 ≤ length (words buf.old) }
-    ensures { (result ≡ at + 4) × (words buf.new ≡ splice (words buf.old) at (a ∷ b ∷ c ∷ d ∷ [])) }
-{
-    let half = put_two(buf, at, a, b);
-    put_two(buf, half, c, d)
-}
-
-// Writes two words at `at`, and behind them the n words from `from` on.
-pub fn put_terms(buf: &mut [u8], at: usize, a: u32, b: u32, from: usize, n: usize) -> usize
-    requires { (at + 2 ≤ from) × (from + n ≤ length (words buf.old)) }
-    ensures { (result ≡ at + 2 + n) × (words buf.new ≡ splice (words buf.old) at (a ∷ b ∷ part (words buf.old) from n)) }
-{
-    let end = put_two(buf, at, a, b);
-    carry(buf, end, from, n);
-    end + n
-}
-
-// Writes three words at `at`, and behind them the n words from `from` on.
-pub fn put_call(buf: &mut [u8], at: usize, a: u32, b: u32, c: u32, from: usize, n: usize) -> usize
-    requires { (at + 3 ≤ from) × (from + n ≤ length (words buf.old)) }
-    ensures { (result ≡ at + 3 + n) × (words buf.new ≡ splice (words buf.old) at (a ∷ b ∷ c ∷ part (words buf.old) from n)) }
-{
-    put(buf, at, a);
-    put_terms(buf, at + 1, b, c, from, n)
-}
-
 // Writes an atom at `at`: its head word, the n words from `from` on, and its output.
 #[tactic(auto, using(crate::proofs::Words::length_words))]
 pub fn put_atom(buf: &mut [u8], at: usize, head: u32, from: usize, n: usize, output: u32) -> usize

@@ -156,7 +156,7 @@ fn flatten_fact(
         scratch,
         left.tops(tops.sp),
     )?;
-    let to = octets::rows::put_three(scratch, right.to, EQUALITY, left.term, right.term);
+    let to = octets::rows::put_all(scratch, right.to, &[EQUALITY, left.term, right.term]);
     Ok(Walk {
         to,
         term: 0,

@@ -61,7 +61,7 @@ impl Area {
         };
         replace_met(s, p + 1, n, asked);
         octets::regions::replace(s, self.body, self.k, asked.old, asked.new);
-        octets::rows::put_three(s, self.d - 3, LET, asked.old, asked.new);
+        octets::rows::put_all(s, self.d - 3, &[LET, asked.old, asked.new]);
         let now = if asked.old == left { asked.new } else { left };
         Joined {
             left: now,

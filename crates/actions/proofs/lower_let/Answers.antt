@@ -50,13 +50,13 @@ returns-in_err-e c =
     let p = err_from_is_err_and c.from_residual.result c.from_residual.ensures.1 in
     rw (p.1, p.2) (let_refused at_free at_lower)
 
-pub put_three-end-requires : goal.put_three-end-requires
-put_three-end-requires c =
+pub put_all-end-requires : goal.put_all-end-requires
+put_all-end-requires c =
     let at_get =
     let a = c.args in letting a.rule.now a.scratch.now a.counters.now c.requires.known c.requires.top (omega arith) (omega arith) c.get-name.ensures.is in
     let at_free = is_free at_get (taken_as c.get-name.result c.taken.ensures) c.if-taken.false in
     let at_lower = let e = c.lower in low_at at_get.begun c.in_ok-e.ensures (length_words_kept _ _ e.auto.scratch) (length_words_kept _ _ e.auto.counters) in
-    (let_fine at_free at_lower).words
+    (omega arith, (let_fine at_free at_lower).words)
 
 pub put-requires : goal.put-requires
 put-requires c =
@@ -64,7 +64,7 @@ put-requires c =
     let a = c.args in letting a.rule.now a.scratch.now a.counters.now c.requires.known c.requires.top (omega arith) (omega arith) c.get-name.ensures.is in
     let at_free = is_free at_get (taken_as c.get-name.result c.taken.ensures) c.if-taken.false in
     let at_lower = let e = c.lower in low_at at_get.begun c.in_ok-e.ensures (length_words_kept _ _ e.auto.scratch) (length_words_kept _ _ e.auto.counters) in
-    let at_three : length (words c.put_three-end.new.buf) ≡ length (words c.lower.new.scratch) = length_words_kept _ _ c.put_three-end.auto.buf in
+    let at_three : length (words c.put_all-end.new.buf) ≡ length (words c.lower.new.scratch) = length_words_kept _ _ c.put_all-end.auto.buf in
     omega (arith, (let_fine at_free at_lower).top, at_three)
 
 pub overflow_sub-result : goal.overflow_sub-result
@@ -81,4 +81,4 @@ returns c =
     let a = c.args in letting a.rule.now a.scratch.now a.counters.now c.requires.known c.requires.top (omega arith) (omega arith) c.get-name.ensures.is in
     let at_free = is_free at_get (taken_as c.get-name.result c.taken.ensures) c.if-taken.false in
     let at_lower = let e = c.lower in low_at at_get.begun c.in_ok-e.ensures (length_words_kept _ _ e.auto.scratch) (length_words_kept _ _ e.auto.counters) in
-    let_done at_free at_lower c.put_three-end.ensures c.put.ensures
+    let_done at_free at_lower c.put_all-end.ensures c.put.ensures

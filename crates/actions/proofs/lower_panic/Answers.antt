@@ -33,4 +33,4 @@ overflow_add-result c =
 pub returns : goal.returns
 returns c =
     let at_get = let a = c.args in panics a.rule.now a.scratch.now a.counters.now c.requires.at_in_bounds c.requires.room (omega arith) c.get-l.ensures.is in
-    panic_done at_get c.put_two-end.ensures
+    panic_done at_get c.put_all-end.ensures

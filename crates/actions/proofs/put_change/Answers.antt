@@ -19,4 +19,4 @@ returns c =
     closed c.args.code
     (head_used c.requires.0 (head_says c.head_word-h.ensures) c.in_ok-take.ensures
     (length_words_kept _ _ t.auto.scratch) (length_words_kept _ _ t.auto.counters))
-    c.put_terms-end.ensures
+    c.put_row-end.ensures

@@ -35,14 +35,14 @@ returns-in_err-right c =
     let p = err_from_is_err_and c.from_residual-in_err-right.result c.from_residual-in_err-right.ensures.1 in
     rw (p.1, p.2) (right_refused both at_right)
 
-pub put_three-end-requires : goal.put_three-end-requires
-put_three-end-requires c =
+pub put_all-end-requires : goal.put_all-end-requires
+put_all-end-requires c =
     let at_start = let a = c.args in starts a.rule.now a.scratch.now a.counters.now c.requires (omega arith) (omega arith) in
     let at_left = let l = c.lower in low_at at_start c.in_ok-left.ensures (length_words_kept _ _ l.auto.scratch) (length_words_kept _ _ l.auto.counters) in
     let both = left_done at_start at_left in
     let at_right =
     let r = c.lower-2 in right_low both (rw c.tops-behind.ensures at c.in_ok-right.ensures) (length_words_kept _ _ r.auto.scratch) (length_words_kept _ _ r.auto.counters) in
-    (both_fine both at_right).words
+    (omega arith, (both_fine both at_right).words)
 
 pub overflow_sub-result : goal.overflow_sub-result
 overflow_sub-result c =
@@ -60,4 +60,4 @@ returns c =
     let both = left_done at_start at_left in
     let at_right =
     let r = c.lower-2 in right_low both (rw c.tops-behind.ensures at c.in_ok-right.ensures) (length_words_kept _ _ r.auto.scratch) (length_words_kept _ _ r.auto.counters) in
-    union_done both at_right c.put_three-end.ensures
+    union_done both at_right c.put_all-end.ensures

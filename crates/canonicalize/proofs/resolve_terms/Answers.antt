@@ -24,8 +24,8 @@ returns-then-same_term c =
 
 -- ---- they are two
 
-pub put_four-requires : goal.put_four-requires
-put_four-requires c =
+pub put_all-requires : goal.put_all-requires
+put_all-requires c =
     let at_same : (x : Bool) → c.same_term.result ≡ x → let a = c.args in resolve_terms x (sig a.q) a.a a.b ≡ resolve_terms (same_term a.a a.b) (sig a.q) a.a a.b =
     λ x e. let a = c.args in ap (λ (y : Bool). resolve_terms y (sig a.q) a.a a.b) (sym e ∙ c.same_term.ensures) in
     omega (arith, c.requires, ap length (at_same _ c.if-same_term.false))
@@ -37,4 +37,4 @@ returns c =
     let a = c.args in
     let l = words a.s.now in
     let f = at_same _ c.if-same_term.false in
-    (ap length f, c.put_four.ensures.1 ∙ ap (splice l a.to) f)
+    (ap length f, c.put_all.ensures.1 ∙ ap (splice l a.to) f)

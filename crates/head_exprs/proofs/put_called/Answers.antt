@@ -15,4 +15,4 @@ returns c =
     let t = c.take in
     bound_done
     (head_used c.requires.0 (head_says c.head_word-h.ensures) c.in_ok-v.ensures (length_words_kept _ _ t.auto.scratch) (length_words_kept _ _ t.auto.counters))
-    c.requires.1 c.put_call-end.ensures
+    c.requires.1 c.put_row-end.ensures

@@ -53,15 +53,15 @@ returns-in_err-right c =
 
 -- ---- its own atom
 
-pub put_three-to-requires : goal.put_three-to-requires
-put_three-to-requires c =
+pub put_all-to-requires : goal.put_all-to-requires
+put_all-to-requires c =
     let l = c.flatten-2 in
     let left =
     lefted c.requires c.get-w.ensures.is c.if-w-ne-EQUALITY.false c.in_ok-left.ensures (length_words_kept _ _ l.auto.counters)
     (length_words_kept _ _ l.auto.scratch) in
     let r = c.flatten-3 in
     let right = righted left (rw c.tops.ensures at c.in_ok-right.ensures) (length_words_kept _ _ (r.auto.scratch ∙ l.auto.scratch)) in
-    three_room right
+    (omega arith, three_room right)
 
 pub returns : goal.returns
 returns c =
@@ -71,5 +71,5 @@ returns c =
     (length_words_kept _ _ l.auto.scratch) in
     let r = c.flatten-3 in
     let right = righted left (rw c.tops.ensures at c.in_ok-right.ensures) (length_words_kept _ _ (r.auto.scratch ∙ l.auto.scratch)) in
-    let e = c.put_three-to.ensures in
+    let e = c.put_all-to.ensures in
     equal_answer right _ _ e.0 e.1

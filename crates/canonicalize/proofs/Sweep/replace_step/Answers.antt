@@ -36,8 +36,8 @@ returns-in_default-replacement_of c =
 pub replace-requires : goal.replace-requires
 replace-requires c = c.requires.spanned
 
-pub put_three-requires : goal.put_three-requires
-put_three-requires c =
+pub put_all-requires : goal.put_all-requires
+put_all-requires c =
     let size_kept : length (words c.replace.new.s) ≡ length (words c.args.s.now) = length_words_kept _ _ c.replace.auto.s in
     omega (arith, c.requires.room, c.requires.top, size_kept)
 
@@ -45,4 +45,4 @@ pub returns : goal.returns
 returns c =
     let at_equality = met c.requires c.good_atom_at-atom.ensures c.in-Eq.is in
     let asked = asks_terms (sig c.args.self.sign) at_equality c.get-a.ensures.is c.get-b.ensures.is c.replacement_of.ensures in
-    step_some (sig c.args.self.sign) c.requires (sym c.in-Some.is ∙ asked) c.replace.ensures (length_words_kept _ _ c.replace.auto.s) c.put_three.ensures.1
+    step_some (sig c.args.self.sign) c.requires (sym c.in-Some.is ∙ asked) c.replace.ensures (length_words_kept _ _ c.replace.auto.s) c.put_all.ensures.1

@@ -3,4 +3,4 @@ use Rattle.canonicalize.proofs.SpansBuilt.{whole_built}
 use Rattle.canonicalize.proofs.spans.one_bucket.Goals as goal
 
 pub returns : goal.returns
-returns c = whole_built c.requires c.put_two.ensures.1
+returns c = whole_built c.requires c.put_all.ensures.1

@@ -80,12 +80,12 @@ overflow_cast-k c = let at_end = followed c.loop-next.invariant.1 (ap link_of c.
 pub overflow_add-result : goal.overflow_add-result
 overflow_add-result c = let at_end = followed c.loop-next.invariant.1 (ap link_of c.in_default.is) in omega (arith, at_end)
 
-pub put_two-requires : goal.put_two-requires
-put_two-requires c =
+pub put_all-requires : goal.put_all-requires
+put_all-requires c =
     let at_end = followed c.loop-next.invariant.1 (ap link_of c.in_default.is) in
-    at_end.room
+    (omega arith, at_end.room)
 
 pub returns : goal.returns
 returns c =
     let at_end = followed c.loop-next.invariant.1 (ap link_of c.in_default.is) in
-    follow_some at_end c.if-k-eq0.false c.output-left.ensures c.put_two.ensures.1
+    follow_some at_end c.if-k-eq0.false c.output-left.ensures c.put_all.ensures.1

@@ -25,8 +25,8 @@ returns-in_default c =
 pub replace-requires : goal.replace-requires
 replace-requires c = omega (arith, c.requires, length_words_kept _ _ c.replace_met.auto.s)
 
-pub put_three-requires : goal.put_three-requires
-put_three-requires c = omega (arith, c.requires, length_words_kept _ _ (c.replace.auto.buf ∙ c.replace_met.auto.s))
+pub put_all-requires : goal.put_all-requires
+put_all-requires c = omega (arith, c.requires, length_words_kept _ _ (c.replace.auto.buf ∙ c.replace_met.auto.s))
 
 pub returns : goal.returns
 returns c =
@@ -38,4 +38,4 @@ returns c =
       | then-asked-left w ↦ renamed _ _ _ w.if-asked-left.true w.now-is
       | else-asked-left w ↦ not_renamed _ _ _ w.if-asked-left.false w.now-is
     ] in
-    joined_asked (one_read c.requires c.get-right.ensures.is) asks c.replace_met.ensures c.replace.ensures c.put_three.ensures.1 new_left
+    joined_asked (one_read c.requires c.get-right.ensures.is) asks c.replace_met.ensures c.replace.ensures c.put_all.ensures.1 new_left
