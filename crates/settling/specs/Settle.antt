@@ -1,12 +1,13 @@
 -- What settling as a whole asks and gives: the definition `settle`, for every flat body whose words stand in the scratch.
 -- Assumes nothing: these are definitions.
-use Rattle.std.specs.Prelude.{◌≡◌, List, ℕ, ◌+◌, ◌*◌, ◌<◌, ◌≤◌, length}
+use Rattle.std.specs.Prelude.{◌≡◌, List, ℕ, ◌+◌, ◌-◌, ◌*◌, ◌/◌, ◌<◌, ◌≤◌, length}
 use Rattle.octets.specs.Regions.{At, Only}
 use Rattle.rules.specs.Signature.{Sig}
 use Rattle.rules.specs.Flat.{Atom, tab_words, words_of}
 use Rattle.rules.specs.RemoveDupVars.{settle}
 use Rattle.bodies.specs.Standing.{atoms_in, BodyAt}
-use Rattle.canonicalize.specs.Canonicalize.{binding_words}
+use Rattle.canonicalize.specs.Canonicalize.{binding_size, binding_words}
+use Rattle.merging.specs.declared.Merged.{Merged}
 use Rattle.settling.specs.declared.Settled.{Settled}
 
 -- the words of some body stand at `at`, here told by the atoms that are read there, and there is room behind them
@@ -28,3 +29,8 @@ pub record SettledAt (s : Sig) (xs : List Atom) (l m : List ℕ) (at n : ℕ) (r
 -- what a body without atoms settles to: no atom, no replacement, and the one pass that finds nothing to merge
 abbrev pub settled_none : ℕ → Settled
 settled_none at = record { at = at; words = 0; atoms = 0; binds = at; replacements = 0; passes = 1 }
+
+-- what stands behind the last pass
+abbrev pub settled_by : Merged → (body binds end passes : ℕ) → Settled
+settled_by t body binds end passes =
+    record { at = body; words = t.kept; atoms = t.atoms; binds = binds; replacements = (end - binds) / binding_size; passes = passes }

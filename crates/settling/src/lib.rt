@@ -11,19 +11,19 @@
 // That this suffices is a law of the definitions: settling never makes a body and its replacements heavier.
 #![tactic(auto, using(octets::proofs::Words::length_words))]
 
-ghost use Rattle.std.specs.Prelude.{◌≡◌, List};
+ghost use Rattle.std.specs.Prelude.{◌≡◌, ◌≤◌, List};
 ghost use Rattle.octets.specs.Words.{words};
 ghost use Rattle.rules.specs.Signature.{Sig};
 ghost use Rattle.rules.specs.Flat.{Atom};
 ghost use Rattle.bodies.specs.Terms.{Agrees};
 ghost use Rattle.bodies.specs.Standing.{BodyAt};
-ghost use Rattle.settling.specs.Settle.{SettleAsks, SettledAt, settled_none};
+ghost use Rattle.settling.specs.Settle.{SettleAsks, SettledAt, settled_by, settled_none};
 
 pub mod joining;
 
 use bodies::terms::Sign;
 use joining::Area;
-use merging::Pass;
+use merging::{Merged, Pass};
 
 // A settled body: where its atoms stand, in how many words, and how many they are; where its bindings stand, three words each, and how
 // many they are, one for each replacement; and the passes.
@@ -48,6 +48,21 @@ fn nothing(at: usize) -> Settled
         binds: at,
         replacements: 0,
         passes: 1,
+    }
+}
+
+// What the last of so many passes settles: the atoms that it kept stand at `body`, and the bindings from `binds` to `end`.
+fn kept_by(t: Merged, body: usize, binds: usize, end: usize, passes: usize) -> Settled
+    requires { binds ≤ end }
+    ensures { result ≡ settled_by t body binds end passes }
+{
+    Settled {
+        at: body,
+        words: t.kept,
+        atoms: t.atoms,
+        binds,
+        replacements: (end - binds) / 3,
+        passes,
     }
 }
 
@@ -78,14 +93,7 @@ pub fn settle(s: &mut [u8], at: usize, n: usize, q: Sign) -> Settled
         let t = pass.merge(s);
         passes += 1;
         if t.eqs == 0 {
-            return Settled {
-                at: body,
-                words: t.kept,
-                atoms: t.atoms,
-                binds: c.binds,
-                replacements: (end - c.binds) / 3,
-                passes,
-            };
+            return kept_by(t, body, c.binds, end, passes);
         }
         let area = Area {
             body,

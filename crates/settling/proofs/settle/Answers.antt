@@ -1,9 +1,11 @@
 -- Before each pass `Settling` holds: the passes made, and those that the atoms which stand still ask for, are those of the definition. The pass that gives no
 -- equality is the last one, and there are no more passes than atoms. Assumes nothing.
-use mathlib.Core.Path.{◌∙◌}
+use mathlib.Core.Path.{◌∙◌, subst, sym}
 use native.Mathlib.Omega.{arith}
 use Rattle.octets.proofs.Words.{length_words}
 use Rattle.octets.specs.Words.{words}
+use Rattle.settling.specs.Settle.{SettledAt}
+use Rattle.settling.specs.declared.Settled.{Settled}
 use Rattle.settling.proofs.Settling.{begun, few, first_asks, merge_asks, next_asks, settled, settled_none_lem, settling_next, settling_start}
 use Rattle.settling.proofs.settle.Goals as goal
 
@@ -26,11 +28,13 @@ merge-t-requires c = merge_asks c.loop-q.invariant.1
 pub overflow_add-passes : goal.overflow_add-passes
 overflow_add-passes c = omega (arith, few c.loop-q.invariant.1, c.requires.small)
 
-pub overflow_sub-result : goal.overflow_sub-result
-overflow_sub-result c = omega (arith, c.loop-q.invariant.1.count)
+pub kept_by-requires : goal.kept_by-requires
+kept_by-requires c = omega (arith, c.loop-q.invariant.1.count)
 
 pub returns-then-t-eq0 : goal.returns-then-t-eq0
-returns-then-t-eq0 c = λ g ys b y. settled c.loop-q.invariant.1 c.merge-t.ensures g ys b.globals b.equals y c.if-t-eq0.true
+returns-then-t-eq0 c = λ g ys b y.
+    subst (λ (r : Settled). SettledAt g ys (words c.args.s.now) (words c.merge-t.new.s) c.args.at c.args.n r) (sym c.kept_by.ensures)
+    (settled c.loop-q.invariant.1 c.merge-t.ensures g ys b.globals b.equals y c.if-t-eq0.true)
 
 pub canonicalize_again-c-requires : goal.canonicalize_again-c-requires
 canonicalize_again-c-requires c = next_asks c.loop-q.invariant.1 c.merge-t.ensures c.args.q
