@@ -10,6 +10,7 @@ ghost use Rattle.answers.specs.Answers.{answered};
 use refusals::Refusal;
 
 // What a call answers. Number 0 is acceptance, with place 0 and the three counts; a refusal has all counts 0.
+// C reads it, so that it is no `Result`.
 #[repr(C)]
 #[derive(Clone, Copy)]
 pub struct Answer {

@@ -18,6 +18,7 @@ use words::{
 use written::row;
 
 // A flat rule's words, and the numbers of heads and of globals that they are read under. What is read ends at the index behind it, or with a refusal.
+// It is not the record of `written`: a written rule is read without G, and a struct has its methods in its own crate.
 #[derive(Clone, Copy)]
 pub struct Record<'a> {
     pub rule: &'a [u8],

@@ -93,6 +93,7 @@ impl Record<'_> {
 
     // `count` expressions, one after the other, each of which may hold expressions `depth` deep. Each is taken by its first word, or refused there. Behind the
     // arguments of the last one nothing is left to read, so that they are read in its place, without a call.
+    // What is left is set anew there, so no `for` counts it: it would need a loop in a loop.
     #[cycle(arguments_expression)]
     fn arguments(&self, at: usize, count: u32, depth: u32) -> Result<usize, Refusal>
         ensures { said result ≡ ending_of (read_many (read_expr (with_heads self.now.heads) (words self.now.rule.now) depth) count at) }
