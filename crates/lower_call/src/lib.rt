@@ -67,7 +67,13 @@ fn lower_or_refuse(
         (answered result) output.new counters.new }
     ensures beyond { Beyond (scratch_written rule.now) scratch.old scratch.new }
 {
-    let lengths = [signature.len(), rule.len(), counters.len(), output.len(), scratch.len()];
+    let lengths = [
+        signature.len(),
+        rule.len(),
+        counters.len(),
+        output.len(),
+        scratch.len(),
+    ];
     if !whole_words(&lengths) {
         return Err(Reason::Ragged.at(0));
     }

@@ -135,7 +135,12 @@ fn print_answer(out: &mut Stdout, letter: u8, answer: Answer) {
     let reader = char::from(letter);
     let _ = match answer.read {
         Ok(count) => writeln!(out, "{reader} ok {count}"),
-        Err(refusal) => writeln!(out, "{reader} refused {} {}", refusal.reason.number(), refusal.place),
+        Err(refusal) => writeln!(
+            out,
+            "{reader} refused {} {}",
+            refusal.reason.number(),
+            refusal.place
+        ),
     };
 }
 

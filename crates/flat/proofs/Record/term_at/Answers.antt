@@ -36,7 +36,8 @@ returns-then-head-self c =
 pub returns-else-head-self : goal.returns-else-head-self
 returns-else-head-self c =
     let at_get : Here (words c.args.self.now.rule.now) c.args.at c.get-w.result = record { inside = omega arith; is = c.get-w.ensures.is } in
-    let none_at : (let a = c.args in is_term (with_heads a.self.now.heads) c.get-w.result ≡ false → or_unfit term_numbers None a.at ≡ term_at (with_globals a.self.now.heads a.self.now.globals) (words a.self.now.rule.now) a.at) =
+    let none_at : (let a = c.args in is_term (with_heads a.self.now.heads) c.get-w.result ≡ false
+    → or_unfit term_numbers None a.at ≡ term_at (with_globals a.self.now.heads a.self.now.globals) (words a.self.now.rule.now) a.at) =
     let a = c.args in term_none a.self.now.heads a.self.now.globals at_get in
     let fresh_range : fresh_base ≤ c.get-w.result = (kind_range 0 31 c.get-w.result refl c.get-w.ensures.fits c.in-0.is).0 in
     none_at (sym (fresh_term c.args.self.now.heads c.get-w.result fresh_range) ∙ c.if-head-self.false)
@@ -61,7 +62,8 @@ returns-else-w-lt-LIMIT_12 c =
     let name_range : (let w = c.get-w.result in (name_base ≤ w) × (w < fresh_base)) =
     kind_range 1 30 c.get-w.result refl c.get-w.ensures.fits c.in-1.is in
     let at_get : Here (words c.args.self.now.rule.now) c.args.at c.get-w.result = record { inside = omega arith; is = c.get-w.ensures.is } in
-    let none_at : (let a = c.args in is_term (with_heads a.self.now.heads) c.get-w.result ≡ false → or_unfit term_numbers None a.at ≡ term_at (with_globals a.self.now.heads a.self.now.globals) (words a.self.now.rule.now) a.at) =
+    let none_at : (let a = c.args in is_term (with_heads a.self.now.heads) c.get-w.result ≡ false
+    → or_unfit term_numbers None a.at ≡ term_at (with_globals a.self.now.heads a.self.now.globals) (words a.self.now.rule.now) a.at) =
     let a = c.args in term_none a.self.now.heads a.self.now.globals at_get in
     let w = c.get-w.result in
     let r = name_range in
@@ -88,7 +90,8 @@ returns-else-w-lt-LIMIT_16 c =
     let literal_range : (let w = c.get-w.result in (literal_base ≤ w) × (w < name_base)) =
     kind_range 2 29 c.get-w.result refl c.get-w.ensures.fits c.in-2.is in
     let at_get : Here (words c.args.self.now.rule.now) c.args.at c.get-w.result = record { inside = omega arith; is = c.get-w.ensures.is } in
-    let none_at : (let a = c.args in is_term (with_heads a.self.now.heads) c.get-w.result ≡ false → or_unfit term_numbers None a.at ≡ term_at (with_globals a.self.now.heads a.self.now.globals) (words a.self.now.rule.now) a.at) =
+    let none_at : (let a = c.args in is_term (with_heads a.self.now.heads) c.get-w.result ≡ false
+    → or_unfit term_numbers None a.at ≡ term_at (with_globals a.self.now.heads a.self.now.globals) (words a.self.now.rule.now) a.at) =
     let a = c.args in term_none a.self.now.heads a.self.now.globals at_get in
     let w = c.get-w.result in
     let r = literal_range in
@@ -98,7 +101,8 @@ returns-else-w-lt-LIMIT_16 c =
 pub returns-in_default : goal.returns-in_default
 returns-in_default c =
     let at_get : Here (words c.args.self.now.rule.now) c.args.at c.get-w.result = record { inside = omega arith; is = c.get-w.ensures.is } in
-    let none_at : (let a = c.args in is_term (with_heads a.self.now.heads) c.get-w.result ≡ false → or_unfit term_numbers None a.at ≡ term_at (with_globals a.self.now.heads a.self.now.globals) (words a.self.now.rule.now) a.at) =
+    let none_at : (let a = c.args in is_term (with_heads a.self.now.heads) c.get-w.result ≡ false
+    → or_unfit term_numbers None a.at ≡ term_at (with_globals a.self.now.heads a.self.now.globals) (words a.self.now.rule.now) a.at) =
     let a = c.args in term_none a.self.now.heads a.self.now.globals at_get in
     let w = c.get-w.result in
     let r = c.in_default.in_default-own.rest in
