@@ -53,6 +53,20 @@ overflow_mul-lent c =
     let passed = tests_passed k c.whole_words.ensures c.if-not-whole_words.false c.count-many.ensures c.count-room.ensures c.in_ok-sign.ensures in
     omega (arith, (lower_lent k passed c.count-size.ensures).fits)
 
+pub slice_bounds-lent-end : goal.slice_bounds-lent-end
+slice_bounds-lent-end c =
+    let a = c.args in
+    let k = given a.signature.now a.rule.now a.counters.now a.output.now a.scratch.now in
+    let passed = tests_passed k c.whole_words.ensures c.if-not-whole_words.false c.count-many.ensures c.count-room.ensures c.in_ok-sign.ensures in
+    (lower_lent k passed c.count-size.ensures).inside
+
+pub slice_bounds-lent-end-2 : goal.slice_bounds-lent-end-2
+slice_bounds-lent-end-2 c =
+    let a = c.args in
+    let k = given a.signature.now a.rule.now a.counters.now a.output.now a.scratch.now in
+    let passed = tests_passed k c.whole_words.ensures c.if-not-whole_words.false c.count-many.ensures c.count-room.ensures c.in_ok-sign.ensures in
+    sym (lent_size (lower_lent k passed c.count-size.ensures))
+
 -- ---- the rule is lowered and settled there
 
 pub lower_good-requires : goal.lower_good-requires
