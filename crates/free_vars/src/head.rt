@@ -2,9 +2,10 @@
 ghost use Rattle.std.specs.Prelude.{◌≡◌, ◌&&◌, ◌+◌, ◌-◌, ◌<◌, ◌≤◌, length, get_or};
 ghost use Rattle.octets.specs.Words.{words, Got};
 
+use crate::binds_next;
 use octets::regions::among;
 use octets::{count, get};
-use words::{CALL, LET, Term, term_of};
+use words::{Term, term_of};
 
 // The words of a flat rule from its first action on, under a signature with so many globals. The rule's header stands before them, so each word of the
 // head has one before it, which tells whether it is a target.
@@ -44,7 +45,7 @@ impl Head<'_> {
         requires { self.now.from + i < length (words self.now.rule.now) }
         ensures { result ≡ binds (get_or (words self.now.rule.now) (self.now.from + i - 1) 0) }
     {
-        matches!(get(self.rule, self.from + i - 1), LET | CALL)
+        binds_next(get(self.rule, self.from + i - 1))
     }
 
     // Whether word i is a free variable that is met for the first time.
