@@ -173,3 +173,13 @@ module _ {input l m : List ℕ} {line : ℕ} (s : ReadTo input l m line) where
         few = omega (arith, s.filled.most);
         near = tt;
       }
+
+first_two : (a b c d : Bool) → (a && b && c && d) ≡ true → (a ≡ true) × (b ≡ true)
+first_two a b c d e =
+    let two = and_left (a && b) c (and_left (a && b && c) d e) in
+    (and_left a b two, and_right a b two)
+
+-- a word is the line's own, and its tests held
+word_demanded : (b : Bool) (p x w : ℕ) → ok w ≡ demand b bad_line p x → (b ≡ true) × (w ≡ x)
+word_demanded true p x w e = (refl, cc)
+word_demanded false p x w e = absurd (let z : ◌≡◌ {A = ℕ} 0 1 = cc in omega arith)

@@ -1,5 +1,5 @@
 -- From the contract of `tulgarent_lower`, on the bytes that the program lends, to what its answer tells of `lower_all`. What is known of the bytes lent is
--- a record, `Cut`. Assumes nothing.
+-- a record, `Lent`. Assumes nothing.
 use mathlib.Core.Path.{◌≡◌, sym, ap, ◌∙◌}
 use mathlib.Core.Bool.{Bool, true, false≢true}
 use mathlib.Core.List.{List, [], ◌∷◌, ◌++◌}

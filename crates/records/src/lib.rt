@@ -28,7 +28,7 @@ pub fn length_fits(rule: &[u8], most: usize) -> bool
 }
 
 // A whole rule, with nothing behind it: its header, a row of what its body holds, and a row of its actions. It ends with its words.
-fn whole_rule<B: Fn(usize) -> Result<usize, Refusal>, H: Fn(usize) -> Result<usize, Refusal>>(
+pub fn whole_rule<B: Fn(usize) -> Result<usize, Refusal>, H: Fn(usize) -> Result<usize, Refusal>>(
     rule: &[u8],
     body: B,
     head: H,
