@@ -37,12 +37,11 @@ impl Pass {
         z
     }
 
-    // Links the atoms, with as many buckets as they have words, and one, since there must be some.
-    pub fn link(self, s: &mut [u8])
-        requires { LinkAsks (words s.old) self.from self.n self.links self.table (self.n + 1) }
-        ensures { Linked (words s.old) (words s.new) self.from self.n self.links self.table (self.n + 1) }
+    // Links the atoms, with so many buckets.
+    pub fn link(self, s: &mut [u8], count: usize)
+        requires { LinkAsks (words s.old) self.from self.n self.links self.table count }
+        ensures { Linked (words s.old) (words s.new) self.from self.n self.links self.table count }
     {
-        let count = self.n + 1;
         buckets::fill(s, self.table, count, 0);
         let mut i = 0;
         // An iterator over the atoms would hold the scratch that the loop writes, so it walks by their sizes.

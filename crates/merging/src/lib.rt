@@ -155,12 +155,12 @@ impl Pass {
         }
     }
 
-    // A pass: the atoms are linked, and then merged.
+    // A pass: the atoms are linked, with as many buckets as they have words, and one, since there must be some; and then merged.
     pub fn merge(self, s: &mut [u8]) -> Merged
         requires { PassAsks (words s.old) self.from self.n self.eqs self.links self.table }
         ensures { Passed (words s.old) (words s.new) self.from self.n self.eqs self.table result }
     {
-        self.link(s);
+        self.link(s, self.n + 1);
         self.merge_all(s)
     }
 }
