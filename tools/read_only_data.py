@@ -25,7 +25,7 @@ MOST = [
     ("target/bin/line_reader", DATA, 624),
     ("target/bin/line_reader", CODE, 1724),
     ("target/bin/lower", DATA, 968),
-    ("target/staticlib/libtulgarent.a", DATA, 172),
+    ("target/staticlib/libtulgarent.a", DATA, 196),
 ]
 
 
