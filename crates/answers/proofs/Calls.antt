@@ -7,8 +7,10 @@ use mathlib.Core.Path.{◌≡◌, refl, sym, ◌∙◌, ap}
 use mathlib.Core.Bool.{Bool, true, false}
 use mathlib.Core.List.{List}
 use lib.ListN.{length, get_or}
+use lib.Dec.{leb}
+use borrow.Author.Tests.{leb-true, leb-false}
 use Rattle.std.specs.Prelude as std
-use Rattle.std.specs.Prelude.{Err}
+use Rattle.std.specs.Prelude.{Ok, Err}
 use Rattle.std.specs.Result.{IsErrAnd}
 use Rattle.std.proofs.lemmas.Result.{err_from_is_err_and}
 use Rattle.octets.specs.Words.{words, bytes_of}
@@ -16,7 +18,7 @@ use Rattle.octets.proofs.Words.{length_words_kept}
 use Rattle.rules.specs.Refusals.{Res, ok, refuse, ◌>>=◌, demand, short_output, ragged}
 use Rattle.rules.specs.Signature.{Sig}
 use Rattle.rules.specs.Calls.{Result, output_fits, whole_words, Outcome, outcome_of}
-use Rattle.refusals.specs.Numbers.{number_of, told}
+use Rattle.refusals.specs.Numbers.{number_of, said, told}
 use Rattle.refusals.specs.declared.Reason.{Reason}
 use Rattle.refusals.specs.declared.Refusal.{Refusal}
 use Rattle.signature.specs.Signature.{sign_of}
@@ -132,6 +134,20 @@ module _ {R : Type 0} {k : Call R} {g : Signature} (y : Ready k g) where
   pub work_refuses : {n p : ℕ} → made ≡ refuse n p → {r : Answer} {m d : List ℕ} → r ≡ refused_with n p → m ≡ k.output → d ≡ k.counters → Answers k r m d
   work_refuses {n} {p} e a w c = comes_to k (refuse n p) (made_is (refuse n p) e) a w c
 
+-- the last test's answer is the counts, where there is room, and else the refusal
+last_test : {c : Counts} {room : ℕ} (r : std.Result Counts Refusal) (P : Answer → Type 0) → said r ≡ demand (leb c.words room) short_output c.words c
+    → (room < c.words → P (refused_with short_output c.words)) → (c.words ≤ room → P (answered (Ok c))) → P (answered r)
+last_test {c} {room} r P is short fits = go (leb c.words room) refl r is
+  where
+    go : (b : Bool) → leb c.words room ≡ b → (x : std.Result Counts Refusal) → said x ≡ demand b short_output c.words c → P (answered x)
+    go true e (Ok x) h = let same : x ≡ c = ok_inj _ _ h in rw same (fits (leb-true c.words room e))
+    go true e (Err x) h = cc
+    go false e (Ok x) h = cc
+    go false e (Err x) h =
+        let number : number_of x.reason ≡ short_output = cc in
+        let place : x.place ≡ c.words = cc in
+        rw (number, place) (short (leb-false c.words room e))
+
 abbrev pub Bytes : List ℕ → Type 0
 Bytes l = (i : ℕ) → get_or l i 0 < 256
 
@@ -152,14 +168,20 @@ module _ {R : Type 0} {k : Call R} {g : Signature} {y : Ready k g} {needed repla
   words_kept : count ≡ length (words k.output)
   words_kept = words_are ∙ length_words_kept _ _ d.size
 
-  pub too_short : count < needed → {r : Answer} {c : List ℕ} → r ≡ refused_with short_output needed → c ≡ k.counters → Answers k r m c
+  too_short : count < needed → {r : Answer} {c : List ℕ} → r ≡ refused_with short_output needed → c ≡ k.counters → Answers k r m c
   too_short l a c =
       let z = ends_short d.result needed k.output m d.wrote (omega (arith, words_kept)) in
       comes_to k (refuse short_output needed) (made_is y (ok d.result) d.is ∙ z.0) a z.1 c
 
-  pub all_written : needed ≤ count → {c : List ℕ} → c ≡ bytes_of d.result.counters
+  all_written : needed ≤ count → {c : List ℕ} → c ≡ bytes_of d.result.counters
       → Answers k (record { number = 0; place = 0; words = needed; replacements = replacements; passes = passes }) m c
   all_written l c =
       let z = ends_written d.result needed k.output m d.wrote (omega (arith, words_kept)) y.whole.output d.size d.before d.after in
       comes_to k (ok d.result) (made_is y (ok d.result) d.is ∙ z.0)
       (λ i. record { number = 0; place = 0; words = d.wrote.needed i; replacements = d.replaced i; passes = d.passed i }) z.1 c
+
+  -- the last test's answer, r: where there is no room the counters are as they were, and else they are the result's
+  pub ends_within : (r : std.Result Counts Refusal)
+      → said r ≡ demand (leb needed count) short_output needed (record { words = needed; replacements = replacements; passes = passes })
+      → {c : List ℕ} → (count < needed → c ≡ k.counters) → (needed ≤ count → c ≡ bytes_of d.result.counters) → Answers k (answered r) m c
+  ends_within r is {c} short fits = last_test r (λ x. Answers k x m c) is (λ l. too_short l refl (short l)) (λ l. all_written l (fits l))

@@ -30,7 +30,7 @@ pub fn flat_front(signature: &[u8], rule: &[u8], scratch: usize) -> Result<Signa
 {
     let sign = signature::read(signature)?;
     sizes(rule, records::MAX_FLAT, scratch)?;
-    let _end = records::flat(rule, sign.heads, sign.globals)?;
+    records::flat(rule, sign.heads, sign.globals)?;
     Ok(sign)
 }
 
@@ -48,6 +48,6 @@ pub fn written_front(
         return Err(Reason::FewCounters.at(0));
     }
     sizes(rule, records::MAX_WRITTEN, scratch)?;
-    let _end = records::written(rule, sign.heads)?;
+    records::written(rule, sign.heads)?;
     Ok(sign)
 }

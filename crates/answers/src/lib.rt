@@ -3,11 +3,13 @@
 
 pub mod fronts;
 
-ghost use Rattle.std.specs.Prelude.{◌≡◌};
+ghost use Rattle.std.specs.Prelude.{◌≡◌, leb};
+ghost use Rattle.rules.specs.Refusals.{demand, short_output};
 ghost use Rattle.rules.specs.Calls.{whole_words};
+ghost use Rattle.refusals.specs.Numbers.{said};
 ghost use Rattle.answers.specs.Answers.{answered};
 
-use refusals::Refusal;
+use refusals::{Reason, Refusal};
 
 // What a call answers. Number 0 is acceptance, with place 0 and the three counts; a refusal has all counts 0.
 // C reads it, so that it is no `Result`.
@@ -27,6 +29,18 @@ pub struct Counts {
     pub words: usize,
     pub replacements: usize,
     pub passes: usize,
+}
+
+impl Counts {
+    // The last test: whether an output of `room` words holds the result. The place of its refusal is how many words are needed.
+    pub fn within(self, room: usize) -> Result<Counts, Refusal>
+        ensures { said result ≡ demand (leb self.words room) short_output self.words self }
+    {
+        if room < self.words {
+            return Err(Reason::ShortOutput.at(self.words));
+        }
+        Ok(self)
+    }
 }
 
 impl From<Result<Counts, Refusal>> for Answer {

@@ -25,8 +25,9 @@ use Rattle.words.specs.Atom.{BeginsGood, equality_size}
 use Rattle.bodies.specs.Standing.{AtomsAt, TabsAt, atoms_in}
 use Rattle.bodies.proofs.Standing.{atoms_before, atoms_join, equality_begins, no_tabs, tabs_before, tabs_join}
 use Rattle.canonicalize.specs.declared.Canonical.{Canonical}
+use Rattle.std.specs.Prelude as prelude
 use Rattle.canonicalize.specs.Canonicalize.{FrontAsks, FrontOne, FrontOneAsks, FrontStep, Fronted, ResolveOneAsks, StepAsks, Stepped}
-use Rattle.canonicalize.specs.Canonicalize.{ask_at, binding_size, binding_words, place_after, resolve_at}
+use Rattle.canonicalize.specs.Canonicalize.{ask_at, binding_size, binding_words, place_of, resolve_at}
 use Rattle.canonicalize.specs.Spans.{Spanned}
 use Rattle.canonicalize.proofs.Fronts.{asked_same_terms, canonicalize_asked, canonicalize_still}
 use Rattle.canonicalize.proofs.Replacing.{ask_is, made}
@@ -53,14 +54,15 @@ module _ {s : Sig} {l : List ℕ} {p n to d table buckets : ℕ} (c : FrontOneAs
         top = c.top;
       }
 
--- that leaves m, and the bindings begin at e: before d just where something was asked
-pub record Tried {s : Sig} {l : List ℕ} {p n to d table buckets : ℕ} (c : FrontOneAsks s l p n to d table buckets) (m : List ℕ) (e : ℕ) : Type 0 where
-  pub place : e ≡ place_after (ask_at s l p) d
+-- that leaves m, and its binding stands at e, if anything was asked
+pub record Tried {s : Sig} {l : List ℕ} {p n to d table buckets : ℕ} (c : FrontOneAsks s l p n to d table buckets) (m : List ℕ)
+    (e : prelude.Option ℕ) : Type 0 where
+  pub place : e ≡ place_of (ask_at s l p) d
   pub stepped : Stepped (ask_at s l p) l m (p + equality_size) (n - equality_size) d table buckets
 
 -- by a step behind the equality, at x
-pub tried : {s : Sig} {l : List ℕ} {p n to d table buckets : ℕ} (c : FrontOneAsks s l p n to d table buckets) {m : List ℕ} {e x : ℕ} → x ≡ p + equality_size
-    → e ≡ place_after (ask_at s l p) d → Stepped (ask_at s l p) l m x (n - (x - p)) d table buckets → Tried c m e
+pub tried : {s : Sig} {l : List ℕ} {p n to d table buckets : ℕ} (c : FrontOneAsks s l p n to d table buckets) {m : List ℕ} {e : prelude.Option ℕ} {x : ℕ}
+    → x ≡ p + equality_size → e ≡ place_of (ask_at s l p) d → Stepped (ask_at s l p) l m x (n - (x - p)) d table buckets → Tried c m e
 tried {s} {l} {p} {n} {to} {d} {table} {buckets} c {m} {e} {x} q place stepped =
     let size : n - (x - p) ≡ n - equality_size = omega arith in
     record {
@@ -69,28 +71,30 @@ tried {s} {l} {p} {n} {to} {d} {table} {buckets} c {m} {e} {x} q place stepped =
           (subst (λ (y : ℕ). Stepped (ask_at s l p) l m y (n - (x - p)) d table buckets) q stepped);
     }
 
-module _ {s : Sig} {l : List ℕ} {p n to d table buckets : ℕ} {c : FrontOneAsks s l p n to d table buckets} {m : List ℕ} {e : ℕ} (t : Tried c m e) where
+module _ {s : Sig} {l : List ℕ} {p n to d table buckets : ℕ} {c : FrontOneAsks s l p n to d table buckets} {m : List ℕ} {e : prelude.Option ℕ}
+    (t : Tried c m e) where
   -- something was asked
-  pub front_asked : (e ≡ d → ⊥) → FrontOne s l m p n to d table buckets (record { words = 0; binds = e })
-  front_asked k = record { step = go (ask_at s l p) t.place t.stepped }
+  pub front_asked : {b : ℕ} → e ≡ prelude.Some b → FrontOne s l m p n to d table buckets (record { words = 0; binds = b })
+  front_asked {b} k = record { step = go (ask_at s l p) (sym k ∙ t.place) t.stepped }
     where
-      go : (o : Option Replacement) → e ≡ place_after o d → Stepped o l m (p + equality_size) (n - equality_size) d table buckets
-          → FrontStep o s l m p n to d table buckets (record { words = 0; binds = e })
-      go none x y = absurd (k x)
-      go (some r) x y = (refl, x, y)
+      go : (o : Option Replacement) → prelude.Some b ≡ place_of o d → Stepped o l m (p + equality_size) (n - equality_size) d table buckets
+          → FrontStep o s l m p n to d table buckets (record { words = 0; binds = b })
+      go none x y = cc
+      go (some r) x y = (refl, cc, y)
 
   -- nothing was asked, so that nothing changed
-  still_same : e ≡ d → (ask_at s l p ≡ none) × (m ≡ l)
-  still_same k = go (ask_at s l p) refl t.place t.stepped
+  still_same : e ≡ prelude.None → (ask_at s l p ≡ none) × (m ≡ l)
+  still_same k = go (ask_at s l p) refl (sym k ∙ t.place) t.stepped
     where
-      go : (o : Option Replacement) → ask_at s l p ≡ o → e ≡ place_after o d → Stepped o l m (p + equality_size) (n - equality_size) d table buckets → (ask_at s l p ≡ none) × (m ≡ l)
+      go : (o : Option Replacement) → ask_at s l p ≡ o → prelude.None ≡ place_of o d → Stepped o l m (p + equality_size) (n - equality_size) d table buckets
+          → (ask_at s l p ≡ none) × (m ≡ l)
       go none q x y = (q, y)
-      go (some r) q x y = absurd (omega (arith, c.binds))
+      go (some r) q x y = cc
 
-  pub resolve_asks : e ≡ d → ResolveOneAsks s m p to
+  pub resolve_asks : e ≡ prelude.None → ResolveOneAsks s m p to
   resolve_asks k = subst (λ (x : List ℕ). ResolveOneAsks s x p to) (sym (still_same k).1) (record { equality = c.equality; whole = equality_within c; room = c.room })
 
-  pub front_still : {m₂ : List ℕ} {w : ℕ} → e ≡ d → w ≡ length (resolve_at s m p) → m₂ ≡ splice m to (resolve_at s m p)
+  pub front_still : {m₂ : List ℕ} {w : ℕ} → e ≡ prelude.None → w ≡ length (resolve_at s m p) → m₂ ≡ splice m to (resolve_at s m p)
       → FrontOne s l m₂ p n to d table buckets (record { words = w; binds = d })
   front_still {m₂} {w} k ew em =
       let same = still_same k in

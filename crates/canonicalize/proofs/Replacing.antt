@@ -34,8 +34,9 @@ use Rattle.bodies.specs.declared.terms.Sign.{Sign}
 use Rattle.bodies.proofs.Standing.{bare_replaced, begins_atom, next_at_lem, size_atom}
 use Rattle.canonicalize.specs.declared.Replacement as code
 use Rattle.std.specs.Prelude as prelude
+use Rattle.std.specs.Prelude.{unwrap_or}
 use Rattle.canonicalize.specs.Canonicalize.{ReplaceAsks, Replaced, StepAsks, Stepped, Swept}
-use Rattle.canonicalize.specs.Canonicalize.{ask_at, ask_for, asked_of, binding_size, binding_words, place_after}
+use Rattle.canonicalize.specs.Canonicalize.{ask_at, ask_for, asked_of, binding_size, binding_words, place_after, place_of}
 use Rattle.canonicalize.specs.Spans.{Spanned}
 use Rattle.canonicalize.specs.Spans as span
 use Rattle.canonicalize.proofs.SpanLaws.{spanned_before}
@@ -237,8 +238,13 @@ module _ (s : Sig) {r : Replacement} {xs : List Atom} (rs : List Replacement) {m
 -- ---- `replace_step`: the atom at p is tried
 
 -- what the contract says of an answer
-abbrev pub StepAnswers : Sig → (l m : List ℕ) (at n p d table buckets r : ℕ) → Type 0
-StepAnswers s l m at n p d table buckets r = (r ≡ place_after (ask_at s l p) d) × Stepped (ask_at s l p) l m at n d table buckets
+abbrev pub StepAnswers : Sig → (l m : List ℕ) (at n p d table buckets : ℕ) → prelude.Option ℕ → Type 0
+StepAnswers s l m at n p d table buckets r = (r ≡ place_of (ask_at s l p) d) × Stepped (ask_at s l p) l m at n d table buckets
+
+-- where the bindings begin then
+placed : (o : Option Replacement) (d : ℕ) → unwrap_or (place_of o d) d ≡ place_after o d
+placed none d = refl
+placed (some r) d = refl
 
 -- its terms are a and b, and t says what they ask for
 pub asks_terms : (s : Sig) {l : List ℕ} {p a b : ℕ} {r : word.Atom} {t : prelude.Option code.Replacement} → Equality l p r
@@ -252,23 +258,23 @@ asks_terms s {l} {p} q ea eb et =
     et ∙ (λ i. asked_of (ask_for (c i) s (x i) (y i)))
 
 module _ (s : Sig) {l : List ℕ} {at n p d table buckets : ℕ} (c : StepAsks l at n p d table buckets) where
-  asked_nothing : ask_at s l p ≡ none → StepAnswers s l l at n p d table buckets d
+  asked_nothing : ask_at s l p ≡ none → StepAnswers s l l at n p d table buckets prelude.None
   asked_nothing e =
-      (ap (λ (o : Option Replacement). place_after o d) (sym e), subst (λ (o : Option Replacement). Stepped o l l at n d table buckets) (sym e) refl)
+      (ap (λ (o : Option Replacement). place_of o d) (sym e), subst (λ (o : Option Replacement). Stepped o l l at n d table buckets) (sym e) refl)
 
   -- no equality
-  pub step_other : (get_or l p 0 ≡ equality_word → ⊥) → StepAnswers s l l at n p d table buckets d
+  pub step_other : (get_or l p 0 ≡ equality_word → ⊥) → StepAnswers s l l at n p d table buckets prelude.None
   unfolding ask_at
   step_other h = asked_nothing (ap (λ (b : Bool). ask_for b s (left_at l p) (right_at l p)) (ne_eqb (get_or l p 0) equality_word h))
 
   -- one that asks for nothing
-  pub step_none : prelude.None ≡ asked_of (ask_at s l p) → StepAnswers s l l at n p d table buckets d
+  pub step_none : prelude.None ≡ asked_of (ask_at s l p) → StepAnswers s l l at n p d table buckets prelude.None
   step_none e = asked_nothing (asked_none (ask_at s l p) e)
 
   -- one whose replacement is made, which leaves m₁, and bound
   pub step_some : {t : code.Replacement} {m₁ m : List ℕ} → prelude.Some t ≡ asked_of (ask_at s l p) → span.Replacing l m₁ at n t.old t.new table buckets
       → length m₁ ≡ length l → m ≡ splice m₁ (d - binding_size) (binding_words (record { old = t.old; new = t.new } ∷ []))
-      → StepAnswers s l m at n p d table buckets (d - binding_size)
+      → StepAnswers s l m at n p d table buckets (prelude.Some (d - binding_size))
   unfolding swap
   step_some {t} {m₁} {m} e k size em =
       let r : Replacement = record { old = t.old; new = t.new } in
@@ -283,7 +289,7 @@ module _ (s : Sig) {l : List ℕ} {at n p d table buckets : ℕ} (c : StepAsks l
         size = k.size;
         spanned = spanned_before o₂ k.spanned (omega (arith, c.room));
       } in
-      (ap (λ (x : Option Replacement). place_after x d) is, subst (λ (x : Option Replacement). Stepped x l m at n d table buckets) is w)
+      (ap (λ (x : Option Replacement). place_of x d) is, subst (λ (x : Option Replacement). Stepped x l m at n d table buckets) is w)
 
 -- ---- `replace_all`: p is the place of the next atom, d where the bindings begin
 
@@ -435,10 +441,12 @@ module _ {s : Sig} {l m : List ℕ} {at n d₀ table buckets p d : ℕ} (w : Rep
         }
 
     -- a turn of the loop
-    pub replacing_next : {m₂ : List ℕ} {d₂ : ℕ} → d₂ ≡ place_after (ask_at s m p) d → Stepped (ask_at s m p) m m₂ at n d table buckets
+    pub replacing_next : {m₂ : List ℕ} {d₂ : ℕ} {b : prelude.Option ℕ} → d₂ ≡ unwrap_or b d → b ≡ place_of (ask_at s m p) d
+        → Stepped (ask_at s m p) m m₂ at n d table buckets
         → Replacing s l m₂ at n d₀ table buckets o d₂
-    replacing_next {m₂} {d₂} ed em =
+    replacing_next {m₂} {d₂} {b} er eb em =
         let q = ask_is s x m p t.stands in
+        let ed : d₂ ≡ place_after (ask_at s m p) d = er ∙ ap (λ (o : prelude.Option ℕ). unwrap_or o d) eb ∙ placed (ask_at s m p) d in
         go (asks s x) refl (ed ∙ ap (λ (g : Option Replacement). place_after g d) q)
         (subst (λ (g : Option Replacement). Stepped g m m₂ at n d table buckets) q em)
       where

@@ -46,6 +46,11 @@ abbrev pub place_after : Option Replacement → ℕ → ℕ
 place_after none d = d
 place_after (some r) d = d - 3
 
+-- where its own binding stands, if it has one
+abbrev pub place_of : Option Replacement → ℕ → prelude.Option ℕ
+place_of none d = prelude.None
+place_of (some r) d = prelude.Some (d - 3)
+
 -- a replacement is made in the n words at `at`, and its binding stands before those at d. The table of spans at `table` changed as well, since
 -- now the new term may stand where the old one did
 pub record Swept (r : Replacement) (l m : List ℕ) (at n d table buckets : ℕ) : Type 0 where

@@ -12,7 +12,7 @@ ghost use Rattle.rules.specs.Signature.{is_var, same_term};
 ghost use Rattle.rules.specs.Canonicalize.{replacement_of};
 ghost use Rattle.bodies.specs.Terms.{sig};
 ghost use Rattle.bodies.specs.Standing.{atoms_in, AtomsAt};
-ghost use Rattle.canonicalize.specs.Canonicalize.{asked_of, ask_at, place_after, StepAsks, Stepped, ReplaceAsks, Replaced};
+ghost use Rattle.canonicalize.specs.Canonicalize.{asked_of, ask_at, place_of, StepAsks, Stepped, ReplaceAsks, Replaced};
 ghost use Rattle.canonicalize.specs.Canonicalize.{resolve_terms, resolve_at, ResolveOneAsks, is_eq, Runs, ResolveAsks, Resolved};
 ghost use Rattle.canonicalize.specs.Canonicalize.{FrontOneAsks, FrontOne, FrontAsks, Fronted, CanonicalizeAsks, CanonicalAt};
 
@@ -86,7 +86,7 @@ fn run(s: &[u8], at: usize, n: usize, equalities: bool) -> usize
     ensures { Runs equalities (words s.now) at n result }
 {
     let mut i = 0;
-    // An iterator over atoms would be longer than the two loops that only read, this one and that of `equalities`.
+    // `successors` of std in place of the two loops that only read was tried at `equalities`, whose line says what was not proved.
     while i < n {
         let atom = good_atom_at(s, at + i);
         if is_equality(atom) != equalities {
@@ -105,7 +105,7 @@ fn resolve(s: &mut [u8], from: usize, n: usize, to: usize, q: Sign) -> usize
 {
     let mut i = 0;
     let mut k = 0;
-    // An iterator over the atoms would hold the words that the loop writes, so it walks by their sizes.
+    // No iterator over the atoms, which would hold the words that are written, and no closure: a step changes the scratch that tells where it ends.
     while i < n {
         let r = run(s, from + i, n - i, false);
         octets::regions::carry(s, to + k, from + i, r);
@@ -135,25 +135,25 @@ struct Sweep {
 }
 
 impl Sweep {
-    // If the atom at p asks for a replacement, it is made in the n words at `at`, and its binding is put before those at d. Returns where the
-    // bindings begin.
-    fn replace_step(self, s: &mut [u8], at: usize, n: usize, p: usize, d: usize) -> usize
+    // If the atom at p asks for a replacement, it is made in the n words at `at`, and its binding is put before those at d. Returns where that
+    // stands, if it was put.
+    fn replace_step(self, s: &mut [u8], at: usize, n: usize, p: usize, d: usize) -> Option<usize>
         requires { StepAsks (words s.old) at n p d self.spans.at self.spans.count }
-        ensures { (result ≡ place_after (ask_at (sig self.sign) (words s.old) p) d)
+        ensures { (result ≡ place_of (ask_at (sig self.sign) (words s.old) p) d)
             × Stepped (ask_at (sig self.sign) (words s.old) p) (words s.old) (words s.new) at n d self.spans.at self.spans.count }
     {
         let atom = good_atom_at(s, p);
         let HeadOrEq::Eq = atom.head else {
-            return d;
+            return None;
         };
         let a = octets::get(s, atom.terms);
         let b = octets::get(s, atom.terms + 1);
         let Some(asked) = replacement_of(self.sign, a, b) else {
-            return d;
+            return None;
         };
         self.spans.replace(s, at, n, asked);
         octets::rows::put_all(s, d - 3, &[LET, asked.old, asked.new]);
-        d - 3
+        Some(d - 3)
     }
 
     // Makes all replacements that the atoms in the n words at `at` ask for. The bindings go before d, the last one first. Returns where they
@@ -165,10 +165,10 @@ impl Sweep {
         let end = at + n;
         let mut p = at;
         let mut e = d;
-        // An iterator over the atoms would hold the words that the loop writes, so it walks by their sizes.
+        // No iterator over the atoms, which would hold the words that are written, and no closure: a step changes the scratch that tells where it ends.
         while p < end {
             let atom = good_atom_at(s, p);
-            e = self.replace_step(s, at, n, p, e);
+            e = self.replace_step(s, at, n, p, e).unwrap_or(e);
             p = atom.next;
         }
         e
@@ -181,9 +181,8 @@ impl Sweep {
         ensures { FrontOne (sig self.sign) (words s.old) (words s.new) p n to d self.spans.at self.spans.count result }
     {
         let next = past_equality(p);
-        let e = self.replace_step(s, next, n - (next - p), p, d);
-        if e != d {
-            return Canonical { words: 0, binds: e };
+        if let Some(binds) = self.replace_step(s, next, n - (next - p), p, d) {
+            return Canonical { words: 0, binds };
         }
         let k = resolve_one(s, p, to, self.sign);
         Canonical { words: k, binds: d }
@@ -206,7 +205,7 @@ impl Sweep {
     {
         let mut i = 0;
         let mut t = Canonical { words: 0, binds: d };
-        // An iterator over the atoms would hold the words that the loop writes, so it walks by their sizes.
+        // No iterator over the atoms, which would hold the words that are written, and no closure: a step changes the scratch that tells where it ends.
         while i < e {
             let one = self.front_one(s, at + i, e - i + k, to + t.words, t.binds);
             t = Canonical {

@@ -25,7 +25,7 @@ fn equalities(s: &[u8], at: usize, n: usize) -> usize
 {
     let mut i = 0;
     let mut k = 0;
-    // An iterator over atoms would be longer than the two loops that only read, this one and that of `run`.
+    // Tried: for `successors(..).take(n).filter(..).count()`, `search` did not prove that its closure may be called at each atom, nor the result.
     while i < n {
         let atom = good_atom_at(s, at + i);
         i = atom.next - at;

@@ -36,15 +36,15 @@ fronted_then {l} {xs} f p ys e at size = record { is = splice_then l 0 xs p ys f
 -- ---- a rule in parts
 
 -- a part as long as the words that stand there is these words
-part_at : (ws l : List ℕ) (p n : ℕ) → At ws l p → n ≡ length ws → part l p n ≡ ws
+pub part_at : (ws l : List ℕ) (p n : ℕ) → At ws l p → n ≡ length ws → part l p n ≡ ws
 part_at ws l p n h e = ap (part l p) e ∙ h.words
 
 -- how many words a settled rule has
 count_words : (h : ℕ) (us vs ws : List ℕ) → length (h ∷ us ++ (vs ++ ws)) ≡ 1 + length us + length vs + length ws
 count_words h us vs ws = omega (arith, length-append us (vs ++ ws), length-append vs ws)
 
-module _ {b : rules.Settled} {xs : List CoreAction} {scratch : List ℕ} {body : Settled} {many : ℕ} {source : List ℕ} {from size : ℕ}
-    (p : Parts b xs scratch body many source from size) where
+module _ {b : rules.Settled} {xs : List CoreAction} {scratch : List ℕ} {body : Settled} {many : ℕ} {head_words : List ℕ}
+    (p : Parts b xs scratch body many head_words) where
   bound : bound_size * body.replacements ≡ length (words_of action_words (bindings b.repls))
   bound = omega (arith, p.replacements, bindings_words b.repls)
 
@@ -56,35 +56,36 @@ module _ {b : rules.Settled} {xs : List CoreAction} {scratch : List ℕ} {body :
 
   -- its words
   encoded : {h : ℕ} → h ≡ header_word body.atoms (body.replacements + many)
-      → emitted h scratch body source from size ≡ encode b.tabs (bindings b.repls ++ xs)
+      → emitted h scratch body head_words ≡ encode b.tabs (bindings b.repls ++ xs)
   encoded {h} e =
       ap₂ ◌∷◌ (e ∙ header)
-      (ap₂ ◌++◌ (ap₂ ◌++◌ (part_at _ _ _ _ p.tabs p.words) (part_at _ _ _ _ p.binds bound)) (part_at _ _ _ _ p.head p.rest)
+      (ap₂ ◌++◌ (ap₂ ◌++◌ (part_at _ _ _ _ p.tabs p.words) (part_at _ _ _ _ p.binds bound)) p.head
       ∙ append_assoc (words_of tab_words b.tabs) (words_of action_words (bindings b.repls)) (words_of action_words xs)
       ∙ ap (λ (l : List ℕ). words_of tab_words b.tabs ++ l) (sym (words_append action_words (bindings b.repls) xs)))
 
   -- how many there are
-  needed : 1 + body.words + bound_size * body.replacements + size ≡ length (encode b.tabs (bindings b.repls ++ xs))
+  size : length head_words ≡ length (words_of action_words xs)
+  size = ap length p.head
+
+  needed : 1 + body.words + bound_size * body.replacements + length head_words ≡ length (encode b.tabs (bindings b.repls ++ xs))
   needed =
       let e = ap (λ (l : List ℕ). length (words_of tab_words b.tabs ++ l)) (words_append action_words (bindings b.repls) xs) in
-      omega (arith, p.words, p.rest, bound, e, count_words 0 (words_of tab_words b.tabs) (words_of action_words (bindings b.repls)) (words_of action_words xs))
+      omega (arith, p.words, size, bound, e, count_words 0 (words_of tab_words b.tabs) (words_of action_words (bindings b.repls)) (words_of action_words xs))
 
   -- they lie inside what they are copied from
-  asks : (room : ℕ) → 1 + body.words + bound_size * body.replacements + size ≤ room → Fits body from size room (length scratch) (length source)
+  asks : (room : ℕ) → 1 + body.words + bound_size * body.replacements + length head_words ≤ room → Fits body (length head_words) room (length scratch)
   asks room h =
       let x = p.tabs.within in
       let y = p.binds.within in
-      let z = p.head.within in
       record {
         atoms = omega (arith, x, p.words);
         binds = omega (arith, y, bound);
-        actions = omega (arith, z, p.rest);
         room = h;
       }
 
   -- an output that has no room is left as it is
-  pub no_room : (l : List ℕ) → length (words l) < 1 + body.words + bound_size * body.replacements + size
-      → WroteIfRoom (encode b.tabs (bindings b.repls ++ xs)) (1 + body.words + bound_size * body.replacements + size) l l
+  pub no_room : (l : List ℕ) → length (words l) < 1 + body.words + bound_size * body.replacements + length head_words
+      → WroteIfRoom (encode b.tabs (bindings b.repls ++ xs)) (1 + body.words + bound_size * body.replacements + length head_words) l l
   no_room l h = record {
     needed = needed;
     fits = λ k. absurd (nothing k);
@@ -96,9 +97,9 @@ module _ {b : rules.Settled} {xs : List CoreAction} {scratch : List ℕ} {body :
 
   -- and any other has the rule
   pub in_room : (l m : List ℕ) {h : ℕ} → h ≡ header_word body.atoms (body.replacements + many)
-      → 1 + body.words + bound_size * body.replacements + size ≤ length (words l)
-      → words m ≡ splice (words l) 0 (emitted h scratch body source from size)
-      → WroteIfRoom (encode b.tabs (bindings b.repls ++ xs)) (1 + body.words + bound_size * body.replacements + size) l m
+      → 1 + body.words + bound_size * body.replacements + length head_words ≤ length (words l)
+      → words m ≡ splice (words l) 0 (emitted h scratch body head_words)
+      → WroteIfRoom (encode b.tabs (bindings b.repls ++ xs)) (1 + body.words + bound_size * body.replacements + length head_words) l m
   in_room l m e r w = record {
     needed = needed;
     fits = λ _. w ∙ ap (splice (words l) 0) (encoded e);
@@ -115,11 +116,11 @@ pub record Bounded (body : Settled) (many size : ℕ) : Type 0 where
   pub atoms : body.atoms < limit12
   pub actions : body.replacements + many < limit12
 
-module _ {scratch : List ℕ} {body : Settled} {many : ℕ} {source : List ℕ} {from size : ℕ} (s : Stand scratch body many source from size) where
-  pub bounded : length scratch < 2 ^ 62 → length source < 2 ^ 62 → Bounded body many size
+module _ {scratch : List ℕ} {body : Settled} {many : ℕ} {head_words : List ℕ} (s : Stand scratch body many head_words) where
+  pub bounded : length scratch < 2 ^ 62 → length head_words < 2 ^ 62 → Bounded body many (length head_words)
   bounded h k =
       let p = s.parts in
-      let f = asks p (1 + body.words + bound_size * body.replacements + size) (omega arith) in
+      let f = asks p (1 + body.words + bound_size * body.replacements + length head_words) (omega arith) in
       record {
         needed = omega (arith, f);
         atoms = omega (arith, p.atoms, p.few);
@@ -127,23 +128,22 @@ module _ {scratch : List ℕ} {body : Settled} {many : ℕ} {source : List ℕ} 
             omega (arith, p.replacements, p.actions, p.some, length-append (bindings s.settled.repls) s.kept, length_bindings s.settled.repls);
       }
 
-  pub emit_asks : (room : ℕ) → 1 + body.words + bound_size * body.replacements + size ≤ room → Fits body from size room (length scratch) (length source)
+  pub emit_asks : (room : ℕ) → 1 + body.words + bound_size * body.replacements + length head_words ≤ room → Fits body (length head_words) room (length scratch)
   emit_asks room h = asks s.parts room h
 
--- ---- what is settled has such parts, with a head of which the words stand in `source`
+-- ---- what is settled has such parts, with a head by its words
 
 -- what `finish` ensures: n words are needed, and the output o has become m
-abbrev pub Finishes : List ℕ → Settled → (many : ℕ) (source : List ℕ) (from size n : ℕ) (o m : List ℕ) → Type 0
-Finishes scratch body many source from size n o m =
-    (b : rules.Settled) (head : List CoreAction) → Parts b head scratch body many source from size
+abbrev pub Finishes : List ℕ → Settled → (many : ℕ) (head_words : List ℕ) (n : ℕ) (o m : List ℕ) → Type 0
+Finishes scratch body many head_words n o m =
+    (b : rules.Settled) (head : List CoreAction) → Parts b head scratch body many head_words
     → WroteIfRoom (encode b.tabs (bindings b.repls ++ head)) n o m
 
 pub settled_parts : {s : Sig} {atoms : List Atom} {l m : List ℕ} {at n : ℕ} {body : Settled} → SettledAt s atoms l m at n body
-    → (head : List CoreAction) (many : ℕ) (source : List ℕ) (from size : ℕ) → At (words_of action_words head) source from
-    → size ≡ length (words_of action_words head)
+    → (head : List CoreAction) (many : ℕ) (head_words : List ℕ) → head_words ≡ words_of action_words head
     → many ≡ length head → (length (rules.settle s atoms).tabs < limit12) × (length (bindings (rules.settle s atoms).repls ++ head) < limit12)
-    → Parts (rules.settle s atoms) head m body many source from size
-settled_parts d head many source from size there e k few =
+    → Parts (rules.settle s atoms) head m body many head_words
+settled_parts d head many head_words there k few =
     record {
       tabs = d.tabs;
       words = d.words;
@@ -151,7 +151,6 @@ settled_parts d head many source from size there e k few =
       binds = d.binds;
       replacements = d.replacements;
       head = there;
-      rest = e;
       actions = k;
       few = few.0;
       some = few.1;

@@ -10,40 +10,40 @@ ghost use Rattle.rules.specs.RemoveDupVars as rules;
 ghost use Rattle.free_vars.specs.Head.{WroteIfRoom};
 ghost use Rattle.emitting.specs.Emit.{Fits, emitted, Parts, Stand};
 
+use octets::part;
+use octets::regions::copy;
 use settling::Settled;
 use words::{HEADER_BASE, LIMIT_12};
 
-// The actions of a rule's head, where they stand: `count` of them, in the `size` words of `source` from `from` on.
+// The actions of a rule's head: their words, and how many actions these are.
 #[derive(Clone, Copy)]
 pub struct Actions<'a> {
-    pub source: &'a [u8],
-    pub from: usize,
-    pub size: usize,
+    pub words: &'a [u8],
     pub count: usize,
 }
 
 // Copies the three runs behind the header.
 fn emit(output: &mut [u8], header: u32, scratch: &[u8], body: Settled, head: Actions)
-    requires { Fits body head.from head.size (length (words output.old)) (length (words scratch.now)) (length (words head.source.now)) }
+    requires { Fits body (length (words head.words.now)) (length (words output.old)) (length (words scratch.now)) }
     ensures { words output.new ≡ splice (words output.old) 0
-        (emitted header (words scratch.now) body (words head.entry.source.now) head.entry.from head.entry.size) }
+        (emitted header (words scratch.now) body (words head.entry.words.now)) }
 {
     let bound = 3 * body.replacements;
     let behind = 1 + body.words;
     octets::put(output, 0, header);
-    octets::regions::copy(output, 1, scratch, body.at, body.words);
-    octets::regions::copy(output, behind, scratch, body.binds, bound);
-    octets::regions::copy(output, behind + bound, head.source, head.from, head.size);
+    copy(output, 1, part(scratch, body.at, body.words));
+    copy(output, behind, part(scratch, body.binds, bound));
+    copy(output, behind + bound, head.words);
 }
 
 // Writes a settled body with a head's actions, and answers how many words that takes. If the output has fewer, it is left as it is.
 pub fn finish(output: &mut [u8], scratch: &[u8], body: Settled, head: Actions) -> usize
-    requires { Stand (words scratch.now) body head.count (words head.source.now) head.from head.size }
+    requires { Stand (words scratch.now) body head.count (words head.words.now) }
     ensures { (b : rules.Settled) (xs : List CoreAction)
-        → Parts b xs (words scratch.now) body head.entry.count (words head.entry.source.now) head.entry.from head.entry.size
+        → Parts b xs (words scratch.now) body head.entry.count (words head.entry.words.now)
         → WroteIfRoom (encode b.tabs (bindings b.repls ++ xs)) result output.old output.new }
 {
-    let needed = 1 + body.words + 3 * body.replacements + head.size;
+    let needed = 1 + body.words + 3 * body.replacements + octets::count(head.words);
     if octets::count(output) < needed {
         return needed;
     }

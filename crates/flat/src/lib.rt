@@ -122,6 +122,7 @@ impl Record<'_> {
 
 impl Record<'_> {
     // How the atom at an index begins: with its head and the count of its terms. No atom begins with another word.
+    // By the count of leading zeros: `atom_of` takes the word itself, and `word_at` would give its parts, from which the word would have to be made again.
     fn first_at(&self, at: usize) -> Option<Atom>
         ensures { or_unfit atom_numbers result at ≡ first_at (words self.now.rule.now) at }
     {
@@ -206,6 +207,7 @@ impl Record<'_> {
     }
 
     // An action: its code, and what the code asks for. Action 8 is not flat.
+    // A `match` on the number: flat rules have the codes 1 to 7 as they are written, and any other is unfit.
     pub fn action(&self, at: usize) -> Result<usize, Refusal>
         ensures { said result ≡ ending_of (read_core_action (with_heads self.now.heads) (words self.now.rule.now) at) }
     {

@@ -4,7 +4,7 @@ ghost use Rattle.octets.specs.Words.{words, Got};
 
 use crate::binds_next;
 use octets::regions::among;
-use octets::{count, get};
+use octets::{count, get, part};
 use words::{Term, term_of};
 
 // The words of a flat rule from its first action on, under a signature with so many globals. The rule's header stands before them, so each word of the
@@ -56,7 +56,7 @@ impl Head<'_> {
         let Term::Var(v) = term_of(self.word(i), self.globals) else {
             return false;
         };
-        !self.is_target(i) && !among(self.rule, self.from, i, v)
+        !self.is_target(i) && !among(part(self.rule, self.from, i), v)
     }
 
     // How many free variables it has, told word by word.
@@ -72,6 +72,6 @@ impl Head<'_> {
         requires { self.now.from + n ≤ length (words self.now.rule.now) }
         ensures { result ≡ (between low high v && elem v (part (words self.now.rule.now) self.now.from n)) }
     {
-        low <= v && v <= high && among(self.rule, self.from, n, v)
+        low <= v && v <= high && among(part(self.rule, self.from, n), v)
     }
 }

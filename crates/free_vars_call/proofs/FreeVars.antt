@@ -44,16 +44,16 @@ module _ (k : Given) where
   free_whole test h = record { all = sym test ∙ h; output = every_whole (freeing k).lengths (sym test ∙ h) 2; counters = refl }
 
   module _ {g : Signature} (y : Ready (freeing k) g) where
-    good : Good y.sig (words k.rule) y.passed.rule
+    pub good : Good y.sig (words k.rule) y.passed.rule
     good = record { few = (signature_sound (words k.signature) y.sig y.passed.signature).few_heads; read = y.passed.reads }
 
-    globals : g.globals ≡ y.sig.globals
+    pub globals : g.globals ≡ y.sig.globals
     globals = ap (λ (x : Signature). x.globals) y.told_of
 
     pub free_asks : GoodUnder (words k.rule) g.globals
     free_asks = record { some = record { sig = y.sig; rule = y.passed.rule; good = good }; globals = globals }
 
-    pub free_done : {n : ℕ} {m : List ℕ}
+    abbrev pub free_done : {n : ℕ} {m : List ℕ}
         → ((s : Sig) (f : FlatRule) → g.globals ≡ s.globals → Good s (words k.rule) f → WroteIfRoom (get_free_vars s f.actions) n k.output m)
         → length m ≡ length k.output → Bytes k.output → Bytes m → Done y n 0 0 m
     free_done wrote size before after =

@@ -16,15 +16,12 @@ fn find_or_refuse(signature: &[u8], rule: &[u8], output: &mut [u8]) -> Result<Co
         return Err(Reason::Ragged.at(0));
     }
     let sign = flat_front(signature, rule, SCRATCH_WORDS)?;
-    let n = free_vars::get_free_vars(rule, sign.globals, output);
-    if octets::count(output) < n {
-        return Err(Reason::ShortOutput.at(n));
-    }
-    Ok(Counts {
-        words: n,
+    let counts = Counts {
+        words: free_vars::get_free_vars(rule, sign.globals, output),
         replacements: 0,
         passes: 0,
-    })
+    };
+    counts.within(octets::count(output))
 }
 
 // The free variables of a flat rule's head, in ascending word order.

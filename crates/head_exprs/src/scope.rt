@@ -3,6 +3,9 @@ ghost use Rattle.std.specs.Prelude.{◌≡◌};
 ghost use Rattle.octets.specs.Words.{words};
 ghost use Rattle.head_exprs.specs.Scopes.{first_scope, having, in_scope, may_read, is_taken, ScopeFits};
 
+use octets::part;
+use octets::regions::among;
+
 // Names below `globals` are globals. The body's words are the first `body` of the scratch; the `names` words from `first` on are let.
 #[derive(Clone, Copy)]
 pub struct Scope {
@@ -38,8 +41,7 @@ impl Scope {
         requires { ScopeFits (words s.now) self }
         ensures { result ≡ in_scope (words s.now) self w }
     {
-        octets::regions::among(s, 0, self.body, w)
-            || octets::regions::among(s, self.first, self.names, w)
+        among(part(s, 0, self.body), w) || among(part(s, self.first, self.names), w)
     }
 
     // Whether the leaf w may be read: a literal or a global, also after a let of it, or a bound name.
@@ -59,7 +61,7 @@ impl Scope {
         ensures { result ≡ is_taken (words s.now) self w }
     {
         if w < words::NAME_BASE + self.globals {
-            return octets::regions::among(s, self.first, self.names, w);
+            return among(part(s, self.first, self.names), w);
         }
         self.has(s, w)
     }

@@ -23,9 +23,9 @@ fn digit(b: u8) -> Option<u32>
     ensures { MatchOption result (Program·digit b ≡ 16) (λ d. (Program·digit b ≡ d) × (d < 16)) }
 {
     let d = u32::from(b);
-    match d {
-        48..=57 => Some(d - 48),
-        97..=102 => Some(d - 87),
+    match b {
+        b'0'..=b'9' => Some(d - 48),
+        b'a'..=b'f' => Some(d - 87),
         _ => None,
     }
 }

@@ -56,6 +56,7 @@ fn print_program(input: &[u8], text: &mut [u8]) -> usize
         &mut output,
         &mut scratch,
     );
+    // It is C's struct, in which the number 0 is acceptance.
     if answer.number != 0 {
         return lines::printing::print_refused(text, answer.number, answer.place);
     }
@@ -70,7 +71,7 @@ fn print_program(input: &[u8], text: &mut [u8]) -> usize
 // ---- reading and writing
 
 // All lines that are read, and one byte more, which tells that there is a line too many. What lies behind it changes nothing:
-// `wrote_enough` of proofs/Whole.antt.
+// `wrote_enough` of proofs/Whole.antt. A function of its own, since `main` has no contract in which this size could be said.
 fn input_room() -> [u8; 41509]
     ensures { input_bytes ≡ length result }
 {

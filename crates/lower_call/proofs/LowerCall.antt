@@ -1,14 +1,15 @@
 -- Lowering a written rule, as a call: what is asked of the work, what it gives, and when the counters are used. Assumes nothing.
-use Prim.Native.Nat.{ℕ, ◌*◌, ◌/◌, ◌≤◌, ◌<◌}
+use Prim.Native.Nat.{ℕ, ◌*◌, ◌/◌, ◌≤◌}
 use native.Mathlib.Omega.{arith}
 use mathlib.Core.Path.{◌≡◌, refl, sym, ◌∙◌, ap}
 use mathlib.Core.Bool.{Bool, true}
 use mathlib.Core.List.{List, [], ◌∷◌}
 use lib.ListN.{length, take}
+use lib.Dec.{leb}
 use borrow.Author.Tests.{leb-true}
 use Rattle.octets.specs.Words.{words, bytes_of}
 use Rattle.octets.proofs.Words.{bytes_words, words_injective, length_words, length_words_kept}
-use Rattle.rules.specs.Refusals.{Res, ok, refuse, ◌>>=◌, short_output}
+use Rattle.rules.specs.Refusals.{Res, ok, refuse, ◌>>=◌, demand, short_output}
 use Rattle.rules.specs.Signature.{Sig, heads}
 use Rattle.rules.specs.Written.{Rule}
 use Rattle.rules.specs.ToCoreActions.{CoreRule, to_core_rule}
@@ -17,7 +18,7 @@ use Rattle.std.specs.Prelude.{Result as Outcome, Ok, Err}
 use Rattle.refusals.specs.Numbers.{number_of}
 use Rattle.refusals.specs.declared.Refusal.{Refusal}
 use Rattle.rules.specs.Calls.{Result, settled_result, lower_rule, whole_words, lower}
-use Rattle.refusals.specs.Numbers.{told}
+use Rattle.refusals.specs.Numbers.{said, told}
 use Rattle.signature.specs.Signature.{sign_of}
 use Rattle.signature.specs.declared.Signature.{Signature}
 use Rattle.answers.specs.declared.Answer.{Answer}
@@ -28,7 +29,7 @@ use Rattle.lower_call.specs.Lower.{WrittenUnder, LowerAsks, LoweredTo, LowersTo,
 use Rattle.answers.proofs.Slices.{every_whole}
 use Rattle.answers.proofs.Tests.{written, front}
 use Rattle.answers.proofs.Lent.{Lent, lent_words}
-use Rattle.answers.proofs.Calls.{Given, Call, Answers, Whole, Ready, work_refuses, Done, Bytes, too_short, all_written}
+use Rattle.answers.proofs.Calls.{Given, Call, Answers, Whole, Ready, work_refuses, Done, Bytes, ends_within}
 
 abbrev pub lowering : Given → Call Rule
 lowering k =
@@ -163,14 +164,9 @@ module _ {k : Given} {g : Signature} {y : Ready (lowering k) g} {m d : List ℕ}
       words_kept : count ≡ length (words k.output)
       words_kept = words_are ∙ length_words_kept _ _ o.output
 
-      -- no room: the counters are as they were
-      pub lower_short : count < w.words → {r : Answer} → r ≡ refused_with short_output w.words → Answers (lowering k) r m d
-      lower_short l a = too_short lower_done words_are l a (unused o (known.2.uncounted (omega (arith, words_kept))))
-
-      -- room for all of it: the counters are used
-      pub lower_written : w.words ≤ count → Answers (lowering k) (answered (Ok w)) m d
-      lower_written l =
-          let counts : d ≡ bytes_of known.0.next =
-          sym (bytes_words d o.counters_after (omega (arith, o.counters, y.whole.counters)))
-          ∙ ap bytes_of (known.2.counted (omega (arith, words_kept))) in
-          all_written lower_done words_are l counts
+      -- the last test's answer: the counters are used just if there is room for all of it
+      pub lower_within : (r : Outcome Counts Refusal) → said r ≡ demand (leb w.words count) short_output w.words w → Answers (lowering k) (answered r) m d
+      lower_within r is = ends_within lower_done words_are r is (λ l. unused o (known.2.uncounted (omega (arith, words_kept)))) used
+        where
+          used : w.words ≤ count → d ≡ bytes_of known.0.next
+          used l = sym (bytes_words d o.counters_after (omega (arith, o.counters, y.whole.counters))) ∙ ap bytes_of (known.2.counted (omega (arith, words_kept)))

@@ -41,7 +41,7 @@ use Rattle.signature.specs.declared.Signature.{Signature}
 use Rattle.answers.specs.declared.Counts.{Counts}
 use Rattle.emitting.specs.Emit.{Parts, Stand}
 use Rattle.lower_call.specs.Lower.{LowerAsks, LowersTo, LowersRead}
-use Rattle.emitting.proofs.Emitting.{Finishes, settled_parts}
+use Rattle.emitting.proofs.Emitting.{part_at, Finishes, settled_parts}
 
 module _ {gs ws : List ℕ} {g : Signature} {cs : List ℕ} {room : ℕ} (a : LowerAsks gs ws g cs room) where
   abbrev pub core_asks : Good gs ws cs room
@@ -153,19 +153,28 @@ module _ {gs ws : List ℕ} {g : Signature} {cs : List ℕ} {room : ℕ} {a : Lo
 
 module _ {gs ws : List ℕ} {g : Signature} {cs : List ℕ} {room : ℕ} {a : LowerAsks gs ws g cs room} {m1 cs1 : List ℕ} {k : Lowering} {c : Laid a m1 cs1 k}
     {n : ℕ} {m2 : List ℕ} {b : Settled} (d : Done c n m2 b) where
-  parts : Parts (rules.settle a.sig c.core.body) c.core.head m2 b k.actions m2 (24 * n) k.head
-  parts =
+  head_at : At (words_of action_words c.core.head) m2 (24 * n)
+  head_at =
       let there = at_after d.done.only c.made.head_there (omega (arith, c.small)) in
-      settled_parts d.done c.core.head k.actions m2 (24 * n) k.head
-      (subst (λ (i : ℕ). At (words_of action_words c.core.head) m2 (24 * i)) (sym d.all) there) c.made.head c.made.actions
+      subst (λ (i : ℕ). At (words_of action_words c.core.head) m2 (24 * i)) (sym d.all) there
+
+  pub head_inside : 24 * n + k.head ≤ length m2
+  head_inside = omega (arith, head_at.within, c.made.head)
+
+module _ {gs ws : List ℕ} {g : Signature} {cs : List ℕ} {room : ℕ} {a : LowerAsks gs ws g cs room} {m1 cs1 : List ℕ} {k : Lowering} {c : Laid a m1 cs1 k}
+    {n : ℕ} {m2 : List ℕ} {b : Settled} (d : Done c n m2 b) {xs : List ℕ} (head_is : xs ≡ part m2 (24 * n) k.head) where
+  parts : Parts (rules.settle a.sig c.core.body) c.core.head m2 b k.actions xs
+  parts =
+      settled_parts d.done c.core.head k.actions xs
+      (head_is ∙ part_at (words_of action_words c.core.head) m2 (24 * n) k.head (head_at d) c.made.head) c.made.actions
       (lowered_counts a.sig ws cs a.rule c.core a.under.written c.is a.under.short)
 
-  pub stands : Stand m2 b k.actions m2 (24 * n) k.head
+  pub stands : Stand m2 b k.actions xs
   stands = record { settled = rules.settle a.sig c.core.body; kept = c.core.head; parts = parts }
 
   -- ---- it is written if there is room: `needed` words, and the output has become out'
 
-  module _ {needed : ℕ} {out out' : List ℕ} (finished : Finishes m2 b k.actions m2 (24 * n) k.head needed out out') where
+  module _ {needed : ℕ} {out out' : List ℕ} (finished : Finishes m2 b k.actions xs needed out out') where
     abbrev answer : Result Counts Refusal
     answer = Ok (record { words = needed; replacements = b.replacements; passes = b.passes })
 

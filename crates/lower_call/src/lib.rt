@@ -38,9 +38,7 @@ fn lower_good(
     };
     let body = settling::settle(scratch, 0, core.body, terms);
     let head = Actions {
-        source: scratch,
-        from: lowering::HEAD_AT * n,
-        size: core.head,
+        words: octets::part(scratch, lowering::HEAD_AT * n, core.head),
         count: core.actions,
     };
     let words = emitting::finish(output, scratch, body, head);
@@ -83,10 +81,7 @@ fn lower_or_refuse(
     let size = octets::count(rule);
     let lent = &mut scratch[..LENT * size];
     let counts = lower_good(signature, rule, sign, counters, output, lent)?;
-    if octets::count(output) < counts.words {
-        return Err(Reason::ShortOutput.at(counts.words));
-    }
-    Ok(counts)
+    counts.within(octets::count(output))
 }
 
 // A written rule, lowered and settled.

@@ -62,18 +62,18 @@ pub record MergingAll (l m : List ℕ) (from n eqs links i : ℕ) (t : Merging) 
   pub tabs : TabsAt left m (from + i) (n - i)
   pub linked : LinksAt buckets left i m links
   pub marks : MarksAt firsts left i m links
-  pub helds : TabsAt held m from t.kept
+  pub helds : TabsAt held m from t.done.kept
   pub runs : TabsAt run m (from + t.start) (i - t.start)
   pub at : At (words_of group_words gs) m eqs
-  pub size : t.eqs ≡ length (words_of group_words gs)
-  pub atoms : t.atoms ≡ length (held ++ run)
-  pub down : t.kept ≤ t.start
+  pub size : t.done.eqs ≡ length (words_of group_words gs)
+  pub atoms : t.done.atoms ≡ length (held ++ run)
+  pub down : t.done.kept ≤ t.start
   pub up : t.start ≤ i
   pub only : Only l m eqs (from + n)
   pub inside : i ≤ n
 
 pub merging_start : {l : List ℕ} {from n eqs links : ℕ} → MergeAsks l from n eqs links → length l < 2 ^ 64
-    → MergingAll l l from n eqs links 0 (record { eqs = 0; kept = 0; atoms = 0; start = 0 })
+    → MergingAll l l from n eqs links 0 (record { done = record { eqs = 0; kept = 0; atoms = 0 }; start = 0 })
 merging_start {l} {from} {n} {eqs} c fits =
     record {
       asks = c;
@@ -169,12 +169,13 @@ module _ {l m : List ℕ} {from n eqs links i : ℕ} {t : Merging} {w : MergingA
     new : Grouping (tabs_in l from n) (w.gs ++ group_of x xs ∷ []) ((w.held ++ w.run) ++ x ∷ []) (x ∷ w.firsts) xs
     new = grouping_keep grouping (sym seen_is ∙ f)
 
-    gs_size : length (words_of group_words (w.gs ++ group_of x xs ∷ [])) ≡ t.eqs + length (group_words (group_of (tab_at m (from + i)) (behind m from n i)))
+    gs_size : length (words_of group_words (w.gs ++ group_of x xs ∷ []))
+        ≡ t.done.eqs + length (group_words (group_of (tab_at m (from + i)) (behind m from n i)))
     gs_size =
         length_words_append group_words w.gs (group_of x xs ∷ [])
         ∙ ap₂ ◌+◌ (sym w.size) (ap length (append-nil (group_words (group_of x xs))) ∙ ap length (sym group_is))
 
-    eqs_fit : eqs + t.eqs + length (group_words (group_of (tab_at m (from + i)) (behind m from n i))) ≤ links
+    eqs_fit : eqs + t.done.eqs + length (group_words (group_of (tab_at m (from + i)) (behind m from n i))) ≤ links
     eqs_fit =
         omega (
           arith,
@@ -231,9 +232,9 @@ module _ {l m : List ℕ} {from n eqs links i : ℕ} {t : Merging} {w : MergingA
     module _ {m₂ : List ℕ} {r : Merging} where
       dropped : seen (tab_at m (from + i)) w.firsts ≡ true → DroppedOne m m₂ from i t r → MergingAll l m₂ from n eqs links i₂ r
       dropped f k =
-          let v : Moved w.held w.run m m₂ from i t.kept t.start = moved w.helds w.runs w.down w.up k.words in
+          let v : Moved w.held w.run m m₂ from i t.done.kept t.start = moved w.helds w.runs w.down w.up k.words in
           let o = v.only in
-          let low : links + i₂ + length (words_of tab_words xs) < from + t.kept = omega (arith, rest_at.size, w.asks.below, ei, g.inside) in
+          let low : links + i₂ + length (words_of tab_words xs) < from + t.done.kept = omega (arith, rest_at.size, w.asks.below, ei, g.inside) in
           let fit = groups_fit w in
           let ks : w.held ++ w.run ≡ (w.held ++ w.run) ++ [] = sym (append-nil (w.held ++ w.run)) in
           record {
@@ -266,7 +267,7 @@ module _ {l m : List ℕ} {from n eqs links i : ℕ} {t : Merging} {w : MergingA
       stayed f k =
           let below = w.asks.below in
           let fit = eqs_fit f in
-          let o : Only m m₂ (eqs + t.eqs) (links + n + 1) = k.group.only in
+          let o : Only m m₂ (eqs + t.done.eqs) (links + n + 1) = k.group.only in
           let chained : LinksKept xs i₂ m m₂ links =
           subst (λ (ts : List Tab). LinksKept ts i₂ m m₂ links) g.rest_is
           (subst (λ (j : ℕ). LinksKept (behind m from n i) j m m₂ links) (sym ei) k.group.chained) in
@@ -285,8 +286,8 @@ module _ {l m : List ℕ} {from n eqs links i : ℕ} {t : Merging} {w : MergingA
           let longer : TabsAt (w.run ++ x ∷ []) m (from + t.start) (i - t.start + size_at m (from + i)) =
           tabs_join w.run (x ∷ []) m (from + t.start) (i - t.start) (from + i) (size_at m (from + i)) w.runs one (omega (arith, w.up)) in
           let ks : (w.held ++ w.run) ++ x ∷ [] ≡ w.held ++ (w.run ++ x ∷ []) = append_assoc w.held w.run (x ∷ []) in
-          let group : At (words_of group_words (group_of x xs ∷ [])) m₂ (eqs + t.eqs) =
-          subst (λ (ws : List ℕ). At ws m₂ (eqs + t.eqs)) (group_is ∙ sym (append-nil (group_words (group_of x xs)))) k.group.at in
+          let group : At (words_of group_words (group_of x xs ∷ [])) m₂ (eqs + t.done.eqs) =
+          subst (λ (ws : List ℕ). At ws m₂ (eqs + t.done.eqs)) (group_is ∙ sym (append-nil (group_words (group_of x xs)))) k.group.at in
           record {
             asks = w.asks;
             fits = w.fits;
@@ -304,7 +305,7 @@ module _ {l m : List ℕ} {from n eqs links i : ℕ} {t : Merging} {w : MergingA
             runs = tabs_to (tabs_after o longer (omega (arith, below))) (omega (arith, k.start_end)) (omega (arith, k.start_end, ei, w.up));
             at = subst (λ (ws : List ℕ). At ws m₂ eqs) (sym (words_append group_words w.gs (group_of x xs ∷ [])))
                 (at_join (at_before o w.at (omega (arith, w.size))) group (omega (arith, w.size)));
-            size = k.eqs_end ∙ ap (λ (y : ℕ). t.eqs + y) k.group.size ∙ sym (gs_size f);
+            size = k.eqs_end ∙ ap (λ (y : ℕ). t.done.eqs + y) k.group.size ∙ sym (gs_size f);
             atoms = omega (arith, k.atoms_end, w.atoms, ap length ks, length-append (w.held ++ w.run) (x ∷ []));
             down = omega (arith, k.kept_end, k.start_end, w.down);
             up = omega (arith, k.start_end, ei, w.up);
@@ -326,7 +327,7 @@ module _ {l m : List ℕ} {from n eqs links i : ℕ} {t : Merging} (w : MergingA
     pub run : TabsAt w.run m (from + t.start) (n - t.start)
     pub groups : groups_of [] (tabs_in l from n) ≡ w.gs
     pub kept : keep [] (tabs_in l from n) ≡ w.held ++ w.run
-    pub down : t.kept ≤ t.start
+    pub down : t.done.kept ≤ t.start
     pub up : t.start ≤ n
     pub within : from + t.start + (n - t.start) ≤ length m
     pub fits : length m < 2 ^ 64
@@ -346,10 +347,10 @@ module _ {l m : List ℕ} {from n eqs links i : ℕ} {t : Merging} (w : MergingA
       }
 
 pub merging_end : {l m m₂ : List ℕ} {from n eqs links i q : ℕ} {t : Merging} {w : MergingAll l m from n eqs links i t} → Last w
-    → (q ≡ t.kept + (n - t.start)) × (m₂ ≡ splice m (from + t.kept) (part m (from + t.start) (n - t.start)))
-    → MergedAll l m₂ from n eqs links (record { eqs = t.eqs; kept = q; atoms = t.atoms })
+    → (q ≡ t.done.kept + (n - t.start)) × (m₂ ≡ splice m (from + t.done.kept) (part m (from + t.start) (n - t.start)))
+    → MergedAll l m₂ from n eqs links (record { eqs = t.done.eqs; kept = q; atoms = t.done.atoms })
 merging_end {l} {m} {m₂} {from} {n} {eqs} {links} {i} {q} {t} {w} e em =
-    let v : Moved w.held w.run m m₂ from n t.kept t.start = moved w.helds e.run e.down e.up em.1 in
+    let v : Moved w.held w.run m m₂ from n t.done.kept t.start = moved w.helds e.run e.down e.up em.1 in
     let fit = groups_fit w in
     record {
       groups = subst (λ (gs : List Group). At (words_of group_words gs) m₂ eqs) (sym e.groups) (at_before v.only w.at (omega (arith, fit, w.asks.below)));

@@ -52,10 +52,10 @@ module _ {l : List ℕ} {from n i eqs links : ℕ} {t : Merging} (b : Begun l fr
   -- ---- it is marked, w, and goes, of z words; the run before it is carried down, which leaves m
 
   pub one_dropped : {w z q : ℕ} {m : List ℕ} → w ≡ get_or l (links + i + 2) 0 → (w ≡ 0 → ⊥) → z ≡ size_at l (from + i)
-      → (q ≡ t.kept + (i - t.start)) × (m ≡ splice l (from + t.kept) (part l (from + t.start) (i - t.start)))
-      → MergedOne l m from n i eqs links t (record { eqs = t.eqs; kept = q; atoms = t.atoms; start = i + z })
+      → (q ≡ t.done.kept + (i - t.start)) × (m ≡ splice l (from + t.done.kept) (part l (from + t.start) (i - t.start)))
+      → MergedOne l m from n i eqs links t (record { done = record { eqs = t.done.eqs; kept = q; atoms = t.done.atoms }; start = i + z })
   one_dropped {w} {z} {q} {m} e h ez em =
-      let r : Merging = record { eqs = t.eqs; kept = q; atoms = t.atoms; start = i + z } in
+      let r : Merging = record { done = record { eqs = t.done.eqs; kept = q; atoms = t.done.atoms }; start = i + z } in
       let dropped : DroppedOne l m from i t r =
       record { words = em.1; eqs_end = refl; kept_end = em.0; atoms_end = refl; start_end = ap (λ (x : ℕ). i + x) ez } in
       record {
@@ -67,8 +67,8 @@ module _ {l : List ℕ} {from n i eqs links : ℕ} {t : Merging} (b : Begun l fr
 
   pub record Unmarked : Type 0 where
     pub unseen : (firsts : List Tab) → MarksAt firsts (tab_at l (from + i) ∷ behind l from n i) i l links → seen (tab_at l (from + i)) firsts ≡ false
-    pub room : eqs + t.eqs + length (group_words (group_of (tab_at l (from + i)) (behind l from n i))) ≤ links
-    pub group : GroupAsks l from n i links (eqs + t.eqs)
+    pub room : eqs + t.done.eqs + length (group_words (group_of (tab_at l (from + i)) (behind l from n i))) ≤ links
+    pub group : GroupAsks l from n i links (eqs + t.done.eqs)
     pub fits : links < 2 ^ 64
 
   pub unmarked : {w : ℕ} → w ≡ get_or l (links + i + 2) 0 → w ≡ 0 → Unmarked
@@ -87,13 +87,11 @@ module _ {l : List ℕ} {from n i eqs links : ℕ} {t : Merging} (b : Begun l fr
 -- ---- its group is written, g words, which leaves m
 
 module _ {l : List ℕ} {from n i eqs links : ℕ} {t : Merging} {b : Begun l from n i eqs links t} (u : Unmarked b) {m : List ℕ} {g : ℕ}
-    (k : Grouped l m from n i links (eqs + t.eqs) g) where
-  pub one_eqs : eqs + t.eqs + g < 2 ^ 64
-  one_eqs = omega (arith, u.room, u.fits, k.size)
-
-  pub one_kept : MergedOne l m from n i eqs links t (record { eqs = t.eqs + g; kept = t.kept; atoms = t.atoms + 1; start = t.start })
+    (k : Grouped l m from n i links (eqs + t.done.eqs) g) where
+  pub one_kept : MergedOne l m from n i eqs links t
+      (record { done = record { eqs = t.done.eqs + g; kept = t.done.kept; atoms = t.done.atoms + 1 }; start = t.start })
   one_kept =
-      let r : Merging = record { eqs = t.eqs + g; kept = t.kept; atoms = t.atoms + 1; start = t.start } in
+      let r : Merging = record { done = record { eqs = t.done.eqs + g; kept = t.done.kept; atoms = t.done.atoms + 1 }; start = t.start } in
       let kept : KeptOne l m from n i eqs links t r =
       record { more = g; group = k; eqs_end = refl; kept_end = refl; atoms_end = refl; start_end = refl } in
       record { step = λ firsts q. subst (λ (x : Bool). OneStep x l m from n i eqs links t r) (sym (u.unseen firsts q)) kept }

@@ -119,27 +119,27 @@ pub record MergeOneAsks (l : List ℕ) (from n i eqs links : ℕ) (t : Merging) 
   pub marks : MarksAt firsts (tab_at l (from + i) ∷ behind l from n i) i l links
   pub inside : i < n
   pub small : n < 0x1000_0000
-  pub down : t.kept ≤ t.start
+  pub down : t.done.kept ≤ t.start
   pub run : t.start ≤ i
-  pub few : t.atoms ≤ i
+  pub few : t.done.atoms ≤ i
   pub below : links + n + 1 ≤ from
-  pub room : seen (tab_at l (from + i)) firsts ≡ false → eqs + t.eqs + length (group_words (group_of (tab_at l (from + i)) (behind l from n i))) ≤ links
+  pub room : seen (tab_at l (from + i)) firsts ≡ false → eqs + t.done.eqs + length (group_words (group_of (tab_at l (from + i)) (behind l from n i))) ≤ links
 
 -- a dropped atom: the run before it moves down, and the next one starts behind it
 pub record DroppedOne (l m : List ℕ) (from i : ℕ) (t r : Merging) : Type 0 where
-  pub words : m ≡ splice l (from + t.kept) (part l (from + t.start) (i - t.start))
-  pub eqs_end : r.eqs ≡ t.eqs
-  pub kept_end : r.kept ≡ t.kept + (i - t.start)
-  pub atoms_end : r.atoms ≡ t.atoms
+  pub words : m ≡ splice l (from + t.done.kept) (part l (from + t.start) (i - t.start))
+  pub eqs_end : r.done.eqs ≡ t.done.eqs
+  pub kept_end : r.done.kept ≡ t.done.kept + (i - t.start)
+  pub atoms_end : r.done.atoms ≡ t.done.atoms
   pub start_end : r.start ≡ i + size_at l (from + i)
 
 -- a kept atom: its group is written, those alike behind it are marked, and it is counted; it stays in the run
 pub record KeptOne (l m : List ℕ) (from n i eqs links : ℕ) (t r : Merging) : Type 0 where
   pub more : ℕ
-  pub group : Grouped l m from n i links (eqs + t.eqs) more
-  pub eqs_end : r.eqs ≡ t.eqs + more
-  pub kept_end : r.kept ≡ t.kept
-  pub atoms_end : r.atoms ≡ t.atoms + 1
+  pub group : Grouped l m from n i links (eqs + t.done.eqs) more
+  pub eqs_end : r.done.eqs ≡ t.done.eqs + more
+  pub kept_end : r.done.kept ≡ t.done.kept
+  pub atoms_end : r.done.atoms ≡ t.done.atoms + 1
   pub start_end : r.start ≡ t.start
 
 abbrev pub OneStep : (wasSeen : Bool) → List ℕ → List ℕ → (from n i eqs links : ℕ) → Merging → Merging → Type 0

@@ -44,7 +44,7 @@ impl Pass {
     {
         buckets::fill(s, self.table, count, 0);
         let mut i = 0;
-        // An iterator over the atoms would hold the scratch that the loop writes, so it walks by their sizes.
+        // No iterator over the atoms, which would hold the words that are written, and no closure: a step changes the scratch that tells where it ends.
         while i < self.n {
             i += self.link_one(s, i, count);
         }

@@ -53,29 +53,27 @@ pub struct Merged {
     pub atoms: usize,
 }
 
-// What a pass has done so far: the words of its groups, the words of the atoms that were moved to the front, how many atoms are kept, and where
-// the run of kept atoms starts that stands where it stood.
+// What a pass has done so far, where of the atoms that it keeps only the words that were moved to the front count; and where the run of kept atoms
+// starts that stands where it stood.
 #[derive(Clone, Copy)]
 struct Merging {
-    eqs: usize,
-    kept: usize,
-    atoms: usize,
+    done: Merged,
     start: usize,
 }
 
 impl Merging {
     // Ends the run of kept atoms at offset `end` of the words at `from`: it moves down to those that are kept before it. Returns how many words are kept.
     fn end_run(self, s: &mut [u8], from: usize, end: usize) -> usize
-        requires { (self.kept ≤ self.start) × (self.start ≤ end) × (from + end ≤ length (words s.old)) }
-        ensures { (result ≡ self.kept + (end - self.start))
-            × (words s.new ≡ splice (words s.old) (from + self.kept) (part (words s.old) (from + self.start) (end - self.start))) }
+        requires { (self.done.kept ≤ self.start) × (self.start ≤ end) × (from + end ≤ length (words s.old)) }
+        ensures { (result ≡ self.done.kept + (end - self.start))
+            × (words s.new ≡ splice (words s.old) (from + self.done.kept) (part (words s.old) (from + self.start) (end - self.start))) }
     {
-        if self.kept == self.start {
+        if self.done.kept == self.start {
             return end;
         }
         let run = end - self.start;
-        octets::regions::carry(s, from + self.kept, from + self.start, run);
-        self.kept + run
+        octets::regions::carry(s, from + self.done.kept, from + self.start, run);
+        self.done.kept + run
     }
 }
 
@@ -115,17 +113,17 @@ impl Pass {
             let z = size(s, self.from + i);
             let kept = t.end_run(s, self.from, i);
             return Merging {
-                kept,
+                done: Merged { kept, ..t.done },
                 start: i + z,
-                ..t
             };
         }
-        let e = self.group(s, i, self.eqs + t.eqs);
-        Merging {
-            eqs: t.eqs + e,
-            atoms: t.atoms + 1,
-            ..t
-        }
+        let e = self.group(s, i, self.eqs + t.done.eqs);
+        let done = Merged {
+            eqs: t.done.eqs + e,
+            atoms: t.done.atoms + 1,
+            ..t.done
+        };
+        Merging { done, ..t }
     }
 
     // The pass over atoms that are linked. Its groups are written, and the atoms that it keeps move down, a run of them at a time: most passes drop few
@@ -134,25 +132,24 @@ impl Pass {
         requires { MergeAsks (words s.old) self.from self.n self.eqs self.links }
         ensures { MergedAll (words s.old) (words s.new) self.from self.n self.eqs self.links result }
     {
-        let mut t = Merging {
+        let none = Merged {
             eqs: 0,
             kept: 0,
             atoms: 0,
+        };
+        let mut t = Merging {
+            done: none,
             start: 0,
         };
         let mut i = 0;
-        // An iterator over the atoms would hold the words that the loop writes, so it walks by their sizes.
+        // No iterator over the atoms, which would hold the words that are written, and no closure: a step changes the scratch that tells where it ends.
         while i < self.n {
             let z = size(s, self.from + i);
             t = self.merge_one(s, i, t);
             i += z;
         }
         let kept = t.end_run(s, self.from, self.n);
-        Merged {
-            eqs: t.eqs,
-            kept,
-            atoms: t.atoms,
-        }
+        Merged { kept, ..t.done }
     }
 
     // A pass: the atoms are linked, with as many buckets as they have words, and one, since there must be some; and then merged.

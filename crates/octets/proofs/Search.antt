@@ -1,13 +1,13 @@
--- Laws of `elem`, and of a loop that looks for a word in a part: what it has found so far is 1 where the word is among those passed.
+-- Laws of `elem`, and of a loop that looks for a word: what it has found so far is 1 where the word is among those passed.
 -- Assumes nothing.
 use mathlib.Core.Path.{◌≡◌, refl, sym, ap, ◌∙◌}
 use mathlib.Core.List.{List, [], ◌∷◌, ◌++◌}
 use mathlib.Core.Bool.{Bool, true, false, cond, ◌||◌}
 use Prim.Native.Nat.{ℕ, ◌+◌, ◌<◌}
 use lib.Dec.{eqb}
-use lib.ListN.{length, get_or}
-use Rattle.octets.specs.Regions.{part, elem}
-use Rattle.octets.proofs.Splice.{part_more}
+use lib.ListN.{length, get_or, take}
+use Rattle.octets.specs.Regions.{elem}
+use Rattle.octets.proofs.Splice.{take_more}
 
 in_snoc : (w x : ℕ) (xs : List ℕ) → elem w (xs ++ (x ∷ [])) ≡ (elem w xs || eqb w x)
 in_snoc w x [] = go (eqb w x)
@@ -21,17 +21,14 @@ in_snoc w x (y ∷ xs) = ap (λ (b : Bool). eqb w y || b) (in_snoc w x xs) ∙ g
     go true b c = refl
     go false b c = refl
 
--- the loop at its start, and a turn of it
-pub search_start : (w : ℕ) (l : List ℕ) (p : ℕ) → eqb 0 1 ≡ elem w (part l p 0)
-search_start w l p = refl
-
-pub search_more : (w : ℕ) (l : List ℕ) (p i found x : ℕ) → p + i < length l → x ≡ get_or l (p + i) 0 → eqb found 1 ≡ elem w (part l p i)
-    → eqb (cond (eqb w x) 1 found) 1 ≡ elem w (part l p (i + 1))
-search_more w l p i found x room is e =
-    turn (eqb w x) (elem w (part l p i)) e
-    ∙ ap (λ (y : ℕ). elem w (part l p i) || eqb w y) is
-    ∙ sym (in_snoc w (get_or l (p + i) 0) (part l p i))
-    ∙ ap (elem w) (sym (part_more l p i room))
+-- a turn of the loop
+pub search_more : (w : ℕ) (l : List ℕ) (i found x : ℕ) → i < length l → x ≡ get_or l i 0 → eqb found 1 ≡ elem w (take i l)
+    → eqb (cond (eqb w x) 1 found) 1 ≡ elem w (take (i + 1) l)
+search_more w l i found x room is e =
+    turn (eqb w x) (elem w (take i l)) e
+    ∙ ap (λ (y : ℕ). elem w (take i l) || eqb w y) is
+    ∙ sym (in_snoc w (get_or l i 0) (take i l))
+    ∙ ap (elem w) (sym (take_more l i room))
   where
     turn : (c b : Bool) → eqb found 1 ≡ b → eqb (cond c 1 found) 1 ≡ (b || c)
     turn true true e = refl

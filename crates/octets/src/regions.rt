@@ -1,17 +1,19 @@
-// Loops over regions of words: copy, replace, search. Each goes from the first word of its region to the last.
+// Regions of words: copy, carry, replace, search. What only reads takes the words themselves, as a slice. `carry` and `replace` take a place
+// and a count, since their callers read and write two regions of one slice, and two parts of it can't be lent for writing at once.
 ghost use Rattle.std.specs.Prelude.{◌≡◌, cond, map, ◌+◌, ◌≤◌, eqb, length};
 ghost use Rattle.octets.specs.Words.{words};
 ghost use Rattle.octets.specs.Regions.{splice, part, Clear, swap, elem};
 
-use crate::{get, put};
+use crate::{count, get, put};
 
-// Writes the n words of `src` from `from` on at `at` of `out`.
+// Writes the words of `src` at `at`.
 #[tactic(auto, using(crate::proofs::Words::length_words))]
-pub fn copy(out: &mut [u8], at: usize, src: &[u8], from: usize, n: usize)
-    requires { (at + n ≤ length (words out.old)) × (from + n ≤ length (words src.now)) }
-    ensures { words out.new ≡ splice (words out.old) at (part (words src.now) from n) }
+pub fn copy(out: &mut [u8], at: usize, src: &[u8])
+    requires { at + length (words src.now) ≤ length (words out.old) }
+    ensures { words out.new ≡ splice (words out.old) at (words src.now) }
 {
-    out[4 * at..4 * (at + n)].copy_from_slice(&src[4 * from..4 * (from + n)]);
+    let n = count(src);
+    out[4 * at..4 * (at + n)].copy_from_slice(&src[..4 * n]);
 }
 
 // Writes the n words from `from` on at `to` of the same slice. `to` lies at or below `from`, or beyond those words, since a word must not
@@ -53,15 +55,14 @@ fn met(x: u32, w: u32, was: u32) -> u32
     if w == x { 1 } else { was }
 }
 
-// Whether w is among the n words from `from` on. Every word is looked at, found or not, so that the loop has no branch and runs on vectors.
-pub fn among(buf: &[u8], from: usize, n: usize, w: u32) -> bool
-    requires { from + n ≤ length (words buf.now) }
-    ensures { result ≡ elem w (part (words buf.now) from n) }
+// Whether w is among the words `ws`. Every word is looked at, found or not, so that the loop has no branch and runs on vectors.
+#[tactic(auto, using(crate::proofs::Words::length_words))]
+pub fn among(ws: &[u8], w: u32) -> bool
+    ensures { result ≡ elem w (words ws.now) }
 {
     let mut found: u32 = 0;
-    for i in 0..n {
-        let x = get(buf, from + i);
-        found = met(x, w, found);
+    for i in 0..count(ws) {
+        found = met(get(ws, i), w, found);
     }
     found == 1
 }

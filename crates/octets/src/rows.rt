@@ -1,6 +1,6 @@
 // Writers of short rows: a few words one by one, and rows that end in terms which already stand further on in the same slice. Terms start
 // behind the words that are written before them, so that none is lost before it is carried. Each writer answers with the place behind its
-// row, where the next one goes.
+// row, where the next one goes. A row takes its terms by place and count, since they lie in the very slice that is written.
 ghost use Rattle.std.specs.Prelude.{◌≡◌, ◌∷◌, [], ◌++◌, ◌+◌, ◌≤◌, length};
 ghost use Rattle.octets.specs.Words.{words};
 ghost use Rattle.octets.specs.Regions.{splice, part};
@@ -14,8 +14,8 @@ pub fn put_all<const N: usize>(buf: &mut [u8], at: usize, ws: &[u32; N]) -> usiz
     requires { at + N ≤ length (words buf.old) }
     ensures { (result ≡ at + N) × (words buf.new ≡ splice (words buf.old) at ws.now) }
 {
-    for i in 0..N {
-        put(buf, at + i, ws[i]);
+    for (i, w) in ws.iter().enumerate() {
+        put(buf, at + i, *w);
     }
     at + N
 }

@@ -42,7 +42,7 @@ fn flatten(
 }
 
 // Makes an atom of the n words that stand behind the one at `at`: its head word goes before them, and its output behind. Returns the place
-// behind it.
+// behind it. It is not `octets::rows::put_atom`, which carries terms from further behind: here they stand where they belong.
 fn put_around(scratch: &mut [u8], at: usize, head: u32, n: usize, output: u32) -> usize
     requires { at + n + 2 ≤ length (words scratch.old) }
     ensures { (result ≡ at + n + 2)

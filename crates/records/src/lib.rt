@@ -23,8 +23,7 @@ pub const MAX_FLAT: usize = 1024;
 pub fn length_fits(rule: &[u8], most: usize) -> bool
     ensures { result ≡ (leb 1 (length (words rule.now)) && leb (length (words rule.now)) most) }
 {
-    let n = octets::count(rule);
-    1 <= n && n <= most
+    (1..=most).contains(&octets::count(rule))
 }
 
 // A whole rule, with nothing behind it: its header, a row of what its body holds, and a row of its actions. It ends with its words.

@@ -12,14 +12,16 @@ pub enum Call {
     FreeVars,
 }
 
-impl Call {
-    // The call by its number in the list. Behind the list's end all words are 0, which names none.
-    fn numbered(number: usize) -> Option<Call> {
+// The call by its number in the list. Behind the list's end all words are 0, which names none.
+impl TryFrom<usize> for Call {
+    type Error = ();
+
+    fn try_from(number: usize) -> Result<Call, ()> {
         match number {
-            0 => None,
-            1 => Some(Call::Lower),
-            2 => Some(Call::Settle),
-            _ => Some(Call::FreeVars),
+            0 => Err(()),
+            1 => Ok(Call::Lower),
+            2 => Ok(Call::Settle),
+            _ => Ok(Call::FreeVars),
         }
     }
 }
@@ -48,8 +50,8 @@ pub fn number(bytes: &[u8], at: usize) -> usize
 
 impl Front {
     // The call that the case names, if there is a case.
-    pub fn call(&self) -> Option<Call> {
-        Call::numbered(number(&self.bytes, 1))
+    pub(crate) fn call(&self) -> Option<Call> {
+        Call::try_from(number(&self.bytes, 1)).ok()
     }
 
     // The number at an index, but no more than there is room for.

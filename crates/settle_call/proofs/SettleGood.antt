@@ -10,7 +10,7 @@ use lib.Dec.{leb}
 use Rattle.octets.specs.Words.{Got}
 use Rattle.octets.specs.Regions.{splice, part, At}
 use Rattle.octets.proofs.Places.{at_splice, at_left, at_right}
-use Rattle.octets.proofs.Splice.{part_all}
+use Rattle.octets.proofs.Splice.{part_all, length_part}
 use Rattle.rules.specs.Words.{limit12, max_flat, header_base, header_word, is_header_word, facts_of, actions_of}
 use Rattle.rules.specs.Refusals.{ok, unfit}
 use Rattle.rules.specs.Signature.{Sig}
@@ -37,7 +37,7 @@ use Rattle.settling.specs.Settle.{SettleAsks, SettledAt}
 use Rattle.settling.proofs.Settling.{settle_asks}
 use Rattle.emitting.specs.Emit.{Parts, Stand}
 use Rattle.settle_call.specs.Settle.{FlatUnder, SomeFlat, EndedWith}
-use Rattle.emitting.proofs.Emitting.{Finishes, settled_parts}
+use Rattle.emitting.proofs.Emitting.{part_at, Finishes, settled_parts}
 
 -- ---- the header of a flat rule, and where its atoms end
 
@@ -148,8 +148,11 @@ module _ {ws : List ℕ} {g : Signature} {l : List ℕ} {w : ℕ} (b : Begun ws 
         record { ends = ends; from = omega arith; inside = omega arith; short = b.some.under.short }
 
 module _ {ws : List ℕ} {g : Signature} {l : List ℕ} {w : ℕ} {b : Begun ws g l w} {at : ℕ} (f : Found b at) where
-  pub copy_asks : (0 + (at - 1) ≤ length l) × (1 + (at - 1) ≤ length ws)
-  copy_asks = (omega (arith, f.inside, b.enough), omega (arith, f.from, f.inside))
+  pub part_asks : 1 + (at - 1) ≤ length ws
+  part_asks = omega (arith, f.from, f.inside)
+
+  pub copy_asks : {xs : List ℕ} → xs ≡ part ws 1 (at - 1) → 0 + length xs ≤ length l
+  copy_asks e = omega (arith, ap length e, length_part ws 1 (at - 1) part_asks, f.inside, b.enough)
 
   actions_at : (t : SomeFlat ws g) → At (actions_there t) ws at
   actions_at t = at_right (atoms_there t) at (behind t) (f.ends t)
@@ -161,8 +164,8 @@ pub record Copied {ws : List ℕ} {g : Signature} {l : List ℕ} {w : ℕ} {b : 
   pub asks : SettleAsks m 0 (at - 1)
 
 module _ {ws : List ℕ} {g : Signature} {l : List ℕ} {w : ℕ} {b : Begun ws g l w} {at : ℕ} (f : Found b at) where
-  pub copied : {m : List ℕ} → length m ≡ length l → m ≡ splice l 0 (part ws 1 (at - 1)) → Copied f m
-  copied {m} kept put =
+  pub copied : {m xs : List ℕ} → length m ≡ length l → xs ≡ part ws 1 (at - 1) → m ≡ splice l 0 xs → Copied f m
+  copied {m} kept is put =
       let body : (t : SomeFlat ws g) → BodyAt t.rule.atoms m 0 (at - 1) = λ t. body_at t in
       let i = f.inside in
       let s = f.short in
@@ -172,7 +175,7 @@ module _ {ws : List ℕ} {g : Signature} {l : List ℕ} {w : ℕ} {b : Begun ws 
       body_at t =
           let n : at - 1 ≡ length (atoms_there t) = omega (arith, f.ends t) in
           let room : 0 + length (atoms_there t) ≤ length l = omega (arith, size t, b.enough) in
-          let there = ap (λ (k : ℕ). splice l 0 (part ws 1 k)) n ∙ ap (splice l 0) (at_left (actions_there t) (behind t)).words in
+          let there = ap (splice l 0) (is ∙ ap (part ws 1) n ∙ (at_left (actions_there t) (behind t)).words) in
           record { fits = t.under.fits; size = n; at = subst (λ (k : List ℕ). At (atoms_there t) k 0) (sym (put ∙ there)) (at_splice l 0 (atoms_there t) room) }
 
 -- ---- they are settled: body, with z left behind
@@ -187,16 +190,18 @@ module _ {ws : List ℕ} {g : Signature} {l : List ℕ} {w : ℕ} {b : Begun ws 
   is_done globals equals settles = record { done = λ t. settles t.sig t.rule.atoms (agrees t globals equals) (c.body t) }
 
 module _ {ws : List ℕ} {g : Signature} {l : List ℕ} {w : ℕ} {b : Begun ws g l w} {at : ℕ} {f : Found b at} {m : List ℕ} {c : Copied f m}
-    {body : Settled} {z : List ℕ} (d : Done c body z) {k : ℕ} (all : k ≡ length ws) where
-  parts : (t : SomeFlat ws g) → Parts (rules.settle t.sig t.rule.atoms) t.rule.actions z body ((w - header_base) % limit12) ws at (k - at)
+    {body : Settled} {z : List ℕ} (d : Done c body z) {k : ℕ} (all : k ≡ length ws)
+    {xs : List ℕ} (rest : xs ≡ part ws at (k - at)) where
+  parts : (t : SomeFlat ws g) → Parts (rules.settle t.sig t.rule.atoms) t.rule.actions z body ((w - header_base) % limit12) xs
   parts t =
-      settled_parts (d.done t) t.rule.actions ((w - header_base) % limit12) ws at (k - at) (actions_at f t) (omega (arith, f.ends t, size t))
+      settled_parts (d.done t) t.rule.actions ((w - header_base) % limit12) xs
+      (rest ∙ part_at (actions_there t) ws at (k - at) (actions_at f t) (omega (arith, f.ends t, size t)))
       (ap actions_of b.is ∙ sym (known t).actions) (settled_counts t.sig ws t.rule t.under.read t.under.short)
 
-  pub stand : Stand z body ((w - header_base) % limit12) ws at (k - at)
+  pub stand : Stand z body ((w - header_base) % limit12) xs
   stand = record { settled = rules.settle b.some.sig b.some.rule.atoms; kept = b.some.rule.actions; parts = parts b.some }
 
-  pub ended : {n : ℕ} {o p : List ℕ} → Finishes z body ((w - header_base) % limit12) ws at (k - at) n o p
+  pub ended : {n : ℕ} {o p : List ℕ} → Finishes z body ((w - header_base) % limit12) xs n o p
       → (s : Sig) (r : FlatRule) → FlatUnder ws g s r → EndedWith s r (record { words = n; replacements = body.replacements; passes = body.passes }) o p
   ended h s r u =
       let t : SomeFlat ws g = record { sig = s; rule = r; under = u } in

@@ -56,7 +56,7 @@ module _ (k : Given) where
   settle_front e is = is ∙ ap (λ (n : ℕ). told sign_of (flat_front (words k.signature) (words k.rule) n)) (e ∙ length_words k.scratch)
 
   module _ {g : Signature} (y : Ready (settling k) g) where
-    under : FlatUnder (words k.rule) g y.sig y.passed.rule
+    pub under : FlatUnder (words k.rule) g y.sig y.passed.rule
     under =
         let p = y.passed in
         let sound = signature_sound (words k.signature) y.sig p.signature in
@@ -82,7 +82,7 @@ module _ (k : Given) where
         → SomeFlat (words k.rule) g × (16 * length (words k.rule) ≤ length (words (take cut k.scratch)))
     settle_asks l = (record { sig = y.sig; rule = y.passed.rule; under = under }, omega (arith, lent_words l))
 
-    pub settle_done : {e : Counts} {m : List ℕ} → ((s : Sig) (f : FlatRule) → FlatUnder (words k.rule) g s f → EndedWith s f e k.output m)
+    abbrev pub settle_done : {e : Counts} {m : List ℕ} → ((s : Sig) (f : FlatRule) → FlatUnder (words k.rule) g s f → EndedWith s f e k.output m)
         → length m ≡ length k.output → Bytes k.output → Bytes m
         → Done y e.words e.replacements e.passes m
     settle_done ends size before after =

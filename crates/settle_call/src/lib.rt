@@ -30,16 +30,14 @@ fn settle_good(rule: &[u8], sign: Signature, output: &mut [u8], scratch: &mut [u
     let counts = octets::get(rule, 0) - HEADER_BASE;
     let end = records::atoms(rule, sign.heads, sign.globals, 1, counts / LIMIT_12).unwrap();
     let n = end - 1;
-    octets::regions::copy(scratch, 0, rule, 1, n);
+    octets::regions::copy(scratch, 0, octets::part(rule, 1, n));
     let terms = Sign {
         globals: sign.globals,
         equals: sign.equals,
     };
     let body = settling::settle(scratch, 0, n, terms);
     let head = Actions {
-        source: rule,
-        from: end,
-        size: octets::count(rule) - end,
+        words: octets::part(rule, end, octets::count(rule) - end),
         count: (counts % LIMIT_12) as usize,
     };
     let words = emitting::finish(output, scratch, body, head);
@@ -68,10 +66,7 @@ fn settle_or_refuse(
     let sign = flat_front(signature, rule, octets::count(scratch))?;
     let n = octets::count(rule);
     let counts = settle_good(rule, sign, output, &mut scratch[..LENT * n]);
-    if octets::count(output) < counts.words {
-        return Err(Reason::ShortOutput.at(counts.words));
-    }
-    Ok(counts)
+    counts.within(octets::count(output))
 }
 
 // A flat rule settled: variables that must be equal are one, and no two atoms of a head have the same inputs.

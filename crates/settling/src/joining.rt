@@ -30,7 +30,7 @@ fn replace_met(s: &mut [u8], p: usize, n: usize, r: Replacement)
     requires { p + n ≤ length (words s.old) }
     ensures { words s.new ≡ splice (words s.old) p (map (swap r.old r.new) (part (words s.old) p n)) }
 {
-    if octets::regions::among(s, p, n, r.old) {
+    if octets::regions::among(octets::part(s, p, n), r.old) {
         octets::regions::replace(s, p, n, r.old, r.new);
     }
 }
@@ -105,7 +105,7 @@ impl Area {
             words: 0,
             binds: self.d,
         };
-        // An iterator over the groups would hold the words that the loop writes, so it walks by their sizes.
+        // No iterator over the groups, which would hold the words that are written, and no closure: a step changes the scratch that tells where it ends.
         while i < e {
             let left = octets::get(s, at + i);
             let m = octets::get(s, at + i + 1) as usize;

@@ -1,6 +1,6 @@
 // Settling a flat body whose words stand in a scratch: `canonicalize`, then merge passes until one gives no equality.
 //
-// For a body of n words at `at` the scratch holds
+// For a body of n words at `at` the scratch holds these regions, cut by no `split_at_mut`, since their uses change from pass to pass:
 //
 //     at             2n words      the body, and a table of spans behind it, up to 3n; later the groups of a pass
 //     at + 2n        2n + 1 words  the links of a pass; later what becomes of its equalities
@@ -37,32 +37,34 @@ pub struct Settled {
     pub passes: usize,
 }
 
-// What a body without atoms settles to: nothing stands anywhere, and one pass finds that.
-fn nothing(at: usize) -> Settled
-    ensures { result ≡ settled_none at }
-{
-    Settled {
-        at,
-        words: 0,
-        atoms: 0,
-        binds: at,
-        replacements: 0,
-        passes: 1,
+impl Settled {
+    // What a body without atoms settles to: nothing stands anywhere, and one pass finds that.
+    fn nothing(at: usize) -> Settled
+        ensures { result ≡ settled_none at }
+    {
+        Settled {
+            at,
+            words: 0,
+            atoms: 0,
+            binds: at,
+            replacements: 0,
+            passes: 1,
+        }
     }
-}
 
-// What the last of so many passes settles: the atoms that it kept stand at `body`, and the bindings from `binds` to `end`.
-fn kept_by(t: Merged, body: usize, binds: usize, end: usize, passes: usize) -> Settled
-    requires { binds ≤ end }
-    ensures { result ≡ settled_by t body binds end passes }
-{
-    Settled {
-        at: body,
-        words: t.kept,
-        atoms: t.atoms,
-        binds,
-        replacements: (end - binds) / 3,
-        passes,
+    // What the last of so many passes settles: the atoms that it kept stand at `body`, and the bindings from `binds` to `end`.
+    fn kept_by(t: Merged, body: usize, binds: usize, end: usize, passes: usize) -> Settled
+        requires { binds ≤ end }
+        ensures { result ≡ settled_by t body binds end passes }
+    {
+        Settled {
+            at: body,
+            words: t.kept,
+            atoms: t.atoms,
+            binds,
+            replacements: (end - binds) / 3,
+            passes,
+        }
     }
 }
 
@@ -73,7 +75,7 @@ pub fn settle(s: &mut [u8], at: usize, n: usize, q: Sign) -> Settled
         → SettledAt g xs (words s.old) (words s.new) at n result }
 {
     if n == 0 {
-        return nothing(at);
+        return Settled::nothing(at);
     }
     let links = at + 2 * n;
     let body = at + 4 * n + 1;
@@ -93,7 +95,7 @@ pub fn settle(s: &mut [u8], at: usize, n: usize, q: Sign) -> Settled
         let t = pass.merge(s);
         passes += 1;
         if t.eqs == 0 {
-            return kept_by(t, body, c.binds, end, passes);
+            return Settled::kept_by(t, body, c.binds, end, passes);
         }
         let area = Area {
             body,

@@ -7,6 +7,7 @@ use native.Mathlib.Omega.{arith}
 use lib.ListN.{length, get_or}
 use lib.Dec.{ltb, leb, eqb}
 use borrow.Author.Tests.{lt-ltb, le-ltb, ltb-true, leb-true, ne_eqb, eq-eqb, eqb-true, eqb-false}
+use Rattle.std.specs.Prelude.{Option, Some, None}
 use Rattle.rules.specs.Words.{signature_base, within, limit12}
 use Rattle.rules.specs.Refusals.{Res, ok, refuse, ◌>>=◌, demand, bad_signature}
 use Rattle.rules.specs.Signature.{payload_at, kinds_at, read_signature}
@@ -38,45 +39,57 @@ module _ (ws : List ℕ) where
       first true h = h
       first false h = refl
 
-  -- where all are kinds, the first bad index is the one after them
-  pub first_bad_end : (n p : ℕ) → all_kinds ws n p ≡ true → first_bad ws n p ≡ p + n
+  -- where all are kinds, none is bad
+  pub first_bad_none : (n p : ℕ) → all_kinds ws n p ≡ true → first_bad ws n p ≡ None
   unfolding all_kinds first_bad
-  first_bad_end zero p h = omega arith
-  first_bad_end (suc n) p h = go (is_kind_at ws p) (first_bad_end n (suc p)) h
+  first_bad_none zero p h = refl
+  first_bad_none (suc n) p h = go (is_kind_at ws p) (first_bad_none n (suc p)) h
     where
-      go : (b : Bool) → (all_kinds ws n (suc p) ≡ true → first_bad ws n (suc p) ≡ suc p + n) → (b && all_kinds ws n (suc p)) ≡ true
-          → cond b (first_bad ws n (suc p)) p ≡ p + suc n
-      go true rest g = omega (arith, rest g)
-      go false rest g = let z : ◌≡◌ {A = ℕ} 0 1 = cc in omega arith
-
-  first_bad_most : (n p : ℕ) → first_bad ws n p ≤ p + n
-  unfolding first_bad
-  first_bad_most zero p = omega arith
-  first_bad_most (suc n) p = go (is_kind_at ws p) (first_bad_most n (suc p))
-    where
-      go : (b : Bool) → first_bad ws n (suc p) ≤ suc p + n → cond b (first_bad ws n (suc p)) p ≤ p + suc n
-      go true h = omega arith
-      go false h = omega arith
+      go : (b : Bool) → (all_kinds ws n (suc p) ≡ true → first_bad ws n (suc p) ≡ None) → (b && all_kinds ws n (suc p)) ≡ true
+          → cond b (first_bad ws n (suc p)) (Some p) ≡ None
+      go true rest g = rest g
+      go false rest g = absurd cc
 
   -- behind the last word there is no kind
-  pub first_bad_short : (n m p : ℕ) → p + n ≡ length ws → n ≤ m → first_bad ws m p ≡ first_bad ws n p
-  unfolding first_bad
-  first_bad_short zero zero p e l = refl
-  first_bad_short zero (suc m) p e l = rw (le-ltb p (length ws) (omega arith))
-  first_bad_short (suc n) zero p e l = absurd (omega arith)
-  first_bad_short (suc n) (suc m) p e l = rw (first_bad_short n m (suc p) (omega arith) (omega arith))
+  pub first_bad_missing : (n m p : ℕ) → all_kinds ws n p ≡ true → p + n ≡ length ws → n < m → first_bad ws m p ≡ Some (p + n)
+  unfolding all_kinds first_bad
+  first_bad_missing zero zero p h e l = absurd (omega arith)
+  first_bad_missing zero (suc m) p h e l =
+      let same : p + 0 ≡ p = omega arith in
+      rw (le-ltb p (length ws) (omega arith), same)
+  first_bad_missing (suc n) zero p h e l = absurd (omega arith)
+  first_bad_missing (suc n) (suc m) p h e l = go (is_kind_at ws p) (λ g. first_bad_missing n m (suc p) g (omega arith) (omega arith)) h
+    where
+      go : (b : Bool) → (all_kinds ws n (suc p) ≡ true → first_bad ws m (suc p) ≡ Some (suc p + n)) → (b && all_kinds ws n (suc p)) ≡ true
+          → cond b (first_bad ws m (suc p)) (Some p) ≡ Some (p + suc n)
+      go true rest g =
+          let same : suc p + n ≡ p + suc n = omega arith in
+          rest g ∙ ap Some same
+      go false rest g = absurd cc
+
+  -- where not all are kinds, those behind them do not matter
+  pub first_bad_short : (n m p : ℕ) → all_kinds ws n p ≡ false → n ≤ m → first_bad ws m p ≡ first_bad ws n p
+  unfolding all_kinds first_bad
+  first_bad_short zero m p h l = absurd cc
+  first_bad_short (suc n) zero p h l = absurd (omega arith)
+  first_bad_short (suc n) (suc m) p h l = go (is_kind_at ws p) (λ g. first_bad_short n m (suc p) g (omega arith)) h
+    where
+      go : (b : Bool) → (all_kinds ws n (suc p) ≡ false → first_bad ws m (suc p) ≡ first_bad ws n (suc p)) → (b && all_kinds ws n (suc p)) ≡ false
+          → cond b (first_bad ws m (suc p)) (Some p) ≡ cond b (first_bad ws n (suc p)) (Some p)
+      go true rest g = rest g
+      go false rest g = refl
 
   pub first_bad_next : (n m p : ℕ) → n ≡ suc m → is_kind_at ws p ≡ true → first_bad ws n p ≡ first_bad ws m (suc p)
   unfolding first_bad
   first_bad_next n m p e h = rw (e, h)
 
-  pub first_bad_here : (n m p : ℕ) → n ≡ suc m → is_kind_at ws p ≡ false → first_bad ws n p ≡ p
+  pub first_bad_here : (n m p : ℕ) → n ≡ suc m → is_kind_at ws p ≡ false → first_bad ws n p ≡ Some p
   unfolding first_bad
   first_bad_here n m p e h = rw (e, h)
 
-  pub first_bad_none : (n p : ℕ) → n ≡ 0 → first_bad ws n p ≡ p
+  pub first_bad_done : (n p : ℕ) → n ≡ 0 → first_bad ws n p ≡ None
   unfolding first_bad
-  first_bad_none n p e = rw e
+  first_bad_done n p e = rw e
 
   -- ---- reading the kinds
 
@@ -89,48 +102,46 @@ module _ (ws : List ℕ) where
   abbrev before : Bool → (k p : ℕ) → Res (List ℕ) → Res (List ℕ)
   before b k p rest = ◌>>=◌ (demand b 1 p k) (λ j. ◌>>=◌ rest (λ ks. ok (j ∷ ks)))
 
-  pub kinds_bad : (n p : ℕ) → first_bad ws n p < p + n → kinds_at ws n p ≡ refuse 1 (first_bad ws n p)
+  pub kinds_bad : (n p : ℕ) {bad : ℕ} → first_bad ws n p ≡ Some bad → kinds_at ws n p ≡ refuse 1 bad
   unfolding first_bad
-  kinds_bad zero p h = absurd (omega arith)
-  kinds_bad (suc n) p h = go (is_kind_at ws p) (kinds_bad n (suc p)) h
+  kinds_bad zero p h = absurd cc
+  kinds_bad (suc n) p {bad} h = go (is_kind_at ws p) (kinds_bad n (suc p)) h
     where
-      go : (b : Bool) → (first_bad ws n (suc p) < suc p + n → kinds_at ws n (suc p) ≡ refuse 1 (first_bad ws n (suc p)))
-          → cond b (first_bad ws n (suc p)) p < p + suc n
-          → before b (get_or ws p 0 - signature_base) p (kinds_at ws n (suc p)) ≡ refuse 1 (cond b (first_bad ws n (suc p)) p)
-      go true rest g = rw (rest (omega arith))
-      go false rest g = refl
+      go : (b : Bool) → (first_bad ws n (suc p) ≡ Some bad → kinds_at ws n (suc p) ≡ refuse 1 bad) → cond b (first_bad ws n (suc p)) (Some p) ≡ Some bad
+          → before b (get_or ws p 0 - signature_base) p (kinds_at ws n (suc p)) ≡ refuse 1 bad
+      go true rest g = rw (rest g)
+      go false rest g = let same : p ≡ bad = cc in rw same
 
-  pub kinds_good : (n p : ℕ) → first_bad ws n p ≡ p + n → kinds_at ws n p ≡ ok (kinds_from n p)
+  pub kinds_good : (n p : ℕ) → first_bad ws n p ≡ None → kinds_at ws n p ≡ ok (kinds_from n p)
   unfolding first_bad kinds_from
   kinds_good zero p h = refl
   kinds_good (suc n) p h = go (is_kind_at ws p) (kinds_good n (suc p)) h
     where
-      go : (b : Bool) → (first_bad ws n (suc p) ≡ suc p + n → kinds_at ws n (suc p) ≡ ok (kinds_from n (suc p)))
-          → cond b (first_bad ws n (suc p)) p ≡ p + suc n
+      go : (b : Bool) → (first_bad ws n (suc p) ≡ None → kinds_at ws n (suc p) ≡ ok (kinds_from n (suc p))) → cond b (first_bad ws n (suc p)) (Some p) ≡ None
           → before b (get_or ws p 0 - signature_base) p (kinds_at ws n (suc p)) ≡ ok ((get_or ws p 0 - signature_base) ∷ kinds_from n (suc p))
-      go true rest g = rw (rest (omega arith))
-      go false rest g = absurd (omega arith)
+      go true rest g = rw (rest g)
+      go false rest g = absurd cc
 
   -- the code's test of the word at an index
   pub kind_here : (p : ℕ) {w : ℕ} {b : Bool} → p < length ws → w ≡ get_or ws p 0 → b ≡ within signature_base 3 w → b ≡ is_kind_at ws p
   kind_here p h e k = rw (lt-ltb p (length ws) h) (k ∙ ap (within signature_base 3) e)
 
   -- where there is no bad index, each is a kind
-  pub all_good : (n p i q : ℕ) → first_bad ws n p ≡ p + n → i < n → q ≡ p + i → is_kind_at ws q ≡ true
+  pub all_good : (n p i q : ℕ) → first_bad ws n p ≡ None → i < n → q ≡ p + i → is_kind_at ws q ≡ true
   unfolding first_bad
   all_good zero p i q b l e = absurd (omega arith)
   all_good (suc n) p zero q b l e =
       let same : q ≡ p = omega arith in
       rw same (here (is_kind_at ws p) b)
     where
-      here : (t : Bool) → cond t (first_bad ws n (suc p)) p ≡ p + suc n → t ≡ true
+      here : (t : Bool) → cond t (first_bad ws n (suc p)) (Some p) ≡ None → t ≡ true
       here true h = refl
-      here false h = absurd (omega arith)
+      here false h = absurd cc
   all_good (suc n) p (suc i) q b l e = all_good n (suc p) i q (rest (is_kind_at ws p) b) (omega arith) (omega arith)
     where
-      rest : (t : Bool) → cond t (first_bad ws n (suc p)) p ≡ p + suc n → first_bad ws n (suc p) ≡ suc p + n
-      rest true h = omega arith
-      rest false h = absurd (omega arith)
+      rest : (t : Bool) → cond t (first_bad ws n (suc p)) (Some p) ≡ None → first_bad ws n (suc p) ≡ None
+      rest true h = h
+      rest false h = absurd cc
 
   pub is_kind_inside : (q : ℕ) → is_kind_at ws q ≡ true → (q < length ws) × (signature_base ≤ get_or ws q 0)
   is_kind_inside q = go (ltb q (length ws)) refl (leb signature_base (get_or ws q 0)) refl
@@ -155,7 +166,7 @@ module _ (ws : List ℕ) where
   get_or_kinds_from (suc n) p (suc i) q l e = get_or_kinds_from n (suc p) i q (omega arith) (omega arith)
 
   -- a test of a kind's number is a test of its word
-  pub kind_test : (n i k : ℕ) → first_bad ws n 4 ≡ 4 + n → i < n → eqb (get_or (kinds_from n 4) i 0) k ≡ eqb (get_or ws (4 + i) 0) (signature_base + k)
+  pub kind_test : (n i k : ℕ) → first_bad ws n 4 ≡ None → i < n → eqb (get_or (kinds_from n 4) i 0) k ≡ eqb (get_or ws (4 + i) 0) (signature_base + k)
   kind_test n i k b l =
       let r = is_kind_inside (4 + i) (all_good n 4 i (4 + i) b l refl) in
       rw (get_or_kinds_from n 4 i (4 + i) l refl) (go (get_or ws (4 + i) 0) r.1 (eqb (get_or ws (4 + i) 0) (signature_base + k)) refl)
@@ -226,8 +237,8 @@ module _ (ws : List ℕ) where
 -- ---- and then the kinds
 
 -- the first bad index, as the code asks for it up to where the kinds end
-asked : (ws : List ℕ) (h : ℕ) {bad : ℕ} → bad ≡ first_bad ws (4 + h - 4) 4 → bad ≡ first_bad ws h 4
-asked ws h is = let same : 4 + h - 4 ≡ h = omega arith in rw same at is
+asked : (ws : List ℕ) (h : ℕ) {bad : Option ℕ} → bad ≡ first_bad ws (4 + h - 4) 4 → first_bad ws h 4 ≡ bad
+asked ws h is = let same : 4 + h - 4 ≡ h = omega arith in rw same at (sym is)
 
 module _ {ws : List ℕ} {g : Sign} (b : Begins ws g) where
   pub begins_inside : (4 ≤ length ws) × (g.heads ≤ limit12) × (g.equals < g.heads)
@@ -237,22 +248,20 @@ module _ {ws : List ℕ} {g : Sign} (b : Begins ws g) where
       let rf = payload_range ws 0 2 3 b.flag_read in
       omega arith
 
-  pub kind_bad : {bad : ℕ} → bad ≡ first_bad ws (4 + g.heads - 4) 4 → bad < 4 + g.heads → refuse 1 bad ≡ signature ws
-  kind_bad is low =
-      let bad_is = asked ws g.heads is in
-      rw (bad_is, b.heads_read, b.globals_read, b.equals_read, b.flag_read, kinds_bad ws g.heads 4 (omega arith)) refl
+  pub kind_bad : {bad : ℕ} → Some bad ≡ first_bad ws (4 + g.heads - 4) 4 → refuse 1 bad ≡ signature ws
+  kind_bad is = rw (b.heads_read, b.globals_read, b.equals_read, b.flag_read, kinds_bad ws g.heads 4 (asked ws g.heads is)) refl
 
 -- all the kinds are there
 pub record Kinds (ws : List ℕ) (g : Sign) : Type 0 where
   pub begins : Begins ws g
-  pub good : first_bad ws g.heads 4 ≡ 4 + g.heads
+  pub good : first_bad ws g.heads 4 ≡ None
   pub inside : 4 + g.heads ≤ length ws
   pub equals : g.equals < g.heads
 
 -- no index is bad
-pub none_bad : {ws : List ℕ} {g : Sign} {bad : ℕ} → Begins ws g → bad ≡ first_bad ws (4 + g.heads - 4) 4 → 4 + g.heads ≤ bad → Kinds ws g
-none_bad {ws} {g} b is l =
-    let e : first_bad ws g.heads 4 ≡ 4 + g.heads = omega (arith, first_bad_most ws g.heads 4, asked ws g.heads is) in
+pub none_bad : {ws : List ℕ} {g : Sign} → Begins ws g → None ≡ first_bad ws (4 + g.heads - 4) 4 → Kinds ws g
+none_bad {ws} {g} b is =
+    let e : first_bad ws g.heads 4 ≡ None = asked ws g.heads is in
     let i = begins_inside b in
     let last = is_kind_inside ws (3 + g.heads) (all_good ws g.heads 4 (g.heads - 1) (3 + g.heads) e (omega arith) (omega arith)) in
     record { begins = b; good = e; inside = omega arith; equals = i.2 }

@@ -1,6 +1,6 @@
 -- 01, "Words and records": what the readers of a signature answer, by the definition of reading it.
 -- Assumes nothing: these are definitions.
-use Rattle.std.specs.Prelude.{ℕ, zero, suc, ◌≡◌, Bool, true, ◌&&◌, cond, List, length, get_or, ltb, eqb}
+use Rattle.std.specs.Prelude.{ℕ, zero, suc, ◌≡◌, Bool, true, ◌&&◌, cond, List, length, get_or, ltb, eqb, Option, Some, None}
 use Rattle.rules.specs.Words.{limit12, signature_base, within}
 use Rattle.rules.specs.Refusals.{ok}
 use Rattle.rules.specs.Signature.{Sig, heads, payload_at}
@@ -19,10 +19,10 @@ unfoldable pub all_kinds : List ℕ → ℕ → ℕ → Bool
 all_kinds ws zero p = true
 all_kinds ws (suc n) p = is_kind_at ws p && all_kinds ws n (suc p)
 
--- of n words from p on, the index of the first that is no kind of a head; the index after them if there is none
-unfoldable pub first_bad : List ℕ → ℕ → ℕ → ℕ
-first_bad ws zero p = p
-first_bad ws (suc n) p = cond (is_kind_at ws p) (first_bad ws n (suc p)) p
+-- of n words from p on, the index of the first that is no kind of a head
+unfoldable pub first_bad : List ℕ → ℕ → ℕ → Option ℕ
+first_bad ws zero p = None
+first_bad ws (suc n) p = cond (is_kind_at ws p) (first_bad ws n (suc p)) (Some p)
 
 -- the first four words are good: H, G, the value-eq head and the flag
 pub record Begins (ws : List ℕ) (g : Signature) : Type 0 where

@@ -59,45 +59,34 @@ fn all_kinds(signature: &[u8], end: usize) -> bool
 {
     let mut good = true;
     for i in 4..end {
-        good = good & is_kind(octets::get(signature, i));
+        good &= is_kind(octets::get(signature, i));
     }
     good
 }
 
-// The first of the words from 4 to `end` that is no kind, or `end`.
-fn find_bad(signature: &[u8], end: usize) -> usize
+// The first of the words from 4 to `end` that is no kind.
+fn find_bad(signature: &[u8], end: usize) -> Option<usize>
     requires { (4 ≤ end) × (end ≤ length (words signature.now)) }
     ensures { result ≡ first_bad (words signature.now) (end - 4) 4 }
 {
     for i in 4..end {
         if !is_kind(octets::get(signature, i)) {
-            return i;
+            return Some(i);
         }
     }
-    end
+    None
 }
 
-// The same, by the quick test first: nearly every signature passes it.
-fn bad_before(signature: &[u8], end: usize) -> usize
-    requires { (4 ≤ end) × (end ≤ length (words signature.now)) }
-    ensures { result ≡ first_bad (words signature.now) (end - 4) 4 }
-{
-    if all_kinds(signature, end) {
-        return end;
-    }
-    find_bad(signature, end)
-}
-
-// The first kind that is bad or missing, or `end` if all are there.
-fn first_bad(signature: &[u8], end: usize) -> usize
+// The first kind that is bad or missing; by the quick test first, which nearly every signature passes.
+fn first_bad(signature: &[u8], end: usize) -> Option<usize>
     requires { (4 ≤ end) × (4 ≤ length (words signature.now)) }
     ensures { result ≡ first_bad (words signature.now) (end - 4) 4 }
 {
-    let count = octets::count(signature);
-    if count < end {
-        return bad_before(signature, count);
+    let there = octets::count(signature).min(end);
+    if !all_kinds(signature, there) {
+        return find_bad(signature, there);
     }
-    bad_before(signature, end)
+    if there < end { Some(there) } else { None }
 }
 
 // The rest of a signature that begins well: its kinds, then no surplus word; last, value-eq is a primitive.
@@ -106,8 +95,7 @@ fn read_kinds(signature: &[u8], begun: Signature) -> Result<Signature, Refusal>
     ensures { said result ≡ told sign_of (read_signature (words signature.now)) }
 {
     let end = 4 + begun.heads as usize;
-    let bad = first_bad(signature, end);
-    if bad < end {
+    if let Some(bad) = first_bad(signature, end) {
         return Err(Reason::BadSignature.at(bad));
     }
     if end < octets::count(signature) {

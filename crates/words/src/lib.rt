@@ -229,7 +229,8 @@ pub struct Atom {
     pub next: usize,
 }
 
-// An atom of a head with so many terms, whose first word stands at `at`. This is the one place that knows how an atom is laid out; rows of `octets` write it.
+// An atom of a head with so many terms, whose first word stands at `at`. Who reads an atom learns here how it is laid out; it is
+// written by `put_atom` of `octets::rows`, by query, and by `resolve_terms` of canonicalize.
 fn laid_out(head: HeadOrEq, count: u32, at: usize) -> Atom
     requires { at < 2 ^ 62 }
     ensures { result ≡ laid_out head count at }

@@ -1,11 +1,11 @@
 // Reads what written rules hold, facts and actions: whether their words fit, which is refusal 5, and how deep their expressions are, which is refusal 6.
 #![tactic(auto)]
 
-ghost use Rattle.std.specs.Prelude.{ℕ, ◌≡◌, ◌+◌, ◌<◌, length};
+ghost use Rattle.std.specs.Prelude.{ℕ, ◌≡◌, ◌≤◌};
 ghost use Rattle.octets.specs.Words.{words};
 ghost use Rattle.rules.specs.Words.{max_depth, a_let, a_set, a_panic};
 ghost use Rattle.rules.specs.Refusals.{Res};
-ghost use Rattle.rules.specs.Written.{read_many, read_expr, read_target, read_equal, read_fact, read_code, read_action};
+ghost use Rattle.rules.specs.Written.{read_many, read_expr, read_target, read_fact, read_code, read_action};
 ghost use Rattle.refusals.specs.Numbers.{said};
 ghost use Rattle.written.specs.Written.{with_heads, ending_of, or_unfit, leaf_end, taken_at, Starts, Tells, ends};
 
@@ -131,12 +131,11 @@ impl Record<'_> {
         self.arguments(next, some, MAX_DEPTH - 1)
     }
 
-    // The two expressions behind the word at an index, which is an equality's or a union's.
+    // The two expressions of an equality or a union, which stand behind its word.
     fn pair(&self, at: usize) -> Result<usize, Refusal>
-        requires { at < length (words self.now.rule.now) }
-        ensures { said result ≡ ending_of (read_equal (with_heads self.now.heads) (words self.now.rule.now) at) }
+        ensures { said result ≡ ending_of (read_many (read_expr (with_heads self.now.heads) (words self.now.rule.now) max_depth) 2 at) }
     {
-        self.arguments(at + 1, 2, MAX_DEPTH)
+        self.arguments(at, 2, MAX_DEPTH)
     }
 
     // A fact: an expression, or an equality of two.
@@ -147,60 +146,42 @@ impl Record<'_> {
             return self.outermost(at);
         };
         if count == 2 {
-            self.pair(at)
+            self.pair(at + 1)
         } else {
             Err(Reason::Unfit.at(at))
         }
     }
 
-    // The kind 3 word of a set, a delete or a subsume, and its arguments.
-    fn target(&self, at: usize) -> Result<usize, Refusal>
-        ensures { said result ≡ ending_of (read_target (with_heads self.now.heads) (words self.now.rule.now) at) }
+    // The kind 3 word of a set, a delete or a subsume, and its arguments. A set has one expression more, its value, which is read with them.
+    fn target(&self, at: usize, more: u32) -> Result<usize, Refusal>
+        requires { more ≤ 1 }
+        ensures change { more ≡ 0 → said result ≡ ending_of (read_target (with_heads self.now.heads) (words self.now.rule.now) at) }
+        ensures set { (p : ℕ) → more ≡ 1 → said result ≡ ending_of (read_code (with_heads self.now.heads) (words self.now.rule.now) p a_set at) }
     {
         let Some(Word::Head(head, count)) = word_at(self.rule, at) else {
             return Err(Reason::Unfit.at(at));
         };
         if head < self.heads {
-            self.arguments(at + 1, count, MAX_DEPTH)
+            self.arguments(at + 1, count + more, MAX_DEPTH)
         } else {
             Err(Reason::Unfit.at(at))
         }
     }
 
-    // A let, whose action word is at an index: a name and an expression.
-    fn let_action(&self, at: usize) -> Result<usize, Refusal>
-        requires { at < length (words self.now.rule.now) }
-        ensures { said result ≡ ending_of (read_code (with_heads self.now.heads) (words self.now.rule.now) at a_let (at + 1)) }
+    // A let: a name and an expression.
+    fn let_action(&self, name: usize) -> Result<usize, Refusal>
+        ensures { (p : ℕ) → said result ≡ ending_of (read_code (with_heads self.now.heads) (words self.now.rule.now) p a_let name) }
     {
-        let name = at + 1;
         let Some(Word::Name(_)) = word_at(self.rule, name) else {
             return Err(Reason::Unfit.at(name));
         };
         self.outermost(name + 1)
     }
 
-    // A set: a kind 3 word, its arguments and a value. The value is read with the arguments, as one more of them.
-    fn set_action(&self, at: usize) -> Result<usize, Refusal>
-        requires { at < length (words self.now.rule.now) }
-        ensures { said result ≡ ending_of (read_code (with_heads self.now.heads) (words self.now.rule.now) at a_set (at + 1)) }
-    {
-        let set = at + 1;
-        let Some(Word::Head(head, count)) = word_at(self.rule, set) else {
-            return Err(Reason::Unfit.at(set));
-        };
-        if head < self.heads {
-            self.arguments(set + 1, count + 1, MAX_DEPTH)
-        } else {
-            Err(Reason::Unfit.at(set))
-        }
-    }
-
     // A panic: a literal.
-    fn panic_action(&self, at: usize) -> Result<usize, Refusal>
-        requires { at < length (words self.now.rule.now) }
-        ensures { said result ≡ ending_of (read_code (with_heads self.now.heads) (words self.now.rule.now) at a_panic (at + 1)) }
+    fn panic_action(&self, message: usize) -> Result<usize, Refusal>
+        ensures { (p : ℕ) → said result ≡ ending_of (read_code (with_heads self.now.heads) (words self.now.rule.now) p a_panic message) }
     {
-        let message = at + 1;
         let Some(Word::Literal(_)) = word_at(self.rule, message) else {
             return Err(Reason::Unfit.at(message));
         };
@@ -208,19 +189,21 @@ impl Record<'_> {
     }
 
     // An action: its code, and what the code asks for. Action 7 is not written.
+    // A `match` on the number: written rules have the codes 1 to 6 and 8 as they are written, and any other is unfit.
     pub fn action(&self, at: usize) -> Result<usize, Refusal>
         ensures { said result ≡ ending_of (read_action (with_heads self.now.heads) (words self.now.rule.now) at) }
     {
         let Some(Word::Action(code)) = word_at(self.rule, at) else {
             return Err(Reason::Unfit.at(at));
         };
+        let next = at + 1;
         match code {
-            1 => self.let_action(at),
-            2 => self.set_action(at),
-            3..=4 => self.target(at + 1),
-            5 => self.pair(at),
-            6 => self.panic_action(at),
-            8 => self.outermost(at + 1),
+            1 => self.let_action(next),
+            2 => self.target(next, 1),
+            3..=4 => self.target(next, 0),
+            5 => self.pair(next),
+            6 => self.panic_action(next),
+            8 => self.outermost(next),
             _ => Err(Reason::Unfit.at(at)),
         }
     }

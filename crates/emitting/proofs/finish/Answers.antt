@@ -9,40 +9,42 @@ use Rattle.emitting.proofs.finish.Goals as goal
 pub overflow_mul-needed : goal.overflow_mul-needed
 overflow_mul-needed c =
     let at_known = bounded c.requires (omega (arith, length_words c.args.scratch.now, c.well_formed))
-    (omega (arith, length_words c.args.head.source.now, c.well_formed)) in
+    (omega (arith, length_words c.args.head.words.now, c.well_formed)) in
     omega (arith, at_known)
 
 pub overflow_add-needed-2 : goal.overflow_add-needed-2
 overflow_add-needed-2 c =
     let at_known = bounded c.requires (omega (arith, length_words c.args.scratch.now, c.well_formed))
-    (omega (arith, length_words c.args.head.source.now, c.well_formed)) in
+    (omega (arith, length_words c.args.head.words.now, c.well_formed)) in
     omega (arith, at_known)
 
 pub overflow_add-needed-3 : goal.overflow_add-needed-3
 overflow_add-needed-3 c =
     let at_known = bounded c.requires (omega (arith, length_words c.args.scratch.now, c.well_formed))
-    (omega (arith, length_words c.args.head.source.now, c.well_formed)) in
+    (omega (arith, length_words c.args.head.words.now, c.well_formed)) in
     omega (arith, at_known)
 
 pub returns-then-count-needed : goal.returns-then-count-needed
-returns-then-count-needed c b xs p = no_room p c.args.output.now (omega (arith, c.count.ensures, c.if-count-needed.true))
+returns-then-count-needed c b xs p =
+    rw c.count.ensures (no_room p c.args.output.now (omega (arith, c.count.ensures, c.count-2.ensures, c.if-count-needed.true)))
 
 pub overflow_cast-counts-2 : goal.overflow_cast-counts-2
 overflow_cast-counts-2 c =
     let at_known = bounded c.requires (omega (arith, length_words c.args.scratch.now, c.well_formed))
-    (omega (arith, length_words c.args.head.source.now, c.well_formed)) in
+    (omega (arith, length_words c.args.head.words.now, c.well_formed)) in
     omega (arith, at_known)
 
 pub overflow_add-counts-3 : goal.overflow_add-counts-3
 overflow_add-counts-3 c =
     let at_known = bounded c.requires (omega (arith, length_words c.args.scratch.now, c.well_formed))
-    (omega (arith, length_words c.args.head.source.now, c.well_formed)) in
+    (omega (arith, length_words c.args.head.words.now, c.well_formed)) in
     omega (arith, at_known)
 
 pub emit-requires : goal.emit-requires
 emit-requires c =
-    emit_asks c.requires (length (words c.args.output.now)) (omega (arith, c.count.ensures, c.if-count-needed.false))
+    emit_asks c.requires (length (words c.args.output.now)) (omega (arith, c.count.ensures, c.count-2.ensures, c.if-count-needed.false))
 
 pub returns : goal.returns
 returns c b xs p =
-    in_room p c.args.output.now c.emit.new.output (omega arith) (omega (arith, c.count.ensures, c.if-count-needed.false)) c.emit.ensures
+    rw c.count.ensures
+    (in_room p c.args.output.now c.emit.new.output (omega arith) (omega (arith, c.count.ensures, c.count-2.ensures, c.if-count-needed.false)) c.emit.ensures)

@@ -4,13 +4,14 @@ use mathlib.Core.Bool.{Bool, true}
 use mathlib.Core.List.{List, []}
 use Prim.Native.Nat.{ℕ}
 use Rattle.std.proofs.Common.{rules}
+use Rattle.octets.specs.Words.{bytes_of}
 use Rattle.rules.specs.Calls.{whole_words}
 use Rattle.rules.specs.Refusals.{ok}
 use Rattle.refusals.specs.Numbers.{told}
 use Rattle.signature.specs.Signature.{sign_of}
 use Rattle.signature.specs.declared.Signature.{Signature}
 use Rattle.answers.proofs.Tests.{front}
-use Rattle.answers.proofs.Calls.{answered_at, answered_on, Given, slices_ragged, Ready, front_refuses, ready, too_short, all_written}
+use Rattle.answers.proofs.Calls.{answered_at, answered_on, Given, slices_ragged, Ready, front_refuses, ready, ends_within}
 use Rattle.free_vars_call.proofs.FreeVars.{freeing, free_gives, free_whole, free_asks, free_done}
 use Rattle.free_vars_call.proofs.find_or_refuse.Goals as goal
 
@@ -34,23 +35,16 @@ returns-in_err-sign c =
     let whole = free_whole k c.whole_words.ensures c.if-not-whole_words.false in
     free_gives k (front_refuses whole c.in_err-sign.ensures (answered_on _ _ c.from_residual.ensures.1))
 
-pub get_free_vars-n-requires : goal.get_free_vars-n-requires
-get_free_vars-n-requires c =
+pub get_free_vars-requires : goal.get_free_vars-requires
+get_free_vars-requires c =
     let k = given c.args.signature.now c.args.rule.now c.args.output.now in
     free_asks k (tests_passed k c.whole_words.ensures c.if-not-whole_words.false c.in_ok-sign.ensures)
 
-pub returns-then-count-n : goal.returns-then-count-n
-returns-then-count-n c =
-    let k = given c.args.signature.now c.args.rule.now c.args.output.now in
-    let passed = tests_passed k c.whole_words.ensures c.if-not-whole_words.false c.in_ok-sign.ensures in
-    let v = c.get_free_vars-n in
-    let done = free_done k passed v.ensures v.auto.out (search rules) (search rules) in
-    free_gives k (too_short {y = passed} done c.count.ensures c.if-count-n.true (answered_at c.at-then-count-n.ensures) refl)
-
 pub returns : goal.returns
+unfolding bytes_of
 returns c =
     let k = given c.args.signature.now c.args.rule.now c.args.output.now in
     let passed = tests_passed k c.whole_words.ensures c.if-not-whole_words.false c.in_ok-sign.ensures in
-    let v = c.get_free_vars-n in
+    let v = c.get_free_vars in
     let done = free_done k passed v.ensures v.auto.out (search rules) (search rules) in
-    free_gives k (all_written {y = passed} done c.count.ensures c.if-count-n.false refl)
+    free_gives k (ends_within {y = passed} done c.count.ensures _ c.within.ensures (λ l. refl) (λ l. refl))

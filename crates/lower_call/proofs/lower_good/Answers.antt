@@ -4,7 +4,7 @@ use native.Mathlib.Omega.{arith}
 use mathlib.Core.Path.{refl}
 use Rattle.std.proofs.lemmas.Result.{err_from_is_err_and}
 use Rattle.octets.proofs.Words.{length_words_kept}
-use Rattle.lower_call.proofs.Lowering.{core_asks, few_globals, known_equals, turned, laid, asks_settle, is_done, stands, ends_short, ends_good}
+use Rattle.lower_call.proofs.Lowering.{core_asks, few_globals, known_equals, turned, laid, asks_settle, is_done, head_inside, stands, ends_short, ends_good}
 use Rattle.lower_call.proofs.lower_good.Goals as goal
 
 pub to_core_rule-requires : goal.to_core_rule-requires
@@ -25,20 +25,26 @@ settle-body-requires c =
 
 -- ---- the rule is written, if there is room
 
-pub overflow_mul-head : goal.overflow_mul-head
-overflow_mul-head c =
+pub overflow_mul-n : goal.overflow_mul-n
+overflow_mul-n c =
     let at_core = laid c.requires (length_words_kept _ _ c.to_core_rule.auto.scratch) c.in_ok-core.ensures in
     let at_settle = is_done at_core c.count-n.ensures refl refl c.settle-body.ensures in
     omega (arith, at_settle.fits)
+
+pub part-requires : goal.part-requires
+part-requires c =
+    let at_core = laid c.requires (length_words_kept _ _ c.to_core_rule.auto.scratch) c.in_ok-core.ensures in
+    let at_settle = is_done at_core c.count-n.ensures refl refl c.settle-body.ensures in
+    head_inside at_settle
 
 pub finish-words-requires : goal.finish-words-requires
 finish-words-requires c =
     let at_core = laid c.requires (length_words_kept _ _ c.to_core_rule.auto.scratch) c.in_ok-core.ensures in
     let at_settle = is_done at_core c.count-n.ensures refl refl c.settle-body.ensures in
-    stands at_settle
+    stands at_settle c.part.ensures
 
-pub overflow_mul-n : goal.overflow_mul-n
-overflow_mul-n c =
+pub overflow_mul-n-then-count-words : goal.overflow_mul-n-then-count-words
+overflow_mul-n-then-count-words c =
     let at_core = laid c.requires (length_words_kept _ _ c.to_core_rule.auto.scratch) c.in_ok-core.ensures in
     let at_settle = is_done at_core c.count-n.ensures refl refl c.settle-body.ensures in
     omega (arith, at_settle.fits)
@@ -54,11 +60,11 @@ returns-then-count-words c =
     let at_core = laid c.requires (length_words_kept _ _ c.to_core_rule.auto.scratch) c.in_ok-core.ensures in
     let at_settle = is_done at_core c.count-n.ensures refl refl c.settle-body.ensures in
     let f = c.finish-words in
-    ends_short at_settle f.ensures c.count.ensures f.auto.output c.if-count-words.true c.restore.ensures
+    ends_short at_settle c.part.ensures f.ensures c.count.ensures f.auto.output c.if-count-words.true c.restore.ensures
 
 pub returns-else-count-words : goal.returns-else-count-words
 returns-else-count-words c =
     let at_core = laid c.requires (length_words_kept _ _ c.to_core_rule.auto.scratch) c.in_ok-core.ensures in
     let at_settle = is_done at_core c.count-n.ensures refl refl c.settle-body.ensures in
     let f = c.finish-words in
-    ends_good at_settle f.ensures c.count.ensures f.auto.output c.if-count-words.false
+    ends_good at_settle c.part.ensures f.ensures c.count.ensures f.auto.output c.if-count-words.false

@@ -17,7 +17,7 @@ use Rattle.answers.specs.Fronts.{written_front}
 use Rattle.answers.proofs.Lent.{lent_size}
 use Rattle.answers.proofs.Calls.{answered_at, answered_on, Given, slices_ragged, Ready, front_refuses, ready}
 use Rattle.lower_call.proofs.LowerCall.{lowering, lower_gives, lower_whole, lower_front, lower_lent, lower_asks}
-use Rattle.lower_call.proofs.LowerCall.{worked, rule_refused, lower_short, lower_written}
+use Rattle.lower_call.proofs.LowerCall.{worked, rule_refused, lower_within}
 use Rattle.lower_call.proofs.lower_or_refuse.Goals as goal
 
 -- the bytes that the call is lent
@@ -85,15 +85,6 @@ returns-in_err-counts-clause-gives_both c =
     let done = worked k passed c.in_err-counts.ensures g.auto.output g.auto.counters (search rules) (search rules) (search rules) (search rules) in
     lower_gives k (rule_refused {y = passed} done (answered_on _ _ c.from_residual-in_err-counts.ensures.1))
 
-pub returns-then-count-counts-clause-gives_both : goal.returns-then-count-counts-clause-gives_both
-returns-then-count-counts-clause-gives_both c =
-    let a = c.args in
-    let k = given a.signature.now a.rule.now a.counters.now a.output.now a.scratch.now in
-    let passed = tests_passed k c.whole_words.ensures c.if-not-whole_words.false c.count-many.ensures c.count-room.ensures c.in_ok-sign.ensures in
-    let g = c.lower_good in
-    let done = worked k passed c.in_ok-counts.ensures g.auto.output g.auto.counters (search rules) (search rules) (search rules) (search rules) in
-    lower_gives k (lower_short {y = passed} done c.count.ensures c.if-count-counts.true (answered_at c.at-then-count-counts.ensures))
-
 pub returns-clause-gives_both : goal.returns-clause-gives_both
 returns-clause-gives_both c =
     let a = c.args in
@@ -101,4 +92,4 @@ returns-clause-gives_both c =
     let passed = tests_passed k c.whole_words.ensures c.if-not-whole_words.false c.count-many.ensures c.count-room.ensures c.in_ok-sign.ensures in
     let g = c.lower_good in
     let done = worked k passed c.in_ok-counts.ensures g.auto.output g.auto.counters (search rules) (search rules) (search rules) (search rules) in
-    lower_gives k (lower_written {y = passed} done c.count.ensures c.if-count-counts.false)
+    lower_gives k (lower_within {y = passed} done c.count.ensures _ c.within.ensures)

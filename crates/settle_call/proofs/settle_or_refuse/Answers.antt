@@ -7,7 +7,7 @@ use mathlib.Core.List.{List, []}
 use native.Mathlib.Omega.{arith}
 use Rattle.std.proofs.Common.{rules}
 use lib.ListN.{length}
-use Rattle.octets.specs.Words.{words}
+use Rattle.octets.specs.Words.{words, bytes_of}
 use Rattle.rules.specs.Refusals.{ok}
 use Rattle.refusals.specs.Numbers.{told}
 use Rattle.signature.specs.Signature.{sign_of}
@@ -15,7 +15,7 @@ use Rattle.signature.specs.declared.Signature.{Signature}
 use Rattle.rules.specs.Calls.{whole_words}
 use Rattle.answers.specs.Fronts.{flat_front}
 use Rattle.answers.proofs.Lent.{lent_size}
-use Rattle.answers.proofs.Calls.{answered_at, answered_on, Given, slices_ragged, Ready, front_refuses, ready, too_short, all_written}
+use Rattle.answers.proofs.Calls.{answered_at, answered_on, Given, slices_ragged, Ready, front_refuses, ready, ends_within}
 use Rattle.settle_call.proofs.Settled.{settling, settle_gives, settle_whole, settle_front, settle_lent, settle_asks, settle_done}
 use Rattle.settle_call.proofs.settle_or_refuse.Goals as goal
 
@@ -75,20 +75,12 @@ settle_good-counts-requires c =
     let h = settle_asks k passed (settle_lent k passed c.count-n.ensures) in
     record { some_flat = h.0; rule_in_bounds = h.1 }
 
-pub returns-then-count-counts-clause-gives : goal.returns-then-count-counts-clause-gives
-returns-then-count-counts-clause-gives c =
-    let a = c.args in
-    let k = given a.signature.now a.rule.now a.output.now a.scratch.now in
-    let passed = tests_passed k c.whole_words.ensures c.if-not-whole_words.false c.count.ensures c.in_ok-sign.ensures in
-    let g = c.settle_good-counts in
-    let done = settle_done k passed g.ensures g.auto.output (search rules) (search rules) in
-    settle_gives k (too_short {y = passed} done c.count-2.ensures c.if-count-counts.true (answered_at c.at-then-count-counts.ensures) refl)
-
 pub returns-clause-gives : goal.returns-clause-gives
+unfolding bytes_of
 returns-clause-gives c =
     let a = c.args in
     let k = given a.signature.now a.rule.now a.output.now a.scratch.now in
     let passed = tests_passed k c.whole_words.ensures c.if-not-whole_words.false c.count.ensures c.in_ok-sign.ensures in
     let g = c.settle_good-counts in
     let done = settle_done k passed g.ensures g.auto.output (search rules) (search rules) in
-    settle_gives k (all_written {y = passed} done c.count-2.ensures c.if-count-counts.false refl)
+    settle_gives k (ends_within {y = passed} done c.count-2.ensures _ c.within.ensures (λ l. refl) (λ l. refl))

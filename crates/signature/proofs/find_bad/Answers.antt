@@ -6,7 +6,7 @@ use native.Mathlib.Omega.{arith}
 use native.Mathlib.Numerals.{add-one}
 use Rattle.octets.specs.Words.{words}
 use Rattle.signature.specs.Signature.{is_kind_at}
-use Rattle.signature.proofs.Laws.{first_bad_next, first_bad_here, first_bad_none, kind_here}
+use Rattle.signature.proofs.Laws.{first_bad_next, first_bad_here, first_bad_done, kind_here}
 use Rattle.signature.proofs.find_bad.Goals as goal
 
 pub loop-i-init : goal.loop-i-init
@@ -29,6 +29,4 @@ loop-i-preserved c =
 
 pub returns : goal.returns
 returns c =
-    let a = c.args in
-    let e : a.end ≡ c.loop-i.i = omega (arith, c.loop-i.auto.i-end) in
-    e ∙ sym (first_bad_none (words a.signature.now) (a.end - c.loop-i.i) c.loop-i.i (omega arith)) ∙ c.loop-i.invariant
+    sym (first_bad_done (words c.args.signature.now) (c.args.end - c.loop-i.i) c.loop-i.i (omega arith)) ∙ c.loop-i.invariant

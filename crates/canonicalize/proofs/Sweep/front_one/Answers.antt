@@ -1,5 +1,5 @@
 -- An equality in front: if it asks for a replacement, that is made behind it and it is gone; else nothing changed, and what becomes of it is written.
--- The bindings begin elsewhere just in the first case. Assumes nothing.
+-- A binding stands just in the first case. Assumes nothing.
 use native.Mathlib.Omega.{arith}
 use Rattle.octets.proofs.Words.{length_words}
 use Rattle.canonicalize.proofs.Fronting.{equality_within, front_asked, front_still, resolve_asks, step_asks, tried}
@@ -9,23 +9,23 @@ pub past_equality-next-requires : goal.past_equality-next-requires
 past_equality-next-requires c =
     omega (arith, equality_within c.requires, length_words c.args.s.now, c.well_formed)
 
-pub replace_step-e-requires : goal.replace_step-e-requires
-replace_step-e-requires c = step_asks c.requires c.past_equality-next.ensures
+pub replace_step-requires : goal.replace_step-requires
+replace_step-requires c = step_asks c.requires c.past_equality-next.ensures
 
-pub returns-then-e-d : goal.returns-then-e-d
-returns-then-e-d c =
-    let at_step = tried c.requires c.past_equality-next.ensures c.replace_step-e.ensures.0 c.replace_step-e.ensures.1 in
-    front_asked at_step c.if-e-d.true
+pub returns-in-Some : goal.returns-in-Some
+returns-in-Some c =
+    let at_step = tried c.requires c.past_equality-next.ensures c.replace_step.ensures.0 c.replace_step.ensures.1 in
+    front_asked at_step c.in-Some.is
 
 -- ---- it was not
 
 pub resolve_one-k-requires : goal.resolve_one-k-requires
 resolve_one-k-requires c =
-    let at_step = tried c.requires c.past_equality-next.ensures c.replace_step-e.ensures.0 c.replace_step-e.ensures.1 in
-    resolve_asks at_step c.if-e-d.false
+    let at_step = tried c.requires c.past_equality-next.ensures c.replace_step.ensures.0 c.replace_step.ensures.1 in
+    resolve_asks at_step c.in_default.is
 
 pub returns : goal.returns
 returns c =
-    let at_step = tried c.requires c.past_equality-next.ensures c.replace_step-e.ensures.0 c.replace_step-e.ensures.1 in
+    let at_step = tried c.requires c.past_equality-next.ensures c.replace_step.ensures.0 c.replace_step.ensures.1 in
     let k = c.resolve_one-k.ensures in
-    front_still at_step c.if-e-d.false k.0 k.1
+    front_still at_step c.in_default.is k.0 k.1

@@ -13,8 +13,8 @@ good_atom_at-atom-requires c =
     let at_next = next_atom c.loop-p.invariant.1 c.loop-p-test.true in
     at_next.asks.begins
 
-pub replace_step-e-requires : goal.replace_step-e-requires
-replace_step-e-requires c =
+pub replace_step-requires : goal.replace_step-requires
+replace_step-requires c =
     let at_next = next_atom c.loop-p.invariant.1 c.loop-p-test.true in
     at_next.asks
 
@@ -29,8 +29,8 @@ loop-p-preserved c =
     let at_next = next_atom c.loop-p.invariant.1 c.loop-p-test.true in
     let at_place = at_next.next c.good_atom_at-atom.ensures in
     let w = c.loop-p.invariant in
-    let k = c.replace_step-e.ensures in
-    (c.replace_step-e.auto.s ∙ w.0, replacing_next w.1 at_next at_place k.0 k.1)
+    let k = c.replace_step.ensures in
+    (c.replace_step.auto.s ∙ w.0, replacing_next w.1 at_next at_place c.unwrap_or-e.ensures k.0 k.1)
 
 pub returns : goal.returns
 returns c = replacing_end c.loop-p.invariant.1 c.loop-p-test.false

@@ -22,9 +22,6 @@ returns-in_default c =
       | in_default-via-in_default w ↦ none_there c.word_at.ensures 6 refl w.in_default.is
     ]))
 
-pub overflow_add-next : goal.overflow_add-next
-overflow_add-next c = omega (arith, (there c.word_at.ensures c.in-Some-Action.is).inside, length_words c.args.self.now.rule.now)
-
 -- by its code
 pub returns-in-1 : goal.returns-in-1
 returns-in-1 c =
@@ -59,3 +56,6 @@ returns-in_default-code c =
       | in_default-code-via-then-code-lt1 w ↦ none_of c.in_default-1.rest (λ e. omega (arith, w.if-code-lt1-1)) (λ e. omega (arith, w.if-code-lt1-1))
       | in_default-code-via-else-code-lt1+else-code-lt5 w ↦ none_of c.in_default-1.rest (λ e. omega (arith, w.if-code-lt5-1)) (λ e. omega (arith, w.if-code-lt5-1))
     ]))
+
+pub overflow_add-next : goal.overflow_add-next
+overflow_add-next c = omega (arith, (there c.word_at.ensures c.in-Some-Action.is).inside, length_words c.args.self.now.rule.now)

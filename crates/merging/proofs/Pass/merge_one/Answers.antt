@@ -1,7 +1,7 @@
 -- The mark tells whether an atom before it is alike: a marked one goes, with the run before it carried down, and an unmarked one stays, with its group.
 use native.Mathlib.Omega.{arith}
 use Rattle.octets.proofs.Words.{length_words}
-use Rattle.merging.proofs.MergingOne.{begun, one_dropped, unmarked, one_eqs, one_kept}
+use Rattle.merging.proofs.MergingOne.{begun, one_dropped, unmarked, one_kept}
 use Rattle.merging.proofs.Pass.merge_one.Goals as goal
 
 pub get-requires : goal.get-requires
@@ -42,12 +42,6 @@ overflow_add-self-3 c =
     let at_start = begun c.requires (omega (arith, length_words c.args.s.now, c.well_formed)) in
     let at_else = unmarked at_start c.get.ensures.is c.if-get-ne0.false in
     omega (arith, at_else)
-
-pub overflow_add-result-2 : goal.overflow_add-result-2
-overflow_add-result-2 c =
-    let at_start = begun c.requires (omega (arith, length_words c.args.s.now, c.well_formed)) in
-    let at_else = unmarked at_start c.get.ensures.is c.if-get-ne0.false in
-    omega (arith, one_eqs at_else c.group-e.ensures)
 
 pub returns : goal.returns
 returns c =

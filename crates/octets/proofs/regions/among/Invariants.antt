@@ -1,12 +1,13 @@
 use mathlib.Core.Path.{◌≡◌}
 use Prim.Native.Nat.{◌-◌, ◌≤◌}
 use lib.Dec.{eqb}
-use Rattle.octets.specs.Regions.{part, elem}
+use lib.ListN.{length, take}
+use Rattle.octets.specs.Regions.{elem}
 use Rattle.octets.specs.Words.{words}
 use Rattle.octets.proofs.regions.among.Given as goal
 
 abbrev pub invariant-loop-i : goal.invariant-loop-i
-invariant-loop-i l = (l.i ≤ l.n) × (eqb l.found 1 ≡ elem l.w (part (words l.buf) l.from l.i))
+invariant-loop-i l = (l.i ≤ length (words l.ws)) × (eqb l.found 1 ≡ elem l.w (take l.i (words l.ws)))
 
 abbrev pub decreases-loop-i : goal.decreases-loop-i
-decreases-loop-i l = l.n - l.i
+decreases-loop-i l = length (words l.ws) - l.i

@@ -1,6 +1,5 @@
 -- Behind the action word stands a literal; any other word is refused at its own place. Assumes nothing.
 use mathlib.Core.Path.{refl, ap, ◌∙◌}
-use Prim.Native.Nat.{◌+◌}
 use native.Mathlib.Omega.{arith}
 use borrow.Enum.Refused.{opened}
 use Rattle.std.specs.Prelude.{Some}
@@ -13,13 +12,10 @@ use Rattle.written.proofs.Laws.{panic_other, panic_goes}
 use Rattle.written.proofs.Record.panic_action.Goals as goal
 use Rattle.written.proofs.Record.panic_action.Goals.{in_default-via-in-Some+in_default, in_default-via-in_default}
 
-pub overflow_add-message : goal.overflow_add-message
-overflow_add-message c = omega (arith, length_words c.args.self.now.rule.now)
-
 pub returns-in_default : goal.returns-in_default
-returns-in_default c =
+returns-in_default c = λ p.
     rw (c.at.ensures.0, c.at.ensures.1)
-    (panic_other (with_heads c.args.self.now.heads) c.args.at
+    (panic_other (with_heads c.args.self.now.heads) p
     (elim c.in_default.branch [
       | in_default-via-in-Some+in_default w ↦ not_kind w.in_default.ensures 2 tt (opened w.in_default.in-Fresh-own.keys2)
       | in_default-via-in_default w ↦ none_there c.word_at.ensures 2 refl w.in_default.is
@@ -31,7 +27,7 @@ overflow_add-result c =
     omega (arith, (there c.word_at.ensures f.is).inside, length_words c.args.self.now.rule.now)
 
 pub returns : goal.returns
-returns c =
+returns c = λ p.
     let f = c.in-Some-Literal in
-    let at_literal : There (words c.args.self.now.rule.now) (c.args.at + 1) (Literal f.field-0-0) = there c.word_at.ensures (f.is ∙ ap Some f.field-0-is) in
-    panic_goes (with_heads c.args.self.now.heads) c.args.at at_literal
+    let at_literal : There (words c.args.self.now.rule.now) c.args.message (Literal f.field-0-0) = there c.word_at.ensures (f.is ∙ ap Some f.field-0-is) in
+    panic_goes (with_heads c.args.self.now.heads) p at_literal
