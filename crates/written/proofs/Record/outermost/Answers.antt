@@ -19,16 +19,16 @@ returns-in_default c =
 
 pub overflow_add-next : goal.overflow_add-next
 overflow_add-next c =
-    let at_some : (let a = c.args in Starts (with_heads a.self.now.heads) (words a.self.now.rule.now) a.at c.in-Some.some) = starts c.start_at.ensures c.in-Some.is in
+    let at_some : (let a = c.args in Starts (with_heads a.self.now.heads) (words a.self.now.rule.now) a.at c.in-Some.some) = starts c.args.self.now.heads c.start_at.ensures c.in-Some.is in
     omega (arith, at_some.inside, length_words c.args.self.now.rule.now)
 
 pub returns-then-some-eq0 : goal.returns-then-some-eq0
 returns-then-some-eq0 c =
-    let at_some : (let a = c.args in Starts (with_heads a.self.now.heads) (words a.self.now.rule.now) a.at c.in-Some.some) = starts c.start_at.ensures c.in-Some.is in
+    let at_some : (let a = c.args in Starts (with_heads a.self.now.heads) (words a.self.now.rule.now) a.at c.in-Some.some) = starts c.args.self.now.heads c.start_at.ensures c.in-Some.is in
     let a = c.args in
     none_left (exprs (with_heads a.self.now.heads) (words a.self.now.rule.now) (max_depth - 1)) _ (a.at + 1) c.if-some-eq0.true ∙ one_deeper at_some max_depth (λ z. omega arith)
 
 pub returns : goal.returns
 returns c =
-    let at_some : (let a = c.args in Starts (with_heads a.self.now.heads) (words a.self.now.rule.now) a.at c.in-Some.some) = starts c.start_at.ensures c.in-Some.is in
+    let at_some : (let a = c.args in Starts (with_heads a.self.now.heads) (words a.self.now.rule.now) a.at c.in-Some.some) = starts c.args.self.now.heads c.start_at.ensures c.in-Some.is in
     c.arguments.ensures ∙ one_deeper at_some max_depth (λ z. omega arith)
