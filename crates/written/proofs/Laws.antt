@@ -8,7 +8,7 @@ use native.Mathlib.Omega.{arith}
 use lib.ListN.{length, get_or}
 use lib.Dec.{ltb, eqb}
 use lib.Count.{count_leading_zeros}
-use borrow.Author.Tests.{ltb-true, ltb-false, lt-ltb, le-ltb, ne_eqb, eq-eqb, eqb-true}
+use borrow.Author.Tests.{ltb-true, ltb-false, lt-ltb, le-ltb, ne_eqb, eq-eqb}
 use Rattle.rules.specs.Words.{limit12, limit16, max_depth, name_base, literal_base, head_base, equality_word, action_word, is_name_word, is_literal_word, is_head_word}
 use Rattle.rules.specs.Words.{is_equality_word, count_of, Code, a_let, a_set, a_panic, code_of}
 use Rattle.rules.specs.Refusals.{Res, ok, refuse, ◌>>=◌, unfit, too_deep}
@@ -19,7 +19,6 @@ use Rattle.words.specs.Word.{kind}
 use Rattle.words.specs.declared.Word.TheVariants.{Name, Literal, Head, Equality, Action}
 use Rattle.words.proofs.Ranges.{kind_from, kind_below, true_within, false_below, false_above, heads_below}
 use Rattle.words.proofs.WordLaws.{word_of, name_kind, literal_kind, equality_kind, said}
-use Rattle.meaning.proofs.Lists.{and_left, and_right}
 use Rattle.std.specs.Prelude.{Option, Some, None}
 use Rattle.written.specs.Written.{with_heads, ending_of, or_unfit, leaf_end, taken, taken_at, Starts}
 use Rattle.written.proofs.Walking.{made, then_made, moved, just_one, last_one, left_start, left_stops, left_next, left_on, none_left}
@@ -91,10 +90,6 @@ pub record Rest (s : Sig) (ws : List ℕ) (depth count at deep left next : ℕ) 
 
 pub rest_start : {s : Sig} {ws : List ℕ} {depth count at : ℕ} → Rest s ws depth count at depth count at
 rest_start = record { same = refl; on = omega arith; down = omega arith }
-
--- what the code asks of an expression that it reads without a call: n is 0, and it may have expressions under it
-pub both_told : (n deep : ℕ) → eqb n 0 && ltb 0 deep ≡ true → (n ≡ 0) × (0 < deep)
-both_told n deep h = (eqb-true n 0 (and_left (eqb n 0) (ltb 0 deep) h), ltb-true 0 deep (and_right (eqb n 0) (ltb 0 deep) h))
 
 module _ {s : Sig} {ws : List ℕ} {depth count at deep left next : ℕ} (r : Rest s ws depth count at deep left next) where
   pub rest_end : left ≡ 0 → ok next ≡ ending_of (read_many (read_expr s ws depth) count at)

@@ -106,9 +106,9 @@ impl Record<'_> {
                 return Err(Reason::Unfit.at(next));
             };
             left -= 1;
-            if (some == 0) & (0 < deep) {
+            if 0 < deep && some == 0 {
                 next += 1;
-            } else if (left == 0) & (0 < deep) {
+            } else if 0 < deep && left == 0 {
                 next += 1;
                 left = some;
                 deep -= 1;

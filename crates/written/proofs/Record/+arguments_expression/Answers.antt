@@ -2,13 +2,12 @@
 -- their cycle. Each expression is taken by how it begins, and what is left of a row answers as the whole does: its next one is read, or, where that is the
 -- last, its arguments stand for it. Assumes nothing.
 use mathlib.Core.Path.{◌∙◌}
-use Prim.Native.Nat.{◌-◌}
 use native.Mathlib.Omega.{arith}
 use Rattle.refusals.proofs.Passing.{passed_on}
 use Rattle.octets.specs.Words.{words}
 use Rattle.octets.proofs.Words.{length_words}
 use Rattle.written.specs.Written.{with_heads}
-use Rattle.written.proofs.Laws.{starts, no_expression, too_deep_lem, one_deeper, rest_start, both_told, leaf_read, rest_end, rest_stops, rest_on, rest_next, rest_last}
+use Rattle.written.proofs.Laws.{starts, no_expression, too_deep_lem, one_deeper, rest_start, leaf_read, rest_end, rest_stops, rest_on, rest_next, rest_last}
 use Rattle.written.proofs.Record.+arguments_expression.Goals as goal
 
 pub arguments-loop-left-init : goal.arguments-loop-left-init
@@ -26,24 +25,19 @@ arguments-returns-in_default t c =
 pub arguments-overflow_add-next : goal.arguments-overflow_add-next
 arguments-overflow_add-next t c = omega (arith, (starts c.args.self.now.heads c.start_at.ensures c.in-Some.is).inside, length_words c.args.self.now.rule.now)
 
-pub arguments-loop-left-preserved-then-some-deep : goal.arguments-loop-left-preserved-then-some-deep
-arguments-loop-left-preserved-then-some-deep t c =
-    let l = c.loop-left in
-    let leaf = both_told c.in-Some.some l.deep c.if-some-deep.true in
-    rest_next l.invariant (leaf_read (starts c.args.self.now.heads c.start_at.ensures c.in-Some.is) l.deep leaf.0 (λ z. omega (arith, leaf.1))) (omega arith)
+pub arguments-loop-left-preserved-then-some-eq0 : goal.arguments-loop-left-preserved-then-some-eq0
+arguments-loop-left-preserved-then-some-eq0 t c =
+    let begins = starts c.args.self.now.heads c.start_at.ensures c.in-Some.is in
+    rest_next c.loop-left.invariant (leaf_read begins c.loop-left.deep c.if-some-eq0.true (λ z. omega arith)) (omega arith)
 
 -- it is the last one
-pub arguments-overflow_add-next-then-left-deep : goal.arguments-overflow_add-next-then-left-deep
-arguments-overflow_add-next-then-left-deep t c = omega (arith, (starts c.args.self.now.heads c.start_at.ensures c.in-Some.is).inside, length_words c.args.self.now.rule.now)
+pub arguments-overflow_add-next-then-left-eq0 : goal.arguments-overflow_add-next-then-left-eq0
+arguments-overflow_add-next-then-left-eq0 t c =
+    omega (arith, (starts c.args.self.now.heads c.start_at.ensures c.in-Some.is).inside, length_words c.args.self.now.rule.now)
 
-pub arguments-overflow_sub-deep : goal.arguments-overflow_sub-deep
-arguments-overflow_sub-deep t c = (both_told (c.loop-left.left - 1) c.loop-left.deep c.if-left-deep.true).1
-
-pub arguments-loop-left-preserved-then-left-deep : goal.arguments-loop-left-preserved-then-left-deep
-arguments-loop-left-preserved-then-left-deep t c =
-    let l = c.loop-left in
-    let last = both_told (l.left - 1) l.deep c.if-left-deep.true in
-    rest_last l.invariant (starts c.args.self.now.heads c.start_at.ensures c.in-Some.is) (omega arith) last.0 last.1
+pub arguments-loop-left-preserved-then-left-eq0 : goal.arguments-loop-left-preserved-then-left-eq0
+arguments-loop-left-preserved-then-left-eq0 t c =
+    rest_last c.loop-left.invariant (starts c.args.self.now.heads c.start_at.ensures c.in-Some.is) (omega arith) c.if-left-eq0.true (omega arith)
 
 -- it is read by itself
 pub arguments-expression-requires : goal.arguments-expression-requires
