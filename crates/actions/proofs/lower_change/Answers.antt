@@ -28,19 +28,19 @@ changing code rule scratch counters known few rule_fits scratch_fits is =
 
 pub overflow_add-at : goal.overflow_add-at
 overflow_add-at c =
-    let at_start = let a = c.args in changing a.code a.rule.now a.scratch.now a.counters.now c.requires.known c.requires.few (omega arith) (omega arith) refl in
+    let at_start = let a = c.args in changing a.code a.reading.now.rule.now a.scratch.now a.counters.now c.requires.known c.requires.few (omega arith) (omega arith) refl in
     omega (arith, at_start.begun)
 
 pub overflow_add-at-2 : goal.overflow_add-at-2
 overflow_add-at-2 c =
     let at_get =
-    let a = c.args in changing a.code a.rule.now a.scratch.now a.counters.now c.requires.known c.requires.few (omega arith) (omega arith) c.get-w.ensures.is in
+    let a = c.args in changing a.code a.reading.now.rule.now a.scratch.now a.counters.now c.requires.known c.requires.few (omega arith) (omega arith) c.get-w.ensures.is in
     omega (arith, at_get.begun)
 
 pub returns-in_err-args : goal.returns-in_err-args
 returns-in_err-args c =
     let at_get =
-    let a = c.args in changing a.code a.rule.now a.scratch.now a.counters.now c.requires.known c.requires.few (omega arith) (omega arith) c.get-w.ensures.is in
+    let a = c.args in changing a.code a.reading.now.rule.now a.scratch.now a.counters.now c.requires.known c.requires.few (omega arith) (omega arith) c.get-w.ensures.is in
     let counted = ap (λ (i : ℕ). i + c.args.more) (count_says c.head_word.ensures) in
     let at_args =
     let a = c.lower_arguments in argued counted at_get.begun (length_words_kept _ _ a.auto.scratch) (length_words_kept _ _ a.auto.counters) c.in_err-args.ensures in
@@ -50,14 +50,14 @@ returns-in_err-args c =
 pub overflow_add-at-3 : goal.overflow_add-at-3
 overflow_add-at-3 c =
     let at_get =
-    let a = c.args in changing a.code a.rule.now a.scratch.now a.counters.now c.requires.known c.requires.few (omega arith) (omega arith) c.get-w.ensures.is in
+    let a = c.args in changing a.code a.reading.now.rule.now a.scratch.now a.counters.now c.requires.known c.requires.few (omega arith) (omega arith) c.get-w.ensures.is in
     omega (arith, at_get.begun)
 
 pub put_change-requires : goal.put_change-requires
 put_change-requires c =
     let counted = ap (λ (i : ℕ). i + c.args.more) (count_says c.head_word.ensures) in
     let at_get =
-    let a = c.args in changing a.code a.rule.now a.scratch.now a.counters.now c.requires.known c.requires.few (omega arith) (omega arith) c.get-w.ensures.is in
+    let a = c.args in changing a.code a.reading.now.rule.now a.scratch.now a.counters.now c.requires.known c.requires.few (omega arith) (omega arith) c.get-w.ensures.is in
     let at_args =
     let a = c.lower_arguments in argued counted at_get.begun (length_words_kept _ _ a.auto.scratch) (length_words_kept _ _ a.auto.counters) c.in_ok-args.ensures in
     fits_as counted (is_fine at_args (omega arith)).fits
@@ -65,7 +65,7 @@ put_change-requires c =
 pub returns : goal.returns
 returns c =
     let at_get =
-    let a = c.args in changing a.code a.rule.now a.scratch.now a.counters.now c.requires.known c.requires.few (omega arith) (omega arith) c.get-w.ensures.is in
+    let a = c.args in changing a.code a.reading.now.rule.now a.scratch.now a.counters.now c.requires.known c.requires.few (omega arith) (omega arith) c.get-w.ensures.is in
     let counted = ap (λ (i : ℕ). i + c.args.more) (count_says c.head_word.ensures) in
     let at_args =
     let a = c.lower_arguments in argued counted at_get.begun (length_words_kept _ _ a.auto.scratch) (length_words_kept _ _ a.auto.counters) c.in_ok-args.ensures in

@@ -26,25 +26,25 @@ letting rule scratch counters known top rule_fits scratch_fits is =
 
 pub overflow_add-at : goal.overflow_add-at
 overflow_add-at c =
-    let at_start = let a = c.args in letting a.rule.now a.scratch.now a.counters.now c.requires.known c.requires.top (omega arith) (omega arith) refl in
+    let at_start = let a = c.args in letting a.reading.now.rule.now a.scratch.now a.counters.now c.requires.known c.requires.top (omega arith) (omega arith) refl in
     omega (arith, at_start.begun)
 
 pub returns-then-taken : goal.returns-then-taken
 returns-then-taken c =
     let at_get =
-    let a = c.args in letting a.rule.now a.scratch.now a.counters.now c.requires.known c.requires.top (omega arith) (omega arith) c.get-name.ensures.is in
+    let a = c.args in letting a.reading.now.rule.now a.scratch.now a.counters.now c.requires.known c.requires.top (omega arith) (omega arith) c.get-name.ensures.is in
     let_twice at_get (taken_as c.get-name.result c.taken.ensures) c.if-taken.true c.at.ensures
 
 pub overflow_add-at-2 : goal.overflow_add-at-2
 overflow_add-at-2 c =
     let at_get =
-    let a = c.args in letting a.rule.now a.scratch.now a.counters.now c.requires.known c.requires.top (omega arith) (omega arith) c.get-name.ensures.is in
+    let a = c.args in letting a.reading.now.rule.now a.scratch.now a.counters.now c.requires.known c.requires.top (omega arith) (omega arith) c.get-name.ensures.is in
     omega (arith, at_get.begun)
 
 pub returns-in_err-e : goal.returns-in_err-e
 returns-in_err-e c =
     let at_get =
-    let a = c.args in letting a.rule.now a.scratch.now a.counters.now c.requires.known c.requires.top (omega arith) (omega arith) c.get-name.ensures.is in
+    let a = c.args in letting a.reading.now.rule.now a.scratch.now a.counters.now c.requires.known c.requires.top (omega arith) (omega arith) c.get-name.ensures.is in
     let at_free = is_free at_get (taken_as c.get-name.result c.taken.ensures) c.if-taken.false in
     let at_lower = let e = c.lower in low_at at_get.begun c.in_err-e.ensures (length_words_kept _ _ e.auto.scratch) (length_words_kept _ _ e.auto.counters) in
     let p = err_from_is_err_and c.from_residual.result c.from_residual.ensures.1 in
@@ -53,7 +53,7 @@ returns-in_err-e c =
 pub put_all-end-requires : goal.put_all-end-requires
 put_all-end-requires c =
     let at_get =
-    let a = c.args in letting a.rule.now a.scratch.now a.counters.now c.requires.known c.requires.top (omega arith) (omega arith) c.get-name.ensures.is in
+    let a = c.args in letting a.reading.now.rule.now a.scratch.now a.counters.now c.requires.known c.requires.top (omega arith) (omega arith) c.get-name.ensures.is in
     let at_free = is_free at_get (taken_as c.get-name.result c.taken.ensures) c.if-taken.false in
     let at_lower = let e = c.lower in low_at at_get.begun c.in_ok-e.ensures (length_words_kept _ _ e.auto.scratch) (length_words_kept _ _ e.auto.counters) in
     (omega arith, (let_fine at_free at_lower).words)
@@ -61,7 +61,7 @@ put_all-end-requires c =
 pub put-requires : goal.put-requires
 put-requires c =
     let at_get =
-    let a = c.args in letting a.rule.now a.scratch.now a.counters.now c.requires.known c.requires.top (omega arith) (omega arith) c.get-name.ensures.is in
+    let a = c.args in letting a.reading.now.rule.now a.scratch.now a.counters.now c.requires.known c.requires.top (omega arith) (omega arith) c.get-name.ensures.is in
     let at_free = is_free at_get (taken_as c.get-name.result c.taken.ensures) c.if-taken.false in
     let at_lower = let e = c.lower in low_at at_get.begun c.in_ok-e.ensures (length_words_kept _ _ e.auto.scratch) (length_words_kept _ _ e.auto.counters) in
     let at_three : length (words c.put_all-end.new.buf) ≡ length (words c.lower.new.scratch) = length_words_kept _ _ c.put_all-end.auto.buf in
@@ -70,7 +70,7 @@ put-requires c =
 pub overflow_sub-result : goal.overflow_sub-result
 overflow_sub-result c =
     let at_get =
-    let a = c.args in letting a.rule.now a.scratch.now a.counters.now c.requires.known c.requires.top (omega arith) (omega arith) c.get-name.ensures.is in
+    let a = c.args in letting a.reading.now.rule.now a.scratch.now a.counters.now c.requires.known c.requires.top (omega arith) (omega arith) c.get-name.ensures.is in
     let at_free = is_free at_get (taken_as c.get-name.result c.taken.ensures) c.if-taken.false in
     let at_lower = let e = c.lower in low_at at_get.begun c.in_ok-e.ensures (length_words_kept _ _ e.auto.scratch) (length_words_kept _ _ e.auto.counters) in
     (let_fine at_free at_lower).logged
@@ -78,7 +78,7 @@ overflow_sub-result c =
 pub returns : goal.returns
 returns c =
     let at_get =
-    let a = c.args in letting a.rule.now a.scratch.now a.counters.now c.requires.known c.requires.top (omega arith) (omega arith) c.get-name.ensures.is in
+    let a = c.args in letting a.reading.now.rule.now a.scratch.now a.counters.now c.requires.known c.requires.top (omega arith) (omega arith) c.get-name.ensures.is in
     let at_free = is_free at_get (taken_as c.get-name.result c.taken.ensures) c.if-taken.false in
     let at_lower = let e = c.lower in low_at at_get.begun c.in_ok-e.ensures (length_words_kept _ _ e.auto.scratch) (length_words_kept _ _ e.auto.counters) in
     let_done at_free at_lower c.put_all-end.ensures c.put.ensures

@@ -22,15 +22,15 @@ panics rule scratch counters inside room rule_fits is =
 
 pub overflow_add-at : goal.overflow_add-at
 overflow_add-at c =
-    let at_start = let a = c.args in panics a.rule.now a.scratch.now a.counters.now c.requires.at_in_bounds c.requires.room (omega arith) refl in
+    let at_start = let a = c.args in panics a.reading.now.rule.now a.scratch.now a.counters.now c.requires.at_in_bounds c.requires.room (omega arith) refl in
     omega (arith, at_start)
 
 pub overflow_add-result : goal.overflow_add-result
 overflow_add-result c =
-    let at_get = let a = c.args in panics a.rule.now a.scratch.now a.counters.now c.requires.at_in_bounds c.requires.room (omega arith) c.get-l.ensures.is in
+    let at_get = let a = c.args in panics a.reading.now.rule.now a.scratch.now a.counters.now c.requires.at_in_bounds c.requires.room (omega arith) c.get-l.ensures.is in
     omega (arith, at_get)
 
 pub returns : goal.returns
 returns c =
-    let at_get = let a = c.args in panics a.rule.now a.scratch.now a.counters.now c.requires.at_in_bounds c.requires.room (omega arith) c.get-l.ensures.is in
+    let at_get = let a = c.args in panics a.reading.now.rule.now a.scratch.now a.counters.now c.requires.at_in_bounds c.requires.room (omega arith) c.get-l.ensures.is in
     panic_done at_get c.put_all-end.ensures

@@ -35,24 +35,24 @@ naming rule scratch counters known rule_fits scratch_fits isv isw =
 
 pub overflow_add-at : goal.overflow_add-at
 overflow_add-at c =
-    let at_start = let a = c.args in naming a.rule.now a.scratch.now a.counters.now c.requires (omega arith) (omega arith) refl refl in
+    let at_start = let a = c.args in naming a.reading.now.rule.now a.scratch.now a.counters.now c.requires (omega arith) (omega arith) refl refl in
     omega (arith, at_start.begun)
 
 pub overflow_add-at-2 : goal.overflow_add-at-2
 overflow_add-at-2 c =
-    let at_start = let a = c.args in naming a.rule.now a.scratch.now a.counters.now c.requires (omega arith) (omega arith) refl refl in
+    let at_start = let a = c.args in naming a.reading.now.rule.now a.scratch.now a.counters.now c.requires (omega arith) (omega arith) refl refl in
     omega (arith, at_start.begun)
 
 pub overflow_add-at-3 : goal.overflow_add-at-3
 overflow_add-at-3 c =
     let at_get =
-    let a = c.args in naming a.rule.now a.scratch.now a.counters.now c.requires (omega arith) (omega arith) c.get-name.ensures.is c.get-w.ensures.is in
+    let a = c.args in naming a.reading.now.rule.now a.scratch.now a.counters.now c.requires (omega arith) (omega arith) c.get-name.ensures.is c.get-w.ensures.is in
     omega (arith, at_get.begun)
 
 pub returns-in_err-args : goal.returns-in_err-args
 returns-in_err-args c =
     let at_get =
-    let a = c.args in naming a.rule.now a.scratch.now a.counters.now c.requires (omega arith) (omega arith) c.get-name.ensures.is c.get-w.ensures.is in
+    let a = c.args in naming a.reading.now.rule.now a.scratch.now a.counters.now c.requires (omega arith) (omega arith) c.get-name.ensures.is c.get-w.ensures.is in
     let counted = count_says c.head_word-n.ensures in
     let at_args =
     let a = c.lower_all in argued counted at_get.begun (length_words_kept _ _ a.auto.scratch) (length_words_kept _ _ a.auto.counters) c.in_err-args.ensures in
@@ -62,7 +62,7 @@ returns-in_err-args c =
 pub may_read-requires : goal.may_read-requires
 may_read-requires c =
     let at_get =
-    let a = c.args in naming a.rule.now a.scratch.now a.counters.now c.requires (omega arith) (omega arith) c.get-name.ensures.is c.get-w.ensures.is in
+    let a = c.args in naming a.reading.now.rule.now a.scratch.now a.counters.now c.requires (omega arith) (omega arith) c.get-name.ensures.is c.get-w.ensures.is in
     let counted = count_says c.head_word-n.ensures in
     let at_args =
     let a = c.lower_all in argued counted at_get.begun (length_words_kept _ _ a.auto.scratch) (length_words_kept _ _ a.auto.counters) c.in_ok-args.ensures in
@@ -73,7 +73,7 @@ pub overflow_add-tops : goal.overflow_add-tops
 overflow_add-tops c =
     let counted = count_says c.head_word-n.ensures in
     let at_get =
-    let a = c.args in naming a.rule.now a.scratch.now a.counters.now c.requires (omega arith) (omega arith) c.get-name.ensures.is c.get-w.ensures.is in
+    let a = c.args in naming a.reading.now.rule.now a.scratch.now a.counters.now c.requires (omega arith) (omega arith) c.get-name.ensures.is c.get-w.ensures.is in
     let at_args =
     let a = c.lower_all in argued counted at_get.begun (length_words_kept _ _ a.auto.scratch) (length_words_kept _ _ a.auto.counters) c.in_ok-args.ensures in
     let at_else = is_fine at_args (omega arith) in
@@ -83,7 +83,7 @@ pub put-requires : goal.put-requires
 put-requires c =
     let counted = count_says c.head_word-n.ensures in
     let at_get =
-    let a = c.args in naming a.rule.now a.scratch.now a.counters.now c.requires (omega arith) (omega arith) c.get-name.ensures.is c.get-w.ensures.is in
+    let a = c.args in naming a.reading.now.rule.now a.scratch.now a.counters.now c.requires (omega arith) (omega arith) c.get-name.ensures.is c.get-w.ensures.is in
     let at_args =
     let a = c.lower_all in argued counted at_get.begun (length_words_kept _ _ a.auto.scratch) (length_words_kept _ _ a.auto.counters) c.in_ok-args.ensures in
     let at_else = is_fine at_args (omega arith) in
@@ -93,7 +93,7 @@ pub overflow_add-at-then-may_read : goal.overflow_add-at-then-may_read
 overflow_add-at-then-may_read c =
     let counted = count_says c.head_word-n.ensures in
     let at_get =
-    let a = c.args in naming a.rule.now a.scratch.now a.counters.now c.requires (omega arith) (omega arith) c.get-name.ensures.is c.get-w.ensures.is in
+    let a = c.args in naming a.reading.now.rule.now a.scratch.now a.counters.now c.requires (omega arith) (omega arith) c.get-name.ensures.is c.get-w.ensures.is in
     let at_args =
     let a = c.lower_all in argued counted at_get.begun (length_words_kept _ _ a.auto.scratch) (length_words_kept _ _ a.auto.counters) c.in_ok-args.ensures in
     let at_else = is_fine at_args (omega arith) in
@@ -103,7 +103,7 @@ pub put_change-requires : goal.put_change-requires
 put_change-requires c =
     let counted = count_says c.head_word-n.ensures in
     let at_get =
-    let a = c.args in naming a.rule.now a.scratch.now a.counters.now c.requires (omega arith) (omega arith) c.get-name.ensures.is c.get-w.ensures.is in
+    let a = c.args in naming a.reading.now.rule.now a.scratch.now a.counters.now c.requires (omega arith) (omega arith) c.get-name.ensures.is c.get-w.ensures.is in
     let at_args =
     let a = c.lower_all in argued counted at_get.begun (length_words_kept _ _ a.auto.scratch) (length_words_kept _ _ a.auto.counters) c.in_ok-args.ensures in
     let at_else = is_fine at_args (omega arith) in
@@ -116,7 +116,7 @@ put_change-requires c =
 pub returns-then-may_read : goal.returns-then-may_read
 returns-then-may_read c =
     let at_get =
-    let a = c.args in naming a.rule.now a.scratch.now a.counters.now c.requires (omega arith) (omega arith) c.get-name.ensures.is c.get-w.ensures.is in
+    let a = c.args in naming a.reading.now.rule.now a.scratch.now a.counters.now c.requires (omega arith) (omega arith) c.get-name.ensures.is c.get-w.ensures.is in
     let counted = count_says c.head_word-n.ensures in
     let at_args =
     let a = c.lower_all in argued counted at_get.begun (length_words_kept _ _ a.auto.scratch) (length_words_kept _ _ a.auto.counters) c.in_ok-args.ensures in
@@ -132,7 +132,7 @@ pub overflow_add-at-4 : goal.overflow_add-at-4
 overflow_add-at-4 c =
     let counted = count_says c.head_word-n.ensures in
     let at_get =
-    let a = c.args in naming a.rule.now a.scratch.now a.counters.now c.requires (omega arith) (omega arith) c.get-name.ensures.is c.get-w.ensures.is in
+    let a = c.args in naming a.reading.now.rule.now a.scratch.now a.counters.now c.requires (omega arith) (omega arith) c.get-name.ensures.is c.get-w.ensures.is in
     let at_args =
     let a = c.lower_all in argued counted at_get.begun (length_words_kept _ _ a.auto.scratch) (length_words_kept _ _ a.auto.counters) c.in_ok-args.ensures in
     let at_else = is_fine at_args (omega arith) in
@@ -141,7 +141,7 @@ overflow_add-at-4 c =
 pub returns : goal.returns
 returns c =
     let at_get =
-    let a = c.args in naming a.rule.now a.scratch.now a.counters.now c.requires (omega arith) (omega arith) c.get-name.ensures.is c.get-w.ensures.is in
+    let a = c.args in naming a.reading.now.rule.now a.scratch.now a.counters.now c.requires (omega arith) (omega arith) c.get-name.ensures.is c.get-w.ensures.is in
     let counted = count_says c.head_word-n.ensures in
     let at_args =
     let a = c.lower_all in argued counted at_get.begun (length_words_kept _ _ a.auto.scratch) (length_words_kept _ _ a.auto.counters) c.in_ok-args.ensures in

@@ -9,25 +9,25 @@ use Rattle.actions.proofs.unite.Goals as goal
 
 pub overflow_add-at : goal.overflow_add-at
 overflow_add-at c =
-    let at_start = let a = c.args in starts a.rule.now a.scratch.now a.counters.now c.requires (omega arith) (omega arith) in
+    let at_start = let a = c.args in starts a.reading.now.rule.now a.scratch.now a.counters.now c.requires (omega arith) (omega arith) in
     omega (arith, at_start)
 
 pub returns-in_err-left : goal.returns-in_err-left
 returns-in_err-left c =
-    let at_start = let a = c.args in starts a.rule.now a.scratch.now a.counters.now c.requires (omega arith) (omega arith) in
+    let at_start = let a = c.args in starts a.reading.now.rule.now a.scratch.now a.counters.now c.requires (omega arith) (omega arith) in
     let at_left = let l = c.lower in low_at at_start c.in_err-left.ensures (length_words_kept _ _ l.auto.scratch) (length_words_kept _ _ l.auto.counters) in
     let p = err_from_is_err_and c.from_residual.result c.from_residual.ensures.1 in
     rw (p.1, p.2) (left_refused at_left)
 
 pub lower-requires-2 : goal.lower-requires-2
 lower-requires-2 c =
-    let at_start = let a = c.args in starts a.rule.now a.scratch.now a.counters.now c.requires (omega arith) (omega arith) in
+    let at_start = let a = c.args in starts a.reading.now.rule.now a.scratch.now a.counters.now c.requires (omega arith) (omega arith) in
     let at_left = let l = c.lower in low_at at_start c.in_ok-left.ensures (length_words_kept _ _ l.auto.scratch) (length_words_kept _ _ l.auto.counters) in
     rw c.tops-behind.ensures (right_asks (left_done at_start at_left))
 
 pub returns-in_err-right : goal.returns-in_err-right
 returns-in_err-right c =
-    let at_start = let a = c.args in starts a.rule.now a.scratch.now a.counters.now c.requires (omega arith) (omega arith) in
+    let at_start = let a = c.args in starts a.reading.now.rule.now a.scratch.now a.counters.now c.requires (omega arith) (omega arith) in
     let at_left = let l = c.lower in low_at at_start c.in_ok-left.ensures (length_words_kept _ _ l.auto.scratch) (length_words_kept _ _ l.auto.counters) in
     let both = left_done at_start at_left in
     let at_right =
@@ -37,7 +37,7 @@ returns-in_err-right c =
 
 pub put_all-end-requires : goal.put_all-end-requires
 put_all-end-requires c =
-    let at_start = let a = c.args in starts a.rule.now a.scratch.now a.counters.now c.requires (omega arith) (omega arith) in
+    let at_start = let a = c.args in starts a.reading.now.rule.now a.scratch.now a.counters.now c.requires (omega arith) (omega arith) in
     let at_left = let l = c.lower in low_at at_start c.in_ok-left.ensures (length_words_kept _ _ l.auto.scratch) (length_words_kept _ _ l.auto.counters) in
     let both = left_done at_start at_left in
     let at_right =
@@ -46,7 +46,7 @@ put_all-end-requires c =
 
 pub overflow_sub-result : goal.overflow_sub-result
 overflow_sub-result c =
-    let at_start = let a = c.args in starts a.rule.now a.scratch.now a.counters.now c.requires (omega arith) (omega arith) in
+    let at_start = let a = c.args in starts a.reading.now.rule.now a.scratch.now a.counters.now c.requires (omega arith) (omega arith) in
     let at_left = let l = c.lower in low_at at_start c.in_ok-left.ensures (length_words_kept _ _ l.auto.scratch) (length_words_kept _ _ l.auto.counters) in
     let both = left_done at_start at_left in
     let at_right =
@@ -55,7 +55,7 @@ overflow_sub-result c =
 
 pub returns : goal.returns
 returns c =
-    let at_start = let a = c.args in starts a.rule.now a.scratch.now a.counters.now c.requires (omega arith) (omega arith) in
+    let at_start = let a = c.args in starts a.reading.now.rule.now a.scratch.now a.counters.now c.requires (omega arith) (omega arith) in
     let at_left = let l = c.lower in low_at at_start c.in_ok-left.ensures (length_words_kept _ _ l.auto.scratch) (length_words_kept _ _ l.auto.counters) in
     let both = left_done at_start at_left in
     let at_right =

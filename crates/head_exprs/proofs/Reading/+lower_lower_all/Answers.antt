@@ -21,7 +21,7 @@ use Rattle.head_exprs.proofs.Expressions.{scope_in}
 use Rattle.head_exprs.proofs.Arguments.{row_start, row_is, row_fits, row_done, on, top_inside, next_asks, row_stop, row_next}
 use Rattle.head_exprs.proofs.Calls.{place, Begun, word_inside, args_room, leaf_read, leaf_unbound, called, argued, bare}
 use Rattle.head_exprs.proofs.Calls.{args_refused, end_asks, call_answer}
-use Rattle.head_exprs.proofs.+lower_lower_all.Goals as goal
+use Rattle.head_exprs.proofs.Reading.+lower_lower_all.Goals as goal
 
 -- the word w of the expression is read
 word_read : (rule scratch : List ℕ) {cs : List ℕ} {d at w : ℕ} {t : Tops} {scope : Scope}
@@ -45,18 +45,18 @@ word_read rule scratch asks rule_fits scratch_fits is =
 
 pub lower-overflow_add-here : goal.lower-overflow_add-here
 lower-overflow_add-here t c =
-    let word = word_read c.args.rule.now c.args.scratch.now c.requires (omega arith) (omega arith) c.get-w.ensures.is in
+    let word = word_read c.args.self.now.rule.now c.args.scratch.now c.requires (omega arith) (omega arith) c.get-w.ensures.is in
     omega (arith, word_inside word, word.rule_fits)
 
 pub lower-returns-then-may_read : goal.lower-returns-then-may_read
 lower-returns-then-may_read t c =
-    let word = word_read c.args.rule.now c.args.scratch.now c.requires (omega arith) (omega arith) c.get-w.ensures.is in
+    let word = word_read c.args.self.now.rule.now c.args.scratch.now c.requires (omega arith) (omega arith) c.get-w.ensures.is in
     let high = leaf_high c.is_leaf.ensures c.if-is_leaf.true in
     leaf_read word high (reads_as c.get-w.result c.may_read.ensures) c.if-may_read.true
 
 pub lower-returns-then-is_leaf : goal.lower-returns-then-is_leaf
 lower-returns-then-is_leaf t c =
-    let word = word_read c.args.rule.now c.args.scratch.now c.requires (omega arith) (omega arith) c.get-w.ensures.is in
+    let word = word_read c.args.self.now.rule.now c.args.scratch.now c.requires (omega arith) (omega arith) c.get-w.ensures.is in
     let high = leaf_high c.is_leaf.ensures c.if-is_leaf.true in
     leaf_unbound word high (reads_as c.get-w.result c.may_read.ensures) c.if-may_read.false c.at.ensures
 
@@ -64,14 +64,14 @@ lower-returns-then-is_leaf t c =
 
 pub lower-put_called-requires : goal.lower-put_called-requires
 lower-put_called-requires t c =
-    let word = word_read c.args.rule.now c.args.scratch.now c.requires (omega arith) (omega arith) c.get-w.ensures.is in
+    let word = word_read c.args.self.now.rule.now c.args.scratch.now c.requires (omega arith) (omega arith) c.get-w.ensures.is in
     let counted = count_says c.head_word-n.ensures in
     let call = called word (call_low c.is_leaf.ensures c.if-is_leaf.false) in
     end_asks {g = word} {h = call} (bare {g = word} call (sym counted ∙ c.if-n-eq0.true)) counted
 
 pub lower-returns-then-n-eq0 : goal.lower-returns-then-n-eq0
 lower-returns-then-n-eq0 t c =
-    let word = word_read c.args.rule.now c.args.scratch.now c.requires (omega arith) (omega arith) c.get-w.ensures.is in
+    let word = word_read c.args.self.now.rule.now c.args.scratch.now c.requires (omega arith) (omega arith) c.get-w.ensures.is in
     let counted = count_says c.head_word-n.ensures in
     let call = called word (call_low c.is_leaf.ensures c.if-is_leaf.false) in
     call_answer {g = word} {h = call} (bare {g = word} call (sym counted ∙ c.if-n-eq0.true)) counted c.put_called.ensures
@@ -80,11 +80,11 @@ lower-returns-then-n-eq0 t c =
 
 pub lower-lower_all-requires : goal.lower-lower_all-requires
 lower-lower_all-requires t c =
-    let word = word_read c.args.rule.now c.args.scratch.now c.requires (omega arith) (omega arith) c.get-w.ensures.is in
+    let word = word_read c.args.self.now.rule.now c.args.scratch.now c.requires (omega arith) (omega arith) c.get-w.ensures.is in
     let call = called word (call_low c.is_leaf.ensures c.if-is_leaf.false) in
     let f = call.facts in
     let sig = word.known.sig in
-    let args = recount sig (words c.args.rule.now) (c.args.depth - 1) _ _ (c.args.at + 1) (sym (count_says c.head_word-n.ensures)) f.args in (
+    let args = recount sig (words c.args.self.now.rule.now) (c.args.depth - 1) _ _ (c.args.at + 1) (sym (count_says c.head_word-n.ensures)) f.args in (
       omega (arith, c.decreases, f.inside, f.deep),
       (
         record { sig = sig; known = (args, word.known.known.1, record { bound = word.bound; scoped = word.binds }) },
@@ -94,7 +94,7 @@ lower-lower_all-requires t c =
 
 pub lower-returns-in_err-args : goal.lower-returns-in_err-args
 lower-returns-in_err-args t c =
-    let word = word_read c.args.rule.now c.args.scratch.now c.requires (omega arith) (omega arith) c.get-w.ensures.is in
+    let word = word_read c.args.self.now.rule.now c.args.scratch.now c.requires (omega arith) (omega arith) c.get-w.ensures.is in
     let k = c.lower_all in
     let call = called word (call_low c.is_leaf.ensures c.if-is_leaf.false) in
     let args = argued {g = word} call (count_says c.head_word-n.ensures) c.in_err-args.ensures
@@ -104,7 +104,7 @@ lower-returns-in_err-args t c =
 
 pub lower-put_called-requires-2 : goal.lower-put_called-requires-2
 lower-put_called-requires-2 t c =
-    let word = word_read c.args.rule.now c.args.scratch.now c.requires (omega arith) (omega arith) c.get-w.ensures.is in
+    let word = word_read c.args.self.now.rule.now c.args.scratch.now c.requires (omega arith) (omega arith) c.get-w.ensures.is in
     let counted = count_says c.head_word-n.ensures in
     let k = c.lower_all in
     let call = called word (call_low c.is_leaf.ensures c.if-is_leaf.false) in
@@ -114,7 +114,7 @@ lower-put_called-requires-2 t c =
 
 pub lower-returns : goal.lower-returns
 lower-returns t c =
-    let word = word_read c.args.rule.now c.args.scratch.now c.requires (omega arith) (omega arith) c.get-w.ensures.is in
+    let word = word_read c.args.self.now.rule.now c.args.scratch.now c.requires (omega arith) (omega arith) c.get-w.ensures.is in
     let counted = count_says c.head_word-n.ensures in
     let k = c.lower_all in
     let call = called word (call_low c.is_leaf.ensures c.if-is_leaf.false) in
