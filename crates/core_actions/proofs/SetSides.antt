@@ -1,6 +1,6 @@
 -- Which unions become sets, from the definition and from the words that `as_set` reads. Assumes nothing.
 use mathlib.Core.Path.{◌≡◌, refl, sym, ap, ◌∙◌}
-use mathlib.Core.Bool.{Bool, true, false}
+use mathlib.Core.Bool.{Bool, true, false, ◌&&◌}
 use mathlib.Core.List.{List}
 use Prim.Native.Nat.{ℕ, ◌+◌, ◌^◌, ◌≤◌, ◌<◌}
 use native.Mathlib.Omega.{arith}
@@ -8,13 +8,14 @@ use lib.Dec.{eqb, ltb}
 use lib.ListN.{length, get_or}
 use borrow.Author.Tests.{eq-eqb, ltb-true, ltb-false, le-leb, lt-leb}
 use Rattle.rules.specs.Words.{limit12, max_depth, name_base, literal_base, head_base, signature_base, head_of}
-use Rattle.rules.specs.Signature.{Sig, heads}
+use Rattle.rules.specs.Signature.{Sig, heads, is_constructor, is_name}
 use Rattle.rules.specs.Written.{Expr, Exprs, leaf, call}
 use Rattle.walks.specs.Steps.{Under, ExprAt}
 use Rattle.walks.proofs.Read.{leaf_cases, call_cases}
 use Rattle.walks.proofs.Asks.{expr_inside}
 use Rattle.actions.specs.Acts.{PairAt}
 use Rattle.std.specs.Prelude.{Option, Some, None}
+use Rattle.std.proofs.Math.Bool.{and-false}
 use Rattle.core_actions.specs.Unions.{Signed, set_side}
 use Rattle.core_actions.specs.declared.unions.Side.{Side}
 use Rattle.core_actions.specs.declared.unions.Side.TheVariants.{Left}
@@ -78,6 +79,17 @@ module _ {gs ws : List ℕ} {at : ℕ} {g : Begun gs ws at} {w : ℕ} (f : Flagg
     head_of_lem : (sig : Sig) (x : PairAt sig ws at) → heads sig ≤ limit12 → (head_base ≤ w) × (head_of w < heads sig)
     head_of_lem sig x few = call_word sig ws few (at + 1) x.left w f.is low
 
+    -- of another head
+    pub left_other : {b : Bool} → Kind gs w b → b ≡ false → Sides gs ws at None
+    left_other kind no' sig x few sg =
+        let other = sg.kinds (head_of w) (head_of_lem sig x few).1 ∙ sym kind ∙ no' in
+        side_call sig ws few (at + 1) x.left w f.is (λ t. None ≡ set_side sig t x.right.value) low
+        (λ es. by_right sig es other x.right.value)
+      where
+        by_right : (sig : Sig) (es : Exprs) → is_constructor sig (head_of w) ≡ false → (t : Expr) → None ≡ set_side sig (call (at + 1) (head_of w) es) t
+        by_right sig es other (leaf q v) = sym (rw (other, and-false (is_name v && sig.flag)))
+        by_right sig es other (call q h fs) = refl
+
     -- and behind it, at p, a right side that begins with v
     module _ {p v : ℕ} (passed : Passed ws (at + 1) p) (isv : v ≡ get_or ws p 0) where
       right_word : (sig : Sig) (x : PairAt sig ws at) → heads sig ≤ limit12 → v ≡ get_or ws (at + 1 + x.left.size) 0
@@ -114,3 +126,33 @@ module _ {gs ws : List ℕ} {at : ℕ} {g : Begun gs ws at} {w : ℕ} (f : Flagg
         let q = g.known in
         let x = q.known.0 in
         omega (arith, expr_inside q.sig ws max_depth (at + 1 + x.left.size) x.right, behind q.sig x q.known.1)
+
+    -- a literal
+    pub left_literal : w < name_base → Sides gs ws at None
+    left_literal small sig x few sg =
+        side_leaf sig ws few (at + 1) x.left w f.is (λ t. None ≡ set_side sig t x.right.value) high (by_right sig x.right.value)
+      where
+        by_right : (sig : Sig) (t : Expr) → None ≡ set_side sig (leaf (at + 1) w) t
+        by_right sig (leaf q v) = refl
+        by_right sig (call q h fs) = sym (rw (lt-leb name_base w small))
+
+    -- and behind it a right side that begins with v
+    module _ {v : ℕ} (isv : v ≡ get_or ws (at + 2) 0) where
+      behind_word : (sig : Sig) (x : PairAt sig ws at) → heads sig ≤ limit12 → v ≡ get_or ws (at + 1 + x.left.size) 0
+      behind_word sig x few = isv ∙ ap (λ (i : ℕ). get_or ws i 0) (sym (behind sig x few))
+
+      -- a leaf
+      pub right_leaf : literal_base ≤ v → Sides gs ws at None
+      right_leaf leaf' sig x few sg =
+          side_leaf sig ws few (at + 1) x.left w f.is (λ t. None ≡ set_side sig t x.right.value) high
+          (side_leaf sig ws few (at + 1 + x.left.size) x.right v (behind_word sig x few) (λ t. None ≡ set_side sig (leaf (at + 1) w) t) leaf' refl)
+
+      -- a call, whose head is no constructor
+      pub right_other : v < literal_base → {b : Bool} → Kind gs v b → b ≡ false → Sides gs ws at None
+      right_other call' kind no' sig x few sg =
+          let p = at + 1 + x.left.size in
+          let isp = behind_word sig x few in
+          let other = sg.kinds (head_of v) (call_word sig ws few p x.right v isp call').1 ∙ sym kind ∙ no' in
+          side_leaf sig ws few (at + 1) x.left w f.is (λ t. None ≡ set_side sig t x.right.value) high
+          (side_call sig ws few p x.right v isp (λ t. None ≡ set_side sig (leaf (at + 1) w) t) call'
+          (λ es. sym (rw (other, and-false (is_name w && sig.flag)))))

@@ -24,26 +24,26 @@ sided rule scratch counters asks is = record { known = asks.0; room = asks.1.0; 
 pub lower_change-requires : goal.lower_change-requires
 lower_change-requires c =
     let a = c.args in
-    let g = sided a.rule.now a.scratch.now a.counters.now c.requires c.as_set.ensures in
+    let g = sided a.reading.now.rule.now a.scratch.now a.counters.now c.requires c.as_set.ensures in
     record { known = (left_asks g (cc), (g.room, g.scope_room)); few = omega arith }
 
 pub returns-in-Some-Left : goal.returns-in-Some-Left
 returns-in-Some-Left c =
     let a = c.args in
-    left_done (sided a.rule.now a.scratch.now a.counters.now c.requires c.as_set.ensures) (cc) c.lower_change.ensures
+    left_done (sided a.reading.now.rule.now a.scratch.now a.counters.now c.requires c.as_set.ensures) (cc) c.lower_change.ensures
 
 pub set_name-requires : goal.set_name-requires
 set_name-requires c =
     let a = c.args in
-    let g = sided a.rule.now a.scratch.now a.counters.now c.requires c.as_set.ensures in
+    let g = sided a.reading.now.rule.now a.scratch.now a.counters.now c.requires c.as_set.ensures in
     (right_asks g (cc), (g.room, g.scope_room))
 
 pub returns-in-Some-Right : goal.returns-in-Some-Right
 returns-in-Some-Right c =
     let a = c.args in
-    right_done (sided a.rule.now a.scratch.now a.counters.now c.requires c.as_set.ensures) (cc) c.set_name.ensures
+    right_done (sided a.reading.now.rule.now a.scratch.now a.counters.now c.requires c.as_set.ensures) (cc) c.set_name.ensures
 
 pub returns-in-None : goal.returns-in-None
 returns-in-None c =
     let a = c.args in
-    stays_done (sided a.rule.now a.scratch.now a.counters.now c.requires c.as_set.ensures) c.in-None.is c.unite.ensures
+    stays_done (sided a.reading.now.rule.now a.scratch.now a.counters.now c.requires c.as_set.ensures) c.in-None.is c.unite.ensures
