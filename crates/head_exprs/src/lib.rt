@@ -139,14 +139,8 @@ impl Reading<'_> {
         ensures { LowersExprs max_depth n (site_of (words self.now.rule.now) (words scratch.old) (words counters.old) at tops self.now.scope)
             (words scratch.new) (words counters.new) result }
     {
-        let k = walks::leaves(
-            self.rule,
-            at,
-            n,
-            words::NAME_BASE + self.scope.globals - 1,
-            scratch,
-            tops.sp,
-        );
+        let last = words::NAME_BASE + self.scope.globals - 1;
+        let k = walks::leaves(octets::part(self.rule, at, n), last, scratch, tops.sp);
         let rest = Tops {
             sp: tops.sp + k,
             ..tops
