@@ -9,8 +9,8 @@ use native.Mathlib.Omega.{arith}
 use lib.Dec.{leb}
 use lib.ListN.{length, get_or}
 use borrow.Author.Tests.{leb-true, le-leb, lt-leb}
-use Rattle.octets.specs.Regions.{part}
-use Rattle.octets.proofs.Splice.{part_all, part_join, part_one, length_part, get_d_part}
+use Rattle.octets.specs.Regions.{splice, part}
+use Rattle.octets.proofs.Splice.{part_all, part_front, part_join, part_one, length_part, get_d_part}
 use Rattle.rules.specs.Words.{literal_base}
 use Rattle.walks.specs.Leaves.{is_leaf, leaves_up_to}
 
@@ -72,6 +72,15 @@ module _ (most : ℕ) (ws : List ℕ) (at n : ℕ) (inside : at + n ≤ length w
 
   pub leaves_each : (i : ℕ) → i < leaves_up_to most (part ws at n) → Leaf most (get_or ws (at + i) 0)
   leaves_each i h = subst (Leaf most) (get_d_part ws at n i (omega (arith, leaves_most))) (each most (part ws at n) i h)
+
+-- where the row is a part of a rule, what is written is the rule's
+module _ (ws : List ℕ) (at n most : ℕ) (s : List ℕ) (to : ℕ) (inside : at + n ≤ length ws) where
+  pub leaves_in : {row s' : List ℕ} {k : ℕ} → row ≡ part ws at n → (k ≡ leaves_up_to most row) × (s' ≡ splice s to (part row 0 k))
+      → (k ≡ leaves_up_to most (part ws at n)) × (s' ≡ splice s to (part ws at k))
+  leaves_in {row} {s'} {k} is r =
+      let count : k ≡ leaves_up_to most (part ws at n) = r.0 ∙ ap (leaves_up_to most) is in
+      let few : k ≤ n = omega (arith, count, leaves_most most ws at n inside) in
+      (count, r.1 ∙ ap (λ (l : List ℕ). splice s to (part l 0 k)) is ∙ ap (splice s to) (part_front ws at n k few))
 
 -- ---- the loop over a row of words: k are passed
 
