@@ -8,6 +8,8 @@ use lib.ListN.{length, get_or}
 use lib.Dec.{ltb, leb, eqb}
 use borrow.Author.Tests.{lt-ltb, le-ltb, ltb-true, leb-true, ne_eqb, eq-eqb, eqb-true, eqb-false}
 use Rattle.std.specs.Prelude.{Option, Some, None}
+use Rattle.octets.specs.Regions.{part}
+use Rattle.octets.proofs.Splice.{length_part, get_d_part}
 use Rattle.rules.specs.Words.{signature_base, within, limit12}
 use Rattle.rules.specs.Refusals.{Res, ok, refuse, ◌>>=◌, demand, bad_signature}
 use Rattle.rules.specs.Signature.{payload_at, kinds_at, read_signature}
@@ -20,6 +22,21 @@ use Rattle.meaning.proofs.Results.{demand_ok}
 use Rattle.refusals.specs.Numbers.{told}
 use Rattle.signature.specs.Signature.{is_kind_at, all_kinds, first_bad, sign_of, Begins}
 use Rattle.signature.specs.declared.Signature.{Signature as Sign}
+
+-- an index behind the first a words
+abbrev pub behind : ℕ → Option ℕ → Option ℕ
+behind a (Some i) = Some (a + i)
+behind a None = None
+
+-- the first bad index is one of those looked at
+first_bad_below : (ws : List ℕ) (n p : ℕ) {bad : ℕ} → first_bad ws n p ≡ Some bad → bad < p + n
+unfolding first_bad
+first_bad_below ws zero p h = absurd cc
+first_bad_below ws (suc n) p {bad} h = go (is_kind_at ws p) (first_bad_below ws n (suc p)) h
+  where
+    go : (b : Bool) → (first_bad ws n (suc p) ≡ Some bad → bad < suc p + n) → cond b (first_bad ws n (suc p)) (Some p) ≡ Some bad → bad < p + suc n
+    go true rest g = omega (arith, rest g)
+    go false rest g = let same : p ≡ bad = cc in omega arith
 
 module _ (ws : List ℕ) where
   -- one kind more, at the end
@@ -90,6 +107,53 @@ module _ (ws : List ℕ) where
   pub first_bad_done : (n p : ℕ) → n ≡ 0 → first_bad ws n p ≡ None
   unfolding first_bad
   first_bad_done n p e = rw e
+
+  -- ---- the words of the kinds alone: n from a on
+
+  module _ (a n : ℕ) (inside : a + n ≤ length ws) where
+    kind_in_part : (i : ℕ) → i < n → is_kind_at (part ws a n) i ≡ is_kind_at ws (a + i)
+    kind_in_part i h =
+        let long : i < length (part ws a n) = omega (arith, length_part ws a n inside) in
+        rw (lt-ltb i (length (part ws a n)) long, lt-ltb (a + i) (length ws) (omega arith), get_d_part ws a n i h)
+
+    kinds_in : (k i : ℕ) → i + k ≤ n → all_kinds (part ws a n) k i ≡ all_kinds ws k (a + i)
+    unfolding all_kinds
+    kinds_in zero i h = refl
+    kinds_in (suc k) i h =
+        let next : a + suc i ≡ suc (a + i) = omega arith in
+        rw (kind_in_part i (omega arith), kinds_in k (suc i) (omega arith), next) refl
+
+    bad_in : (k i : ℕ) → i + k ≤ n → behind a (first_bad (part ws a n) k i) ≡ first_bad ws k (a + i)
+    unfolding first_bad
+    bad_in zero i h = refl
+    bad_in (suc k) i h =
+        let next : a + suc i ≡ suc (a + i) = omega arith in
+        let rest = bad_in k (suc i) (omega arith) in
+        rw (← kind_in_part i (omega arith), ← next, ← rest) (go (is_kind_at (part ws a n) i))
+      where
+        go : (b : Bool) → behind a (cond b (first_bad (part ws a n) k (suc i)) (Some i)) ≡ cond b (behind a (first_bad (part ws a n) k (suc i))) (Some (a + i))
+        go true = refl
+        go false = refl
+
+    pub part_kinds : {kinds : List ℕ} → kinds ≡ part ws a n → all_kinds kinds (length kinds) 0 ≡ all_kinds ws n a
+    part_kinds is =
+        let z : a + 0 ≡ a = omega arith in
+        ap (λ (l : List ℕ). all_kinds l (length l) 0) is ∙ ap (λ (k : ℕ). all_kinds (part ws a n) k 0) (length_part ws a n inside) ∙ kinds_in n 0 (omega arith)
+        ∙ ap (all_kinds ws n) z
+
+    part_bad : {kinds : List ℕ} → kinds ≡ part ws a n → behind a (first_bad kinds (length kinds) 0) ≡ first_bad ws n a
+    part_bad is =
+        let z : a + 0 ≡ a = omega arith in
+        ap (λ (l : List ℕ). behind a (first_bad l (length l) 0)) is ∙ ap (λ (k : ℕ). behind a (first_bad (part ws a n) k 0)) (length_part ws a n inside)
+        ∙ bad_in n 0 (omega arith) ∙ ap (first_bad ws n) z
+
+    -- where not all of them are kinds, the first bad index of m words is theirs
+    pub part_short : {kinds : List ℕ} {r : Option ℕ} (m : ℕ) → kinds ≡ part ws a n → all_kinds kinds (length kinds) 0 ≡ false → n ≤ m
+        → r ≡ first_bad kinds (length kinds) 0 → behind a r ≡ first_bad ws m a
+    part_short m is bad few e = ap (behind a) e ∙ part_bad is ∙ sym (first_bad_short n m a (sym (part_kinds is) ∙ bad) few)
+
+    pub part_below : {kinds : List ℕ} {i : ℕ} → kinds ≡ part ws a n → Some i ≡ first_bad kinds (length kinds) 0 → i < n
+    part_below {kinds} is e = omega (arith, first_bad_below kinds (length kinds) 0 (sym e), ap length is, length_part ws a n inside)
 
   -- ---- reading the kinds
 

@@ -1,10 +1,18 @@
 -- 01, "Words and records": what the readers of a signature answer, by the definition of reading it.
 -- Assumes nothing: these are definitions.
-use Rattle.std.specs.Prelude.{ℕ, zero, suc, ◌≡◌, Bool, true, ◌&&◌, cond, List, length, get_or, ltb, eqb, Option, Some, None}
+use Rattle.std.specs.Prelude.{ℕ, zero, suc, ◌+◌, ◌≡◌, Bool, true, ◌&&◌, cond, List, length, get_or, ltb, eqb, Option, Some, None}
 use Rattle.rules.specs.Words.{limit12, signature_base, within}
 use Rattle.rules.specs.Refusals.{ok}
 use Rattle.rules.specs.Signature.{Sig, heads, payload_at}
+use Rattle.signature.specs.declared.Kind.{Kind}
+use Rattle.signature.specs.declared.Kind.TheVariants.{Function, Constructor, Primitive}
 use Rattle.signature.specs.declared.Signature.{Signature}
+
+-- the word of a kind of heads
+abbrev pub kind_word : Kind → ℕ
+kind_word Function = signature_base
+kind_word Constructor = signature_base + 1
+kind_word Primitive = signature_base + 2
 
 -- the struct for a signature that was read. The kinds stay in the words
 abbrev pub sign_of : Sig → Signature

@@ -6,7 +6,7 @@ ghost use Rattle.octets.specs.Words.{words};
 ghost use Rattle.rules.specs.Signature.{read_signature, payload_at};
 ghost use Rattle.refusals.specs.Numbers.{said, told};
 ghost use Rattle.rules.specs.Words.{signature_base, within};
-ghost use Rattle.signature.specs.Signature.{sign_of, all_kinds, first_bad, Begins};
+ghost use Rattle.signature.specs.Signature.{kind_word, sign_of, all_kinds, first_bad, Begins};
 
 use refusals::{Reason, Refusal};
 use words::{LIMIT_12, SIGNATURE_BASE, Word, word_at};
@@ -14,12 +14,22 @@ use words::{LIMIT_12, SIGNATURE_BASE, Word, word_at};
 // G is at most 4,096, so one of so many numbers.
 const GLOBALS: u32 = LIMIT_12 + 1;
 
-// The words of the kinds: a function's, which is the first, a primitive's, which is the last, and the first that is none.
-const FUNCTION: u32 = SIGNATURE_BASE;
+// What a head is, in the order of the numbers 0, 1 and 2 that say it.
+#[derive(Clone, Copy, Debug, PartialEq, Eq)]
+pub enum Kind {
+    Function,
+    Constructor,
+    Primitive,
+}
 
-const PRIMITIVE: u32 = SIGNATURE_BASE + 2;
-
-const NO_KIND: u32 = SIGNATURE_BASE + 3;
+impl Kind {
+    // The word that says it.
+    pub fn word(self) -> u32
+        ensures { result ≡ kind_word self }
+    {
+        SIGNATURE_BASE + self as u32
+    }
+}
 
 // H, G, the value-eq head and the union-to-set flag.
 #[derive(Clone, Copy)]
@@ -45,32 +55,30 @@ fn payload_at(signature: &[u8], low: u32, size: u32, at: usize) -> Result<u32, R
     }
 }
 
-// A word of kind 7 whose payload is 0, 1 or 2.
+// A word of kind 7 whose payload is a kind of heads.
 fn is_kind(w: u32) -> bool
     ensures { result ≡ within signature_base 3 w }
 {
-    FUNCTION <= w && w < NO_KIND
+    Kind::Function.word() <= w && w <= Kind::Primitive.word()
 }
 
-// The words from 4 to `end` are kinds. No branch depends on a word, so that the loop runs on many words at once.
-fn all_kinds(signature: &[u8], end: usize) -> bool
-    requires { (4 ≤ end) × (end ≤ length (words signature.now)) }
-    ensures { result ≡ all_kinds (words signature.now) (end - 4) 4 }
+// All of these words are kinds. No branch depends on a word, so that the loop runs on many words at once.
+fn all_kinds(kinds: &[u8]) -> bool
+    ensures { result ≡ all_kinds (words kinds.now) (length (words kinds.now)) 0 }
 {
     let mut good = true;
-    for i in 4..end {
-        good &= is_kind(octets::get(signature, i));
+    for i in 0..octets::count(kinds) {
+        good &= is_kind(octets::get(kinds, i));
     }
     good
 }
 
-// The first of the words from 4 to `end` that is no kind.
-fn find_bad(signature: &[u8], end: usize) -> Option<usize>
-    requires { (4 ≤ end) × (end ≤ length (words signature.now)) }
-    ensures { result ≡ first_bad (words signature.now) (end - 4) 4 }
+// The first of these words that is no kind.
+fn find_bad(kinds: &[u8]) -> Option<usize>
+    ensures { result ≡ first_bad (words kinds.now) (length (words kinds.now)) 0 }
 {
-    for i in 4..end {
-        if !is_kind(octets::get(signature, i)) {
+    for i in 0..octets::count(kinds) {
+        if !is_kind(octets::get(kinds, i)) {
             return Some(i);
         }
     }
@@ -78,13 +86,15 @@ fn find_bad(signature: &[u8], end: usize) -> Option<usize>
 }
 
 // The first kind that is bad or missing; by the quick test first, which nearly every signature passes.
+#[tactic(auto, using(octets::proofs::Words::length_words))]
 fn first_bad(signature: &[u8], end: usize) -> Option<usize>
     requires { (4 ≤ end) × (4 ≤ length (words signature.now)) }
     ensures { result ≡ first_bad (words signature.now) (end - 4) 4 }
 {
     let there = octets::count(signature).min(end);
-    if !all_kinds(signature, there) {
-        return find_bad(signature, there);
+    let kinds = octets::part(signature, 4, there - 4);
+    if !all_kinds(kinds) {
+        return Some(4 + find_bad(kinds)?);
     }
     if there < end { Some(there) } else { None }
 }
@@ -101,7 +111,7 @@ fn read_kinds(signature: &[u8], begun: Signature) -> Result<Signature, Refusal>
     if end < octets::count(signature) {
         return Err(Reason::BadSignature.at(end));
     }
-    if octets::get(signature, 4 + begun.equals as usize) == PRIMITIVE {
+    if octets::get(signature, 4 + begun.equals as usize) == Kind::Primitive.word() {
         Ok(begun)
     } else {
         Err(Reason::BadSignature.at(2))

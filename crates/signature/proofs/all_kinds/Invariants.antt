@@ -1,8 +1,7 @@
 use mathlib.Core.Path.{◌≡◌}
-use Prim.Native.Nat.{◌-◌}
 use Rattle.octets.specs.Words.{words}
 use Rattle.signature.specs.Signature.{all_kinds}
 use Rattle.signature.proofs.all_kinds.Given as goal
 
 abbrev pub invariant-loop-i : goal.invariant-loop-i
-invariant-loop-i l = l.good ≡ all_kinds (words l.signature) (l.i - 4) 4
+invariant-loop-i l = l.good ≡ all_kinds (words l.kinds) l.i 0

@@ -17,13 +17,13 @@ returns-then-end-count c =
 pub get-requires : goal.get-requires
 get-requires c = omega (arith, none_bad c.requires (sym c.in_default.is ∙ c.first_bad.ensures))
 
-pub returns-then-get-eq-PRIMITIVE : goal.returns-then-get-eq-PRIMITIVE
-returns-then-get-eq-PRIMITIVE c =
+pub returns-then-get-word : goal.returns-then-get-word
+returns-then-get-word c =
     let kinds = none_bad c.requires (sym c.in_default.is ∙ c.first_bad.ensures) in
-    signature_read kinds (omega (arith, kinds)) c.get.ensures.is c.if-get-eq-PRIMITIVE.true
+    signature_read kinds (omega (arith, kinds)) c.get.ensures.is (c.if-get-word.true ∙ c.word.ensures)
 
-pub returns-else-get-eq-PRIMITIVE : goal.returns-else-get-eq-PRIMITIVE
-returns-else-get-eq-PRIMITIVE c =
-    let a = c.at-else-get-eq-PRIMITIVE.ensures in
+pub returns-else-get-word : goal.returns-else-get-word
+returns-else-get-word c =
+    let a = c.at-else-get-word.ensures in
     let kinds = none_bad c.requires (sym c.in_default.is ∙ c.first_bad.ensures) in
-    rw (a.0, a.1) (equals_no_primitive kinds (omega (arith, kinds)) c.get.ensures.is c.if-get-eq-PRIMITIVE.false)
+    rw (a.0, a.1) (equals_no_primitive kinds (omega (arith, kinds)) c.get.ensures.is (λ e. c.if-get-word.false (e ∙ sym c.word.ensures)))

@@ -1,5 +1,6 @@
 -- Of the words from 2^27 to 2^29, those of kind 3 are from 2^28 up, and the others are equalities. Assumes nothing.
 use mathlib.Core.Path.{refl}
+use native.Mathlib.Omega.{arith}
 use Rattle.words.proofs.Ranges.{kind_range, not_kind}
 use Rattle.words.proofs.AtomLaws.{says_head, says_equality}
 use Rattle.words.proofs.atom_of.Goals as goal
@@ -13,4 +14,4 @@ returns-in-3 c =
 
 pub returns-in_default : goal.returns-in_default
 returns-in_default c =
-    says_equality (not_kind 3 28 c.args.w refl c.in_default.in_default-own.rest.1 c.requires.1) c.laid_out-in_default.ensures
+    says_equality (not_kind 3 28 c.args.w refl (omega arith) c.requires.1) c.laid_out-in_default.ensures

@@ -16,4 +16,4 @@ returns-in-1 c =
 
 pub returns-in_default : goal.returns-in_default
 returns-in_default c =
-    term_literal c.args.globals c.args.w (not_kind 1 30 c.args.w refl c.in_default.in_default-own.rest.1 (omega (arith, c.requires, c.if-globals-w.false)))
+    term_literal c.args.globals c.args.w (not_kind 1 30 c.args.w refl (omega arith) (omega (arith, c.requires, c.if-globals-w.false)))

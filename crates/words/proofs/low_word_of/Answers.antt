@@ -57,5 +57,4 @@ returns-in-7 c =
 
 pub returns-in_default : goal.returns-in_default
 returns-in_default c =
-    let r = c.in_default.in_default-own.rest in
-    answers c.args.w (unfit_low c.args.w (none_of_four 4 24 c.args.w refl r.0.0.0.1 r.0.0.1 r.0.1 r.1 c.requires))
+    answers c.args.w (unfit_low c.args.w (none_of_four 4 24 c.args.w refl (omega arith) (omega arith) (omega arith) (omega arith) c.requires))

@@ -1,9 +1,8 @@
 -- Kind 0 is 2^31 and up, kind 1 is from 2^30, and the other kinds are below. Assumes nothing.
 use mathlib.Core.Path.{refl}
 use native.Mathlib.Omega.{arith}
-use Rattle.words.proofs.Ranges.{kind_range, kind_from, past}
+use Rattle.words.proofs.Ranges.{kind_range, kind_from}
 use Rattle.words.proofs.AtomLaws.{term_fresh, term_name, term_global, term_literal}
-use Prim.Native.Nat.{zero-le}
 use Rattle.words.proofs.term_of.Goals as goal
 
 pub overflow_sub-w : goal.overflow_sub-w
@@ -25,6 +24,4 @@ returns-else-w-globals c =
     term_name c.args.globals c.args.w r.1 (omega arith)
 
 pub returns-in_default : goal.returns-in_default
-returns-in_default c =
-    let r = c.in_default.in_default-own.rest in
-    term_literal c.args.globals c.args.w (kind_from 2 30 c.args.w refl c.ranges.w.fits (past (past zero-le r.0.1) r.1))
+returns-in_default c = term_literal c.args.globals c.args.w (kind_from 2 30 c.args.w refl c.ranges.w.fits (omega arith))

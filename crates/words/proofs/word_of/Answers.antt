@@ -19,9 +19,7 @@ pub overflow_sub-p-in-3 : goal.overflow_sub-p-in-3
 overflow_sub-p-in-3 c = (kind_range 3 28 c.args.w refl c.ranges.w.fits c.in-3.is).0
 
 pub low_word_of-requires : goal.low_word_of-requires
-low_word_of-requires c =
-    let r = c.in_default.in_default-own.rest in
-    none_of_four 0 28 c.args.w refl r.0.0.0.1 r.0.0.1 r.0.1 r.1 c.ranges.w.fits
+low_word_of-requires c = none_of_four 0 28 c.args.w refl (omega arith) (omega arith) (omega arith) (omega arith) c.ranges.w.fits
 
 pub returns-in-0 : goal.returns-in-0
 returns-in-0 c =
