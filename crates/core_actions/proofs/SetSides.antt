@@ -62,7 +62,8 @@ module _ {gs ws : List ℕ} {at : ℕ} where
 
 -- ---- the flag is on, and the left side begins with w
 
-pub record Flagged {gs ws : List ℕ} {at : ℕ} (g : Begun gs ws at) (w : ℕ) : Type 0 where
+pub record Flagged (gs ws : List ℕ) (at w : ℕ) : Type 0 where
+  pub begun : Begun gs ws at
   pub on : get_or gs 3 0 ≡ signature_base + 1
   pub is : w ≡ get_or ws (at + 1) 0
 
@@ -70,7 +71,7 @@ pub record Flagged {gs ws : List ℕ} {at : ℕ} (g : Begun gs ws at) (w : ℕ) 
 abbrev pub Kind : List ℕ → ℕ → Bool → Type 0
 Kind gs w b = b ≡ eqb (get_or gs (4 + head_of w) 0) (signature_base + 1)
 
-module _ {gs ws : List ℕ} {at : ℕ} {g : Begun gs ws at} {w : ℕ} (f : Flagged g w) where
+module _ {gs ws : List ℕ} {at w : ℕ} (f : Flagged gs ws at w) where
   flagged : (sig : Sig) → Signed sig gs → sig.flag ≡ true
   flagged sig sg = sg.flag ∙ eq-eqb _ _ f.on
 
@@ -112,7 +113,7 @@ module _ {gs ws : List ℕ} {at : ℕ} {g : Begun gs ws at} {w : ℕ} (f : Flagg
 
     pub passed_inside : {p : ℕ} → Passed ws (at + 1) p → p < length ws
     passed_inside passed =
-        let q = g.known in
+        let q = f.begun.known in
         let x = q.known.0 in
         omega (arith, passed q.sig x.left q.known.1, expr_inside q.sig ws max_depth (at + 1 + x.left.size) x.right)
 
@@ -123,7 +124,7 @@ module _ {gs ws : List ℕ} {at : ℕ} {g : Begun gs ws at} {w : ℕ} (f : Flagg
 
     pub right_inside : at + 2 < length ws
     right_inside =
-        let q = g.known in
+        let q = f.begun.known in
         let x = q.known.0 in
         omega (arith, expr_inside q.sig ws max_depth (at + 1 + x.left.size) x.right, behind q.sig x q.known.1)
 

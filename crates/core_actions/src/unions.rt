@@ -11,14 +11,12 @@ ghost use Rattle.core_actions.specs.Rows.{AsksSigned, LowersUnion};
 
 use actions::{Acted, lower_change, set_name, unite};
 use head_exprs::Reading;
+use signature::Kind;
 use walks::{Stopped, Tops};
 use words::SET;
 
-// The word of a flag that is on.
+// The word of a flag that is on: it says 1.
 const FLAG_ON: u32 = words::SIGNATURE_BASE + 1;
-
-// The word of a constructor's kind.
-const CONSTRUCTOR: u32 = words::SIGNATURE_BASE + 1;
 
 // A side of a union: the one that is the constructor call of the set that the union becomes.
 #[derive(Clone, Copy)]
@@ -60,7 +58,7 @@ fn constructs(signature: &[u8], w: u32) -> bool
     ensures { result ≡ eqb (get_or (words signature.now) (4 + head_of w) 0) (signature_base + 1) }
 {
     let h = words::head_word(w).head as usize;
-    octets::get(signature, 4 + h) == CONSTRUCTOR
+    octets::get(signature, 4 + h) == Kind::Constructor.word()
 }
 
 // Which side of the union at `at` is the constructor call, where it becomes a set.
