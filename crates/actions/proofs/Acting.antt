@@ -5,9 +5,7 @@ use Prim.Native.Nat.{ℕ, ◌+◌, ◌-◌, ◌*◌, ◌^◌, ◌≤◌, ◌<◌
 use native.Mathlib.Omega.{arith}
 use lib.ListN.{length}
 use Rattle.std.specs.Prelude.{Result, Ok, Err}
-use Rattle.octets.specs.Words.{words}
 use Rattle.octets.specs.Regions.{splice}
-use Rattle.octets.proofs.Words.{length_words}
 use Rattle.rules.specs.Words.{max_depth, action_word}
 use Rattle.rules.specs.Refusals.{Res, ok, refuse, ◌>>=◌}
 use Rattle.rules.specs.Signature.{Sig}
@@ -16,27 +14,18 @@ use Rattle.rules.specs.ToCoreActions.{Done, lower_action}
 use Rattle.walks.specs.Steps.{Piece, reached_at, nothing, Kept, Walked, InAnswer, ExprAt}
 use Rattle.walks.specs.declared.Walk.{Walk}
 use Rattle.walks.specs.declared.Stopped.{Stopped}
-use Rattle.walks.specs.declared.Tops.{Tops}
 use Rattle.walks.proofs.Frames.{kept_wide}
 use Rattle.walks.proofs.Steps.{went, stop, none_walked, written}
 use Rattle.head_exprs.specs.Scopes.{Scoped, ScopeRoom, grown}
-use Rattle.head_exprs.specs.Sites.{Site, site_of, RoomAt, ScopeRoomAt, Asks, Every, WalkedAt}
+use Rattle.head_exprs.specs.Sites.{Site, RoomAt, ScopeRoomAt, Every, WalkedAt}
 use Rattle.head_exprs.specs.Lowered.{lowered}
 use Rattle.head_exprs.specs.declared.scope.Scope.{Scope}
 use Rattle.head_exprs.proofs.Scopes.{scoped_kept}
-use Rattle.head_exprs.proofs.Sites.{begun, Begun}
+use Rattle.head_exprs.proofs.Sites.{Begun}
 use Rattle.actions.specs.Acts.{done_piece, acted_at, walk_of, names_of, Gave, Quiet, Acts}
 use Rattle.actions.specs.Lowers.{second, LowersPanic, LowersExpression}
 use Rattle.actions.specs.declared.Acted.{Acted}
 use Rattle.actions.proofs.Pieces.{silent, done_expression, SameBound, same_expression}
-
--- ---- where an action stands
-
--- what is known at its start, where X stands there: what its contract requires, and that the slices fit
-pub starts : (rule scratch counters : List ℕ) {at : ℕ} {t : Tops} {scope : Scope} {X : Sig → Type 0}
-    → (let k = site_of (words rule) (words scratch) (words counters) at t scope in
-    Asks k X at → length rule < 2 ^ 64 → length scratch < 2 ^ 64 → Begun k X)
-starts rule scratch counters known rule_fits scratch_fits = begun known (omega (arith, length_words rule)) (omega (arith, length_words scratch))
 
 -- ---- from a walk to what an action leaves
 
@@ -72,10 +61,10 @@ pub record LowAt (k : Site) (p : ℕ) (s1 cs1 : List ℕ) (r : Result Walk Stopp
   pub counters : length cs1 ≡ length k.cs
 
 -- so says the contract of that walk
-pub low_at : {k : Site} {X : Sig → Type 0} {p : ℕ} {s1 cs1 : List ℕ} {r : Result Walk Stopped} → Begun k X
+pub low_at : {k : Site} {p : ℕ} {s1 cs1 : List ℕ} {r : Result Walk Stopped}
     → Every k (λ sig. ExprAt sig k.ws max_depth p) (λ sig x bound. WalkedAt k 1 (InAnswer k.lg) (lowered sig bound x.value k.cs) x.size p s1 cs1 r)
     → length s1 ≡ length k.s → length cs1 ≡ length k.cs → LowAt k p s1 cs1 r
-low_at g walk size counters = record { walk = walk; size = size; counters = counters }
+low_at walk size counters = record { walk = walk; size = size; counters = counters }
 
 -- the walk e of what stands behind the action word is done, and leaves s1: what writing three words behind it asks
 pub record Fine (k : Site) (s1 : List ℕ) (e : Walk) : Type 0 where

@@ -32,7 +32,7 @@ use Rattle.actions.specs.Lowers.{Does, second, third, SetsName, Closes}
 use Rattle.actions.specs.declared.Acted.{Acted}
 use Rattle.actions.proofs.Pieces.{done_set, same_set}
 use Rattle.actions.proofs.Acting.{acts_stop, acts_same, scope_after}
-use Rattle.actions.proofs.Changes.{Headed, Argued, Fine, TermedAt}
+use Rattle.actions.proofs.Changes.{Headed, Argued, is_fine, TermedAt}
 
 -- ---- both words are read: the name as v, and the call's kind 3 word as w
 
@@ -131,118 +131,118 @@ module _ {k : Site} {v w : ℕ} (h : Naming k v w) where
 
     -- ---- they are fine: the ways out, by whether the name may be read, b
 
-    module _ (f : Fine m) where
-      -- what the test asks
-      pub name_asks : ScopeFits s1 k.scope
-      name_asks =
-          let x = h.begun.tree.it.exprs.inside in
-          let e = m.size in
-          let fits : ScopeFits k.s k.scope = scope_fits h.begun.scope_room h.begun.room (omega arith) in
-          record { few = fits.few; body = omega (arith, fits.body); names = omega (arith, fits.names) }
+    -- what the test asks
+    pub name_asks : ScopeFits s1 k.scope
+    name_asks =
+        let x = h.begun.tree.it.exprs.inside in
+        let e = m.size in
+        let fits : ScopeFits k.s k.scope = scope_fits h.begun.scope_room h.begun.room (omega arith) in
+        record { few = fits.few; body = omega (arith, fits.body); names = omega (arith, fits.names) }
 
-      -- the arguments as if they started one word earlier, so that the name can be read behind them
-      abbrev early : Tree k (NameCall k v w) → Walk
-      early t = reached_at (k.at + 2 + t.it.call.exprs.size) a.to a.log a.term
+    -- the arguments as if they started one word earlier, so that the name can be read behind them
+    abbrev early : Tree k (NameCall k v w) → Walk
+    early t = reached_at (k.at + 2 + t.it.call.exprs.size) a.to a.log a.term
 
-      first : (t : Tree k (NameCall k v w))
-          → WalkedAt k (count_of w) (OnStack k.sp (count_of w) k.lg s1) (args t) t.it.call.exprs.size
-          (k.at + 2) s1 cs1 (Ok (early t))
-      first t = placed (k.at + 2) (early t) (args t) (walk t) refl refl refl (λ p u. record { size = u.size; terms = u.terms; uses = u.uses })
+    first : (t : Tree k (NameCall k v w))
+        → WalkedAt k (count_of w) (OnStack k.sp (count_of w) k.lg s1) (args t) t.it.call.exprs.size
+        (k.at + 2) s1 cs1 (Ok (early t))
+    first t = placed (k.at + 2) (early t) (args t) (walk t) refl refl refl (λ p u. record { size = u.size; terms = u.terms; uses = u.uses })
 
-      module _ {b : Bool} (test : Test k s1 v b) where
-        tested : (t : Tree k (NameCall k v w)) → b ≡ readable t.sig t.bound v
-        tested t =
-            let x = t.it.call.exprs in
-            let i = x.inside in
-            test t.sig t.bound (scope_after (length k.ws) x.size h.begun.scope_room (omega arith) (walk t).kept t.scoped) t.it.old
+    module _ {b : Bool} (test : Test k s1 v b) where
+      tested : (t : Tree k (NameCall k v w)) → b ≡ readable t.sig t.bound v
+      tested t =
+          let x = t.it.call.exprs in
+          let i = x.inside in
+          test t.sig t.bound (scope_after (length k.ws) x.size h.begun.scope_room (omega arith) (walk t).kept t.scoped) t.it.old
 
-        pub name_refused : {q : Refusal} → b ≡ false → (q.reason ≡ Unbound) × (q.place ≡ k.at + 1)
-            → SetsName k s1 cs1 (Err (record { refusal = q; log = a.log }))
-        name_refused {q} not is = answers (λ t. refused t (stopped t))
-          where
-            ans : Result Walk Stopped
-            ans = Err (record { refusal = q; log = a.log })
+      pub name_refused : {q : Refusal} → b ≡ false → (q.reason ≡ Unbound) × (q.place ≡ k.at + 1)
+          → SetsName k s1 cs1 (Err (record { refusal = q; log = a.log }))
+      name_refused {q} not is = answers (λ t. refused t (stopped t))
+        where
+          ans : Result Walk Stopped
+          ans = Err (record { refusal = q; log = a.log })
 
-            second : (t : Tree k (NameCall k v w)) → Walked 1 (λ b p. ⊥) (name t cs1) 1 (early t).next a.to (k.sp + count_of w) a.log s1 cs1 s1 cs1 ans
-            second t =
-                rw (lowered_leaf t.sig t.bound (k.at + 1) v cs1, sym (tested t), not)
-                (record {
-                  kept = kept_none a.to (a.to + 4 * 1) (k.sp + count_of w) (k.sp + count_of w + 1) a.log (a.log + 1) s1 cs1 (omega arith);
-                  ended = record { number = ap number_of is.0; place = is.1 };
-                })
+          second : (t : Tree k (NameCall k v w)) → Walked 1 (λ b p. ⊥) (name t cs1) 1 (early t).next a.to (k.sp + count_of w) a.log s1 cs1 s1 cs1 ans
+          second t =
+              rw (lowered_leaf t.sig t.bound (k.at + 1) v cs1, sym (tested t), not)
+              (record {
+                kept = kept_none a.to (a.to + 4 * 1) (k.sp + count_of w) (k.sp + count_of w + 1) a.log (a.log + 1) s1 cs1 (omega arith);
+                ended = record { number = ap number_of is.0; place = is.1 };
+              })
 
-            stopped : (t : Tree k (NameCall k v w)) → Walks s1 cs1 (Err (record { refusal = q; log = a.log })) t
-            stopped t =
-                let x = t.it.call.exprs in
-                let i = x.inside in
-                let many = exprs_many t.sig k.ws (max_depth - 1) (count_of w) (k.at + 3) x in
-                let halted : WalkedAt k (count_of w + 1) (λ b p. ⊥) (and_then (args t) (name t)) (x.size + 1) (k.at + 2) s1 cs1 ans =
-                walk_then x.size 1 (k.at + 2) k.to k.sp (k.sp + count_of w) k.lg k.s k.cs s1 cs1 s1 cs1 (early t)
-                (omega (arith, h.begun.room.stack)) (omega arith) (omega arith) (count_of w + 1) (λ b p. ⊥) (args t) (name t) (omega arith)
-                (first t) (second t) (λ b p q t u. u) in
-                stop (3 + x.size) k.at (and_then (args t) (name t)) (closing (action_word 2) 1 (k.at + 2) (head_of w)) halted (omega arith)
-
-        -- ---- the name is put behind them, which leaves s2
-
-        module _ (may : b ≡ true) {s2 : List ℕ} (push : s2 ≡ set s1 (k.sp + count_of w) v) where
-          -- the answer as it is when the name is read, too
-          abbrev late : Walk
-          late = reached_at a.next a.to a.log v
-
-          termed : (t : Tree k (NameCall k v w)) → TermedAt k (3 + t.it.call.exprs.size) (count_of w + 1) (and_then (args t) (name t)) s2 cs1 a
-          termed t =
+          stopped : (t : Tree k (NameCall k v w)) → Walks s1 cs1 (Err (record { refusal = q; log = a.log })) t
+          stopped t =
               let x = t.it.call.exprs in
               let i = x.inside in
               let many = exprs_many t.sig k.ws (max_depth - 1) (count_of w) (k.at + 3) x in
-              let o = went (args t) (walk t) in
-              let nx = o.next in
-              let up = o.up_to in
-              let lf = o.log_from in
-              let lu = o.log_up_to in
-              let z = m.size in
-              let r = h.begun.room in
-              let r1 : k.to + 4 * (3 + x.size) ≤ k.sp = omega (arith, r.words) in
-              let r2 : k.sp + (3 + x.size) ≤ k.lg = omega (arith, r.stack) in
-              let r3 : k.lg + (3 + x.size) ≤ length k.s = omega (arith, r.log) in
-              let second : Walked 1 (InAnswer a.log) (name t cs1) 1 (early t).next a.to (k.sp + count_of w) a.log s1 cs1 s1 cs1 (Ok late) =
-              rw (lowered_leaf t.sig t.bound (k.at + 1) v cs1, sym (tested t), may)
-              (record {
-                kept = kept_none a.to (a.to + 4 * 1) (k.sp + count_of w) (k.sp + count_of w + 1) a.log (a.log + 1) s1 cs1 (omega arith);
-                ended = (
-                  record { next = omega arith; to = omega arith; counters = refl; written = refl; fits = omega arith },
-                  record { term = refl; uses = omega arith },
-                );
-              }) in
-              let there = pushed (name t cs1) second push (omega arith) (omega arith) (omega arith) (omega arith) in
-              let all : WalkedAt k (count_of w + 1) (OnStack k.sp (count_of w + 1) k.lg s2) (and_then (args t) (name t)) (x.size + 1)
-              (k.at + 2) s2 cs1 (Ok late) =
-              walk_then x.size 1 (k.at + 2) k.to k.sp (k.sp + count_of w) k.lg k.s k.cs s1 cs1 s2 cs1 (early t)
-              (omega arith) (omega arith) (omega arith) (count_of w + 1) (OnStack k.sp (count_of w + 1) k.lg s2) (args t) (name t) (omega arith)
-              (first t) there (λ b p q y u. stacked b p q (count_of w + 1) refl (omega arith) refl there.kept y u) in
-              record {
-                behind = x.size + 1;
-                whole = omega arith;
-                walk =
-                    placed (k.at + 2) a (and_then (args t) (name t)) all (omega arith) refl refl
-                    (λ p u. record { size = u.size; terms = u.terms; uses = u.uses });
-                many = omega arith;
-                words = r1;
-                stack = r2;
-                log = r3;
-              }
+              let halted : WalkedAt k (count_of w + 1) (λ b p. ⊥) (and_then (args t) (name t)) (x.size + 1) (k.at + 2) s1 cs1 ans =
+              walk_then x.size 1 (k.at + 2) k.to k.sp (k.sp + count_of w) k.lg k.s k.cs s1 cs1 s1 cs1 (early t)
+              (omega (arith, h.begun.room.stack)) (omega arith) (omega arith) (count_of w + 1) (λ b p. ⊥) (args t) (name t) (omega arith)
+              (first t) (second t) (λ b p q t u. u) in
+              stop (3 + x.size) k.at (and_then (args t) (name t)) (closing (action_word 2) 1 (k.at + 2) (head_of w)) halted (omega arith)
 
-          -- what the end of the action asks
-          pub end_asks : length s2 ≡ length s1 → ChangeFits w (count_of w + 1) k.sp k.lg a s2 cs1
-          end_asks same =
-              let x = f.fits.0 in
-              (record { high = x.high; head = x.head; counter = x.counter; log = omega (arith, x.log); words = x.words; stack = omega (arith, f.stack) }, f.fits.1)
+      -- ---- the name is put behind them, which leaves s2
 
-          -- it leaves s3 and cs2
-          pub set_ends : {n : ℕ} {s3 cs2 : List ℕ} {r : Result Acted Stopped} → n ≡ count_of w
-              → Closes (action_word 2) w (n + 1) (k.at + 2) k.sp k.lg s2 cs1 s3 cs2 a r
-              → SetsName k s3 cs2 r
-          set_ends {n} {s3} {cs2} {r} count closes =
-              let e = subst (λ (i : ℕ). Closes (action_word 2) w (i + 1) (k.at + 2) k.sp k.lg s2 cs1 s3 cs2 a r) count closes in
-              answers
-              (λ t. done t
-              (e.1 1 k.at k.to (3 + t.it.call.exprs.size) (and_then (args t) (name t)) k.s k.cs refl (termed t)) e.0)
+      module _ (may : b ≡ true) {s2 : List ℕ} (push : s2 ≡ set s1 (k.sp + count_of w) v) where
+        -- the answer as it is when the name is read, too
+        abbrev late : Walk
+        late = reached_at a.next a.to a.log v
+
+        termed : (t : Tree k (NameCall k v w)) → TermedAt k (3 + t.it.call.exprs.size) (count_of w + 1) (and_then (args t) (name t)) s2 cs1 a
+        termed t =
+            let x = t.it.call.exprs in
+            let i = x.inside in
+            let many = exprs_many t.sig k.ws (max_depth - 1) (count_of w) (k.at + 3) x in
+            let o = went (args t) (walk t) in
+            let nx = o.next in
+            let up = o.up_to in
+            let lf = o.log_from in
+            let lu = o.log_up_to in
+            let z = m.size in
+            let r = h.begun.room in
+            let r1 : k.to + 4 * (3 + x.size) ≤ k.sp = omega (arith, r.words) in
+            let r2 : k.sp + (3 + x.size) ≤ k.lg = omega (arith, r.stack) in
+            let r3 : k.lg + (3 + x.size) ≤ length k.s = omega (arith, r.log) in
+            let second : Walked 1 (InAnswer a.log) (name t cs1) 1 (early t).next a.to (k.sp + count_of w) a.log s1 cs1 s1 cs1 (Ok late) =
+            rw (lowered_leaf t.sig t.bound (k.at + 1) v cs1, sym (tested t), may)
+            (record {
+              kept = kept_none a.to (a.to + 4 * 1) (k.sp + count_of w) (k.sp + count_of w + 1) a.log (a.log + 1) s1 cs1 (omega arith);
+              ended = (
+                record { next = omega arith; to = omega arith; counters = refl; written = refl; fits = omega arith },
+                record { term = refl; uses = omega arith },
+              );
+            }) in
+            let there = pushed (name t cs1) second push (omega arith) (omega arith) (omega arith) (omega arith) in
+            let all : WalkedAt k (count_of w + 1) (OnStack k.sp (count_of w + 1) k.lg s2) (and_then (args t) (name t)) (x.size + 1)
+            (k.at + 2) s2 cs1 (Ok late) =
+            walk_then x.size 1 (k.at + 2) k.to k.sp (k.sp + count_of w) k.lg k.s k.cs s1 cs1 s2 cs1 (early t)
+            (omega arith) (omega arith) (omega arith) (count_of w + 1) (OnStack k.sp (count_of w + 1) k.lg s2) (args t) (name t) (omega arith)
+            (first t) there (λ b p q y u. stacked b p q (count_of w + 1) refl (omega arith) refl there.kept y u) in
+            record {
+              behind = x.size + 1;
+              whole = omega arith;
+              walk =
+                  placed (k.at + 2) a (and_then (args t) (name t)) all (omega arith) refl refl
+                  (λ p u. record { size = u.size; terms = u.terms; uses = u.uses });
+              many = omega arith;
+              words = r1;
+              stack = r2;
+              log = r3;
+            }
+
+        -- what the end of the action asks
+        pub end_asks : length s2 ≡ length s1 → ChangeFits w (count_of w + 1) k.sp k.lg a s2 cs1
+        end_asks same =
+            let f = is_fine m (omega arith) in
+            let x = f.fits.0 in
+            (record { high = x.high; head = x.head; counter = x.counter; log = omega (arith, x.log); words = x.words; stack = omega (arith, f.stack) }, f.fits.1)
+
+        -- it leaves s3 and cs2
+        pub set_ends : {n : ℕ} {s3 cs2 : List ℕ} {r : Result Acted Stopped} → n ≡ count_of w
+            → Closes (action_word 2) w (n + 1) (k.at + 2) k.sp k.lg s2 cs1 s3 cs2 a r
+            → SetsName k s3 cs2 r
+        set_ends {n} {s3} {cs2} {r} count closes =
+            let e = subst (λ (i : ℕ). Closes (action_word 2) w (i + 1) (k.at + 2) k.sp k.lg s2 cs1 s3 cs2 a r) count closes in
+            answers
+            (λ t. done t
+            (e.1 1 k.at k.to (3 + t.it.call.exprs.size) (and_then (args t) (name t)) k.s k.cs refl (termed t)) e.0)

@@ -21,7 +21,7 @@ use Rattle.walks.proofs.Read.{moved}
 use Rattle.walks.proofs.Asks.{counted_kept, right_there}
 use Rattle.head_exprs.specs.Scopes.{Scoped}
 use Rattle.head_exprs.specs.Sites.{Site, site_of, ScopeRoomAt, Asks, WalkedAt}
-use Rattle.head_exprs.specs.Lowered.{lowered, LowersExpr}
+use Rattle.head_exprs.specs.Lowered.{lowered}
 use Rattle.head_exprs.proofs.Sites.{Tree, tree, Begun}
 use Rattle.actions.specs.Acts.{PairAt, acted_at, Gave}
 use Rattle.actions.specs.Lowers.{Does, Unites}
@@ -116,11 +116,6 @@ module _ {k : Site} {s1 cs1 : List ℕ} {l : Walk} (d : LeftDone k s1 cs1 l) whe
       )
 
   -- ---- the right side is lowered with the answer r, which leaves s2 and cs2
-
-  -- so says the contract of that walk
-  pub right_low : {s2 cs2 : List ℕ} {r : Result Walk Stopped}
-      → (let b = behind k s1 cs1 l in LowersExpr max_depth b s2 cs2 r → length s2 ≡ length b.s → length cs2 ≡ length b.cs → LowAt b b.at s2 cs2 r)
-  right_low walk size counters = record { walk = walk; size = size; counters = counters }
 
   record Sides (r : Walk) (p : Piece) : Type 0 where
     pub terms : p.terms ≡ l.term ∷ r.term ∷ []

@@ -10,8 +10,7 @@ ghost use Rattle.head_exprs.specs.Sites.{site_of, RoomAt, ScopeRoomAt, Asks};
 ghost use Rattle.actions.specs.Acts.{LetAt, ChangeAt, PairAt, NameCallAt, ChangeFits};
 ghost use Rattle.actions.specs.Lowers.{LowersLet, LowersChange, LowersPanic, LowersExpression, Unites, SetsName, Closes};
 
-use head_exprs::scope::Scope;
-use head_exprs::{lower, lower_all, lower_arguments};
+use head_exprs::Reading;
 use refusals::Reason;
 use walks::{Stopped, Tops, Walk};
 use words::{LET, MAX_DEPTH, PANIC, SET, UNION};
@@ -32,25 +31,26 @@ pub struct Acted {
 
 // A let, whose action word stands at `at`. Its name is tested before its expression, and bound behind it.
 pub fn lower_let(
-    rule: &[u8],
+    reading: &Reading<'_>,
     at: usize,
-    scope: Scope,
     counters: &mut [u8],
     scratch: &mut [u8],
     tops: Tops,
 ) -> Result<Acted, Stopped>
-    requires known { Asks (site_of (words rule.now) (words scratch.old) (words counters.old) at tops scope) (λ sig. LetAt sig (words rule.now) at) at }
-    requires top { scope.first + scope.names ≡ tops.sp }
-    ensures { LowersLet (site_of (words rule.now) (words scratch.old) (words counters.old) at tops scope) (words scratch.new) (words counters.new) result }
+    requires known { Asks (site_of (words reading.now.rule.now) (words scratch.old) (words counters.old) at tops reading.now.scope)
+        (λ sig. LetAt sig (words reading.now.rule.now) at) at }
+    requires top { reading.now.scope.first + reading.now.scope.names ≡ tops.sp }
+    ensures { LowersLet (site_of (words reading.now.rule.now) (words scratch.old) (words counters.old) at tops reading.now.scope)
+        (words scratch.new) (words counters.new) result }
 {
-    let name = octets::get(rule, at + 1);
-    if scope.taken(scratch, name) {
+    let name = octets::get(reading.rule, at + 1);
+    if reading.scope.taken(scratch, name) {
         return Err(Stopped {
             refusal: Reason::AlreadyDefined.at(at),
             log: tops.log,
         });
     }
-    let e = lower(rule, at + 2, MAX_DEPTH, scope, counters, scratch, tops)?;
+    let e = reading.lower(at + 2, MAX_DEPTH, counters, scratch, tops)?;
     let end = octets::rows::put_all(scratch, e.to, &[LET, name, e.term]);
     octets::put(scratch, tops.sp, name);
     Ok(Acted {
@@ -92,41 +92,41 @@ fn put_change(
 // Set, delete and subsume, and a union of a constructor call and a name: the expressions behind the kind 3 word at `at + 1`, `more` of which it
 // does not count, then one count of its head, then the action `code` of their terms.
 pub fn lower_change(
-    rule: &[u8],
+    reading: &Reading<'_>,
     at: usize,
     code: u32,
     more: usize,
-    scope: Scope,
     counters: &mut [u8],
     scratch: &mut [u8],
     tops: Tops,
 ) -> Result<Acted, Stopped>
-    requires known { Asks (site_of (words rule.now) (words scratch.old) (words counters.old) at tops scope) (λ sig. ChangeAt sig (words rule.now) more at) at }
+    requires known { Asks (site_of (words reading.now.rule.now) (words scratch.old) (words counters.old) at tops reading.now.scope)
+        (λ sig. ChangeAt sig (words reading.now.rule.now) more at) at }
     requires few { more ≤ 1 }
-    ensures { LowersChange (site_of (words rule.now) (words scratch.old) (words counters.old) at tops scope) code more
+    ensures { LowersChange (site_of (words reading.now.rule.now) (words scratch.old) (words counters.old) at tops reading.now.scope) code more
         (words scratch.new) (words counters.new) result }
 {
-    let w = octets::get(rule, at + 1);
+    let w = octets::get(reading.rule, at + 1);
     let n = words::head_word(w).count as usize + more;
-    let args = lower_arguments(rule, at + 2, n, scope, counters, scratch, tops)?;
+    let args = reading.lower_arguments(at + 2, n, counters, scratch, tops)?;
     put_change(args, at + 1, code, w, n, counters, scratch, tops)
 }
 
 // A panic, whose action word stands at `at`, with its literal.
 pub fn lower_panic(
-    rule: &[u8],
+    reading: &Reading<'_>,
     at: usize,
-    scope: Scope,
     counters: &mut [u8],
     scratch: &mut [u8],
     tops: Tops,
 ) -> Result<Acted, Stopped>
-    requires at_in_bounds { at + 1 < length (words rule.now) }
-    requires room { RoomAt (site_of (words rule.now) (words scratch.old) (words counters.old) at tops scope) at
-        × ScopeRoomAt (site_of (words rule.now) (words scratch.old) (words counters.old) at tops scope) at }
-    ensures { LowersPanic (site_of (words rule.now) (words scratch.old) (words counters.old) at tops scope) (words scratch.new) (words counters.new) result }
+    requires at_in_bounds { at + 1 < length (words reading.now.rule.now) }
+    requires room { RoomAt (site_of (words reading.now.rule.now) (words scratch.old) (words counters.old) at tops reading.now.scope) at
+        × ScopeRoomAt (site_of (words reading.now.rule.now) (words scratch.old) (words counters.old) at tops reading.now.scope) at }
+    ensures { LowersPanic (site_of (words reading.now.rule.now) (words scratch.old) (words counters.old) at tops reading.now.scope)
+        (words scratch.new) (words counters.new) result }
 {
-    let l = octets::get(rule, at + 1);
+    let l = octets::get(reading.rule, at + 1);
     let end = octets::rows::put_all(scratch, tops.to, &[PANIC, l]);
     Ok(Acted {
         next: at + 2,
@@ -139,19 +139,18 @@ pub fn lower_panic(
 
 // An expression as an action, whose action word stands at `at`: only its calls are left.
 pub fn lower_expression(
-    rule: &[u8],
+    reading: &Reading<'_>,
     at: usize,
-    scope: Scope,
     counters: &mut [u8],
     scratch: &mut [u8],
     tops: Tops,
 ) -> Result<Acted, Stopped>
-    requires { Asks (site_of (words rule.now) (words scratch.old) (words counters.old) at tops scope)
-        (λ sig. ExprAt sig (words rule.now) max_depth (at + 1)) at }
-    ensures { LowersExpression (site_of (words rule.now) (words scratch.old) (words counters.old) at tops scope)
+    requires { Asks (site_of (words reading.now.rule.now) (words scratch.old) (words counters.old) at tops reading.now.scope)
+        (λ sig. ExprAt sig (words reading.now.rule.now) max_depth (at + 1)) at }
+    ensures { LowersExpression (site_of (words reading.now.rule.now) (words scratch.old) (words counters.old) at tops reading.now.scope)
         (words scratch.new) (words counters.new) result }
 {
-    let e = lower(rule, at + 1, MAX_DEPTH, scope, counters, scratch, tops)?;
+    let e = reading.lower(at + 1, MAX_DEPTH, counters, scratch, tops)?;
     Ok(Acted {
         next: e.next,
         to: e.to,
@@ -163,19 +162,20 @@ pub fn lower_expression(
 
 // A union that stays one, whose action word stands at `at`: left, then right.
 pub fn unite(
-    rule: &[u8],
+    reading: &Reading<'_>,
     at: usize,
-    scope: Scope,
     counters: &mut [u8],
     scratch: &mut [u8],
     tops: Tops,
 ) -> Result<Acted, Stopped>
-    requires { Asks (site_of (words rule.now) (words scratch.old) (words counters.old) at tops scope) (λ sig. PairAt sig (words rule.now) at) at }
-    ensures { Unites (site_of (words rule.now) (words scratch.old) (words counters.old) at tops scope) (words scratch.new) (words counters.new) result }
+    requires { Asks (site_of (words reading.now.rule.now) (words scratch.old) (words counters.old) at tops reading.now.scope)
+        (λ sig. PairAt sig (words reading.now.rule.now) at) at }
+    ensures { Unites (site_of (words reading.now.rule.now) (words scratch.old) (words counters.old) at tops reading.now.scope)
+        (words scratch.new) (words counters.new) result }
 {
-    let left = lower(rule, at + 1, MAX_DEPTH, scope, counters, scratch, tops)?;
+    let left = reading.lower(at + 1, MAX_DEPTH, counters, scratch, tops)?;
     let behind = left.tops(tops.sp);
-    let right = lower(rule, left.next, MAX_DEPTH, scope, counters, scratch, behind)?;
+    let right = reading.lower(left.next, MAX_DEPTH, counters, scratch, behind)?;
     let end = octets::rows::put_all(scratch, right.to, &[UNION, left.term, right.term]);
     Ok(Acted {
         next: right.next,
@@ -188,21 +188,22 @@ pub fn unite(
 
 // A union of a name and a constructor call that becomes a set: the call's arguments, then the name.
 pub fn set_name(
-    rule: &[u8],
+    reading: &Reading<'_>,
     at: usize,
-    scope: Scope,
     counters: &mut [u8],
     scratch: &mut [u8],
     tops: Tops,
 ) -> Result<Acted, Stopped>
-    requires { Asks (site_of (words rule.now) (words scratch.old) (words counters.old) at tops scope) (λ sig. NameCallAt sig (words rule.now) at) at }
-    ensures { SetsName (site_of (words rule.now) (words scratch.old) (words counters.old) at tops scope) (words scratch.new) (words counters.new) result }
+    requires { Asks (site_of (words reading.now.rule.now) (words scratch.old) (words counters.old) at tops reading.now.scope)
+        (λ sig. NameCallAt sig (words reading.now.rule.now) at) at }
+    ensures { SetsName (site_of (words reading.now.rule.now) (words scratch.old) (words counters.old) at tops reading.now.scope)
+        (words scratch.new) (words counters.new) result }
 {
-    let name = octets::get(rule, at + 1);
-    let w = octets::get(rule, at + 2);
+    let name = octets::get(reading.rule, at + 1);
+    let w = octets::get(reading.rule, at + 2);
     let n = words::head_word(w).count as usize;
-    let args = lower_all(rule, at + 3, n, DEEP, scope, counters, scratch, tops)?;
-    if scope.may_read(scratch, name) {
+    let args = reading.lower_all(at + 3, n, DEEP, counters, scratch, tops)?;
+    if reading.scope.may_read(scratch, name) {
         octets::put(scratch, tops.sp + n, name);
         return put_change(args, at + 2, SET, w, n + 1, counters, scratch, tops);
     }

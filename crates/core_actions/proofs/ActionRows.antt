@@ -18,7 +18,7 @@ use Rattle.walks.proofs.Steps.{went, none_walked, walk_then, retold}
 use Rattle.walks.proofs.Read.{moved, row_cases, no_row_cases}
 use Rattle.walks.proofs.Rows.{Going, going_next}
 use Rattle.walks.proofs.Words.{words_append}
-use Rattle.head_exprs.specs.Scopes.{having, Scoped}
+use Rattle.head_exprs.specs.Scopes.{Scoped}
 use Rattle.head_exprs.specs.declared.scope.Scope.{Scope}
 use Rattle.actions.specs.Acts.{done_piece, acted_at, Acts}
 use Rattle.core_actions.specs.Rows.{ActionAt, ActionsAt, NamesAfter}
@@ -44,6 +44,10 @@ pub acts_few : {sig : Sig} {bound : List ℕ} {c : Scope} {k at to sp lg : ℕ} 
     → Acts x sig bound c k at to sp lg s cs s1 cs1 (Ok a) → (a.names ≤ 1) × (to + a.count ≤ a.to)
 acts_few (ok d) w = (w.after.0, omega (arith, w.piece.ended.0.to, w.piece.ended.1, count_words d.acts))
 acts_few (refuse n p) w = absurd w.piece.ended
+
+-- the scope with this many names let
+abbrev pub having : Scope → ℕ → Scope
+having c n = record { globals = c.globals; body = c.body; first = c.first; names = n }
 
 -- where an action that is done has come to
 abbrev pub come_to : Acted → Walk

@@ -11,13 +11,10 @@ use Rattle.rules.specs.Written.{Action}
 use Rattle.rules.specs.Flat.{CoreAction, Delete, Subsume, action_words}
 use Rattle.rules.specs.ToCoreActions.{Done, lower_change, lower_set, lower_action}
 use Rattle.std.specs.Prelude.{Result}
-use Rattle.octets.specs.Words.{words}
 use Rattle.walks.specs.Steps.{Piece, ExprAt}
 use Rattle.walks.specs.declared.Stopped.{Stopped}
-use Rattle.walks.specs.declared.Tops.{Tops}
 use Rattle.head_exprs.specs.Scopes.{Scoped}
-use Rattle.head_exprs.specs.Sites.{Site, site_of, Known, RoomAt, ScopeRoomAt, Every, WalkedAt}
-use Rattle.head_exprs.specs.declared.scope.Scope.{Scope}
+use Rattle.head_exprs.specs.Sites.{Site, Known, RoomAt, ScopeRoomAt, Every, WalkedAt}
 use Rattle.actions.specs.Acts.{done_piece, LetAt, ChangeAt, PairAt, changed, walk_of, Gave, Quiet}
 use Rattle.actions.specs.Lowers.{Does, second, LowersLet, LowersChange, LowersPanic, LowersExpression}
 use Rattle.actions.specs.declared.Acted.{Acted}
@@ -40,12 +37,11 @@ pub record Coded (gs : List ℕ) (k : Site) (w : ℕ) : Type 0 where
   pub is : w ≡ get_or k.ws k.at 0
   pub high : action_base ≤ w
 
-pub coded : (rule scratch counters : List ℕ) {gs : List ℕ} {at w : ℕ} {t : Tops} {scope : Scope}
-    → (let k = site_of (words rule) (words scratch) (words counters) at t scope in
-    AsksSigned gs k (λ sig. ActionAt sig k.ws k.at) at → scope.first + scope.names ≡ t.sp → w ≡ get_or k.ws k.at 0 → Coded gs k w)
-coded rule scratch counters {at = at} asks top is =
+pub coded : {gs : List ℕ} {k : Site} {w : ℕ} → AsksSigned gs k (λ sig. ActionAt sig k.ws k.at) k.at → k.scope.first + k.scope.names ≡ k.sp
+    → w ≡ get_or k.ws k.at 0 → Coded gs k w
+coded {k = k} asks top is =
     let q = asks.0 in
-    record { known = q; room = asks.1.0; scope_room = asks.1.1; top = top; is = is; high = omega (arith, action_high q.sig (words rule) at q.known.0) }
+    record { known = q; room = asks.1.0; scope_room = asks.1.1; top = top; is = is; high = omega (arith, action_high q.sig k.ws k.at q.known.0) }
 
 module _ {gs : List ℕ} {k : Site} {w : ℕ} (g : Coded gs k w) where
   word : (code : ℕ) → w - action_base ≡ code → get_or k.ws k.at 0 ≡ action_word code

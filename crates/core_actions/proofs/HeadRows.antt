@@ -4,7 +4,7 @@ use mathlib.Core.List.{List}
 use Prim.Native.Nat.{ℕ, ◌+◌, ◌-◌, ◌^◌, ◌≤◌, ◌<◌}
 use native.Mathlib.Omega.{arith}
 use lib.ListN.{length}
-use Rattle.std.specs.Prelude.{Result, Ok, Err}
+use Rattle.std.specs.Prelude.{Ok, Err}
 use Rattle.rules.specs.Refusals.{Res, ok, refuse}
 use Rattle.rules.specs.Signature.{Sig}
 use Rattle.rules.specs.ToCoreActions.{Done, lower_action, to_core_actions}
@@ -14,7 +14,7 @@ use Rattle.walks.specs.declared.Stopped.{Stopped}
 use Rattle.walks.proofs.Asks.{counted_kept}
 use Rattle.walks.proofs.Steps.{went, halted}
 use Rattle.walks.proofs.Rows.{Going, going_start, going_room}
-use Rattle.head_exprs.specs.Scopes.{having, Scoped}
+use Rattle.head_exprs.specs.Scopes.{Scoped}
 use Rattle.head_exprs.specs.Sites.{Site, site_of, RoomAt, ScopeRoomAt}
 use Rattle.head_exprs.specs.declared.scope.Scope.{Scope}
 use Rattle.actions.specs.Acts.{done_piece, acted_at, Acts}
@@ -22,7 +22,7 @@ use Rattle.core_actions.specs.Unions.{Signed}
 use Rattle.core_actions.specs.Rows.{ActionAt, ActionsAt, NamesAfter, row_site, KnownSigned, AsksSigned, LowersAction, ActsAll}
 use Rattle.actions.specs.declared.Acted.{Acted}
 use Rattle.core_actions.proofs.ReadActions.{action_inside}
-use Rattle.core_actions.proofs.ActionRows.{acts_few, come_to, Left, left_all, left_none, left_names, first_action, left_stop, left_next, left_going}
+use Rattle.core_actions.proofs.ActionRows.{acts_few, having, come_to, Left, left_all, left_none, left_names, first_action, left_stop, left_next, left_going}
 
 -- the head: the words of the signature, the rule, the scratch and the counters, n actions from `at` on, and where they are written
 pub record Head : Type 0 where
@@ -47,13 +47,9 @@ module _ (h : Head) where
   abbrev pub site : Site
   site = row_site h.ws h.s h.cs h.at h.to h.lg h.scope
 
-  -- what the next action is given under a scope, where the row has come to a
-  abbrev pub turn_under : Scope → List ℕ → List ℕ → Acted → Site
-  turn_under c s1 cs1 a = site_of h.ws s1 cs1 a.next (tops a.to (h.scope.first + a.names) a.log) c
-
-  -- with these names let
+  -- what the next action is given, where the row has come to a
   abbrev pub turn : List ℕ → List ℕ → Acted → Site
-  turn s1 cs1 a = turn_under (having h.scope a.names) s1 cs1 a
+  turn s1 cs1 a = site_of h.ws s1 cs1 a.next (tops a.to (h.scope.first + a.names) a.log) (having h.scope a.names)
 
 -- between two turns: `left` actions are left, of which the walk makes the whole, and the row has come to a
 pub record Row (h : Head) (left : ℕ) (s1 cs1 : List ℕ) (a : Acted) : Type 0 where
@@ -131,18 +127,15 @@ module _ {h : Head} {left : ℕ} {s1 cs1 : List ℕ} {r : Acted} (row : Row h le
     names_below = omega (arith, turn_room.stack, turn_room.log, action_inside row.known.sig h.ws r.next first, row.scratch, row.fits)
 
     -- it is lowered, which leaves s2 and cs2
-    module _ {c : Scope} (is : c ≡ having h.scope r.names) {s2 cs2 : List ℕ} where
-      does : {q : Result Acted Stopped} → LowersAction h.gs (turn_under h c s1 cs1 r) s2 cs2 q → LowersAction h.gs (turn h s1 cs1 r) s2 cs2 q
-      does {q} under = subst (λ (c : Scope). LowersAction h.gs (turn_under h c s1 cs1 r) s2 cs2 q) is under
-
+    module _ {s2 cs2 : List ℕ} where
       -- one that is refused refuses the row
-      pub row_stop : {e : Stopped} → LowersAction h.gs (turn_under h c s1 cs1 r) s2 cs2 (Err e) → ActsAll h.gs (site h) h.n s2 cs2 (Err e)
-      row_stop {e} under sig x bound n sc sg =
+      pub row_stop : {e : Stopped} → LowersAction h.gs (turn h s1 cs1 r) s2 cs2 (Err e) → ActsAll h.gs (site h) h.n s2 cs2 (Err e)
+      row_stop {e} does sig x bound n sc sg =
           let l = row.rest sig x bound n sc sg in
           let all = to_core_actions sig bound x.value h.cs in
           let v =
           left_stop sig bound h.ws h.n h.at h.to h.lg h.scope h.s h.cs x left r.names r.count s1 cs1 (come_to r) l some turn_room s2 cs2 e
-          (λ y. does under sig y l.now (counted_kept n row.counters) l.scoped sg) in
+          (λ y. does sig y l.now (counted_kept n row.counters) l.scoped sg) in
           (halted (done_piece all) v, none_after all v)
         where
           none_after : {k : ℕ} {T : Walk → Piece → Type 0} (y : Res Done) → Walked 0 T (done_piece y) k h.at h.to (sp h) h.lg h.s h.cs s2 cs2 (Err e)
@@ -151,10 +144,10 @@ module _ {h : Head} {left : ℕ} {s1 cs1 : List ℕ} {r : Acted} (row : Row h le
           none_after (refuse m p) w = tt
 
       -- and behind any other, a, one less is left
-      module _ {a : Acted} (under : LowersAction h.gs (turn_under h c s1 cs1 r) s2 cs2 (Ok a)) where
+      module _ {a : Acted} (does : LowersAction h.gs (turn h s1 cs1 r) s2 cs2 (Ok a)) where
         acts : Acts (lower_action row.known.sig here.now first.value cs1) row.known.sig here.now (having h.scope r.names) first.size
             r.next r.to (h.scope.first + r.names) r.log s1 cs1 s2 cs2 (Ok a)
-        acts = let q = row.known in does under q.sig first here.now (counted_kept q.known.1 row.counters) here.scoped q.known.3
+        acts = let q = row.known in does q.sig first here.now (counted_kept q.known.1 row.counters) here.scoped q.known.3
 
         few : (a.names ≤ 1) × (r.to + a.count ≤ a.to)
         few = acts_few (lower_action row.known.sig here.now first.value cs1) acts
@@ -182,10 +175,10 @@ module _ {h : Head} {left : ℕ} {s1 cs1 : List ℕ} {r : Acted} (row : Row h le
               going =
                   left_going q.sig q.known.2.bound h.ws h.n h.at h.to h.lg h.scope h.s h.cs q.known.0 left r.names r.count s1 cs1 (come_to r) here some
                   turn_room s2 cs2 a
-                  (λ y. does under q.sig y here.now (counted_kept q.known.1 row.counters) here.scoped q.known.3) row.room row.going;
+                  (λ y. does q.sig y here.now (counted_kept q.known.1 row.counters) here.scoped q.known.3) row.room row.going;
               written = omega (arith, few.1, row.written);
               rest =
                   λ sig x bound n sc sg. let l = row.rest sig x bound n sc sg in
                   left_next sig bound h.ws h.n h.at h.to h.lg h.scope h.s h.cs x left r.names r.count s1 cs1 (come_to r) l some turn_room s2 cs2 a
-                  (λ y. does under sig y l.now (counted_kept n row.counters) l.scoped sg);
+                  (λ y. does sig y l.now (counted_kept n row.counters) l.scoped sg);
             }

@@ -1,6 +1,6 @@
 -- Which unions become sets, from the definition and from the words that `as_set` reads. Assumes nothing.
 use mathlib.Core.Path.{◌≡◌, refl, sym, ap, ◌∙◌}
-use mathlib.Core.Bool.{Bool, true, false}
+use mathlib.Core.Bool.{Bool, true, false, ◌&&◌}
 use mathlib.Core.List.{List}
 use Prim.Native.Nat.{ℕ, ◌+◌, ◌^◌, ◌≤◌, ◌<◌}
 use native.Mathlib.Omega.{arith}
@@ -8,13 +8,14 @@ use lib.Dec.{eqb, ltb}
 use lib.ListN.{length, get_or}
 use borrow.Author.Tests.{eq-eqb, ltb-true, ltb-false, le-leb, lt-leb}
 use Rattle.rules.specs.Words.{limit12, max_depth, name_base, literal_base, head_base, signature_base, head_of}
-use Rattle.rules.specs.Signature.{Sig, heads}
+use Rattle.rules.specs.Signature.{Sig, heads, is_constructor, is_name}
 use Rattle.rules.specs.Written.{Expr, Exprs, leaf, call}
 use Rattle.walks.specs.Steps.{Under, ExprAt}
 use Rattle.walks.proofs.Read.{leaf_cases, call_cases}
 use Rattle.walks.proofs.Asks.{expr_inside}
 use Rattle.actions.specs.Acts.{PairAt}
 use Rattle.std.specs.Prelude.{Option, Some, None}
+use Rattle.std.proofs.Math.Bool.{and-false}
 use Rattle.core_actions.specs.Unions.{Signed, set_side}
 use Rattle.core_actions.specs.declared.unions.Side.{Side}
 use Rattle.core_actions.specs.declared.unions.Side.TheVariants.{Left}
@@ -61,7 +62,8 @@ module _ {gs ws : List ℕ} {at : ℕ} where
 
 -- ---- the flag is on, and the left side begins with w
 
-pub record Flagged {gs ws : List ℕ} {at : ℕ} (g : Begun gs ws at) (w : ℕ) : Type 0 where
+pub record Flagged (gs ws : List ℕ) (at w : ℕ) : Type 0 where
+  pub begun : Begun gs ws at
   pub on : get_or gs 3 0 ≡ signature_base + 1
   pub is : w ≡ get_or ws (at + 1) 0
 
@@ -69,7 +71,7 @@ pub record Flagged {gs ws : List ℕ} {at : ℕ} (g : Begun gs ws at) (w : ℕ) 
 abbrev pub Kind : List ℕ → ℕ → Bool → Type 0
 Kind gs w b = b ≡ eqb (get_or gs (4 + head_of w) 0) (signature_base + 1)
 
-module _ {gs ws : List ℕ} {at : ℕ} {g : Begun gs ws at} {w : ℕ} (f : Flagged g w) where
+module _ {gs ws : List ℕ} {at w : ℕ} (f : Flagged gs ws at w) where
   flagged : (sig : Sig) → Signed sig gs → sig.flag ≡ true
   flagged sig sg = sg.flag ∙ eq-eqb _ _ f.on
 
@@ -77,6 +79,17 @@ module _ {gs ws : List ℕ} {at : ℕ} {g : Begun gs ws at} {w : ℕ} (f : Flagg
   module _ (low : w < literal_base) where
     head_of_lem : (sig : Sig) (x : PairAt sig ws at) → heads sig ≤ limit12 → (head_base ≤ w) × (head_of w < heads sig)
     head_of_lem sig x few = call_word sig ws few (at + 1) x.left w f.is low
+
+    -- of another head
+    pub left_other : {b : Bool} → Kind gs w b → b ≡ false → Sides gs ws at None
+    left_other kind no' sig x few sg =
+        let other = sg.kinds (head_of w) (head_of_lem sig x few).1 ∙ sym kind ∙ no' in
+        side_call sig ws few (at + 1) x.left w f.is (λ t. None ≡ set_side sig t x.right.value) low
+        (λ es. by_right sig es other x.right.value)
+      where
+        by_right : (sig : Sig) (es : Exprs) → is_constructor sig (head_of w) ≡ false → (t : Expr) → None ≡ set_side sig (call (at + 1) (head_of w) es) t
+        by_right sig es other (leaf q v) = sym (rw (other, and-false (is_name v && sig.flag)))
+        by_right sig es other (call q h fs) = refl
 
     -- and behind it, at p, a right side that begins with v
     module _ {p v : ℕ} (passed : Passed ws (at + 1) p) (isv : v ≡ get_or ws p 0) where
@@ -100,7 +113,7 @@ module _ {gs ws : List ℕ} {at : ℕ} {g : Begun gs ws at} {w : ℕ} (f : Flagg
 
     pub passed_inside : {p : ℕ} → Passed ws (at + 1) p → p < length ws
     passed_inside passed =
-        let q = g.known in
+        let q = f.begun.known in
         let x = q.known.0 in
         omega (arith, passed q.sig x.left q.known.1, expr_inside q.sig ws max_depth (at + 1 + x.left.size) x.right)
 
@@ -111,6 +124,36 @@ module _ {gs ws : List ℕ} {at : ℕ} {g : Begun gs ws at} {w : ℕ} (f : Flagg
 
     pub right_inside : at + 2 < length ws
     right_inside =
-        let q = g.known in
+        let q = f.begun.known in
         let x = q.known.0 in
         omega (arith, expr_inside q.sig ws max_depth (at + 1 + x.left.size) x.right, behind q.sig x q.known.1)
+
+    -- a literal
+    pub left_literal : w < name_base → Sides gs ws at None
+    left_literal small sig x few sg =
+        side_leaf sig ws few (at + 1) x.left w f.is (λ t. None ≡ set_side sig t x.right.value) high (by_right sig x.right.value)
+      where
+        by_right : (sig : Sig) (t : Expr) → None ≡ set_side sig (leaf (at + 1) w) t
+        by_right sig (leaf q v) = refl
+        by_right sig (call q h fs) = sym (rw (lt-leb name_base w small))
+
+    -- and behind it a right side that begins with v
+    module _ {v : ℕ} (isv : v ≡ get_or ws (at + 2) 0) where
+      behind_word : (sig : Sig) (x : PairAt sig ws at) → heads sig ≤ limit12 → v ≡ get_or ws (at + 1 + x.left.size) 0
+      behind_word sig x few = isv ∙ ap (λ (i : ℕ). get_or ws i 0) (sym (behind sig x few))
+
+      -- a leaf
+      pub right_leaf : literal_base ≤ v → Sides gs ws at None
+      right_leaf leaf' sig x few sg =
+          side_leaf sig ws few (at + 1) x.left w f.is (λ t. None ≡ set_side sig t x.right.value) high
+          (side_leaf sig ws few (at + 1 + x.left.size) x.right v (behind_word sig x few) (λ t. None ≡ set_side sig (leaf (at + 1) w) t) leaf' refl)
+
+      -- a call, whose head is no constructor
+      pub right_other : v < literal_base → {b : Bool} → Kind gs v b → b ≡ false → Sides gs ws at None
+      right_other call' kind no' sig x few sg =
+          let p = at + 1 + x.left.size in
+          let isp = behind_word sig x few in
+          let other = sg.kinds (head_of v) (call_word sig ws few p x.right v isp call').1 ∙ sym kind ∙ no' in
+          side_leaf sig ws few (at + 1) x.left w f.is (λ t. None ≡ set_side sig t x.right.value) high
+          (side_call sig ws few p x.right v isp (λ t. None ≡ set_side sig (leaf (at + 1) w) t) call'
+          (λ es. sym (rw (other, and-false (is_name w && sig.flag)))))

@@ -14,6 +14,7 @@ ghost use Rattle.core_actions.specs.Rows.{ActionAt, ActionsAt, row_site, AsksSig
 
 use crate::unions::lower_union;
 use actions::{Acted, lower_change, lower_expression, lower_let, lower_panic};
+use head_exprs::Reading;
 use head_exprs::scope::Scope;
 use refusals::Reason;
 use walks::{Stopped, Tops};
@@ -22,29 +23,29 @@ use walks::{Stopped, Tops};
 // A `match` on the number: lowering decides over the codes 1 to 8 as they are written, and refuses any other.
 fn lower_action(
     signature: &[u8],
-    rule: &[u8],
+    reading: &Reading<'_>,
     at: usize,
-    scope: Scope,
     counters: &mut [u8],
     scratch: &mut [u8],
     tops: Tops,
 ) -> Result<Acted, Stopped>
-    requires known { AsksSigned (words signature.now) (site_of (words rule.now) (words scratch.old) (words counters.old) at tops scope)
-        (λ sig. ActionAt sig (words rule.now) at) at }
-    requires top { scope.first + scope.names ≡ tops.sp }
-    ensures { LowersAction (words signature.now) (site_of (words rule.now) (words scratch.old) (words counters.old) at tops scope)
+    requires known { AsksSigned (words signature.now)
+        (site_of (words reading.now.rule.now) (words scratch.old) (words counters.old) at tops reading.now.scope)
+        (λ sig. ActionAt sig (words reading.now.rule.now) at) at }
+    requires top { reading.now.scope.first + reading.now.scope.names ≡ tops.sp }
+    ensures { LowersAction (words signature.now) (site_of (words reading.now.rule.now) (words scratch.old) (words counters.old) at tops reading.now.scope)
         (words scratch.new) (words counters.new) result }
 {
-    let w = octets::get(rule, at);
+    let w = octets::get(reading.rule, at);
     let code = w - words::ACTION_BASE;
     match code {
-        1 => lower_let(rule, at, scope, counters, scratch, tops),
-        2 => lower_change(rule, at, w, 1, scope, counters, scratch, tops),
-        3 => lower_change(rule, at, w, 0, scope, counters, scratch, tops),
-        4 => lower_change(rule, at, w, 0, scope, counters, scratch, tops),
-        5 => lower_union(signature, rule, at, scope, counters, scratch, tops),
-        6 => lower_panic(rule, at, scope, counters, scratch, tops),
-        8 => lower_expression(rule, at, scope, counters, scratch, tops),
+        1 => lower_let(reading, at, counters, scratch, tops),
+        2 => lower_change(reading, at, w, 1, counters, scratch, tops),
+        3 => lower_change(reading, at, w, 0, counters, scratch, tops),
+        4 => lower_change(reading, at, w, 0, counters, scratch, tops),
+        5 => lower_union(signature, reading, at, counters, scratch, tops),
+        6 => lower_panic(reading, at, counters, scratch, tops),
+        8 => lower_expression(reading, at, counters, scratch, tops),
         _ => Err(Stopped {
             refusal: Reason::Unfit.at(at),
             log: tops.log,
@@ -53,37 +54,42 @@ fn lower_action(
 }
 
 // Lowers the n actions from `at` on. The names that they let lie behind those that the scope has, and the stack of each action behind these.
+// `to` and `log` come apart from a `Tops`, which would hold a stack's place beside them: here that is the scope's to say.
 pub fn to_core_actions(
     signature: &[u8],
-    rule: &[u8],
+    reading: &Reading<'_>,
     at: usize,
     n: usize,
-    scope: Scope,
     counters: &mut [u8],
     scratch: &mut [u8],
     to: usize,
     log: usize,
 ) -> Result<Acted, Stopped>
-    requires { AsksSigned (words signature.now) (row_site (words rule.now) (words scratch.old) (words counters.old) at to log scope)
-        (λ sig. ActionsAt sig (words rule.now) n at) at }
-    ensures { ActsAll (words signature.now) (row_site (words rule.now) (words scratch.old) (words counters.old) at to log scope) n
+    requires { AsksSigned (words signature.now) (row_site (words reading.now.rule.now) (words scratch.old) (words counters.old) at to log reading.now.scope)
+        (λ sig. ActionsAt sig (words reading.now.rule.now) n at) at }
+    ensures { ActsAll (words signature.now) (row_site (words reading.now.rule.now) (words scratch.old) (words counters.old) at to log reading.now.scope) n
         (words scratch.new) (words counters.new) result }
 {
     let mut row = Acted {
         next: at,
         to,
         log,
-        names: scope.names,
+        names: reading.scope.names,
         count: 0,
     };
+    // A `for` over the count: where the next action stands is told only by the walk over the one before it.
     for _ in 0..n {
-        let now = scope.with_names(row.names);
+        let scope = Scope {
+            names: row.names,
+            ..reading.scope
+        };
+        let now = Reading { scope, ..*reading };
         let tops = Tops {
             to: row.to,
-            sp: scope.first + row.names,
+            sp: reading.scope.first + row.names,
             log: row.log,
         };
-        let one = lower_action(signature, rule, row.next, now, counters, scratch, tops)?;
+        let one = lower_action(signature, &now, row.next, counters, scratch, tops)?;
         row = Acted {
             names: row.names + one.names,
             count: row.count + one.count,

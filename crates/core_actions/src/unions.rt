@@ -10,12 +10,13 @@ ghost use Rattle.core_actions.specs.Unions.{Signed, set_side, arity_of};
 ghost use Rattle.core_actions.specs.Rows.{AsksSigned, LowersUnion};
 
 use actions::{Acted, lower_change, set_name, unite};
-use head_exprs::scope::Scope;
+use head_exprs::Reading;
+use signature::Kind;
 use walks::{Stopped, Tops};
 use words::SET;
 
-// The word of a signature that says 1: the flag is on, a head is a constructor.
-const ONE: u32 = words::SIGNATURE_BASE + 1;
+// The word of a flag that is on: it says 1.
+const FLAG_ON: u32 = words::SIGNATURE_BASE + 1;
 
 // A side of a union: the one that is the constructor call of the set that the union becomes.
 #[derive(Clone, Copy)]
@@ -57,7 +58,7 @@ fn constructs(signature: &[u8], w: u32) -> bool
     ensures { result ≡ eqb (get_or (words signature.now) (4 + head_of w) 0) (signature_base + 1) }
 {
     let h = words::head_word(w).head as usize;
-    octets::get(signature, 4 + h) == ONE
+    octets::get(signature, 4 + h) == Kind::Constructor.word()
 }
 
 // Which side of the union at `at` is the constructor call, where it becomes a set.
@@ -66,26 +67,19 @@ fn as_set(signature: &[u8], rule: &[u8], at: usize) -> Option<Side>
     ensures { (sig : Sig) (x : PairAt sig (words rule.now) at)
         → heads sig ≤ limit12 → Signed sig (words signature.now) → result ≡ set_side sig x.left.value x.right.value }
 {
-    if octets::get(signature, 3) != ONE {
+    if octets::get(signature, 3) != FLAG_ON {
         return None;
     }
     let left = octets::get(rule, at + 1);
-    if !words::is_leaf(left) {
-        if constructs(signature, left) {
-            let right = octets::get(rule, skip(rule, at + 1));
-            if words::NAME_BASE <= right {
-                return Some(Side::Left);
-            }
+    if words::is_leaf(left) {
+        let right = octets::get(rule, at + 2);
+        if words::NAME_BASE <= left && !words::is_leaf(right) && constructs(signature, right) {
+            return Some(Side::Right);
         }
         return None;
     }
-    if words::NAME_BASE <= left {
-        let right = octets::get(rule, at + 2);
-        if !words::is_leaf(right) {
-            if constructs(signature, right) {
-                return Some(Side::Right);
-            }
-        }
+    if constructs(signature, left) && words::NAME_BASE <= octets::get(rule, skip(rule, at + 1)) {
+        return Some(Side::Left);
     }
     None
 }
@@ -93,21 +87,20 @@ fn as_set(signature: &[u8], rule: &[u8], at: usize) -> Option<Side>
 // A union, whose action word stands at `at`.
 pub fn lower_union(
     signature: &[u8],
-    rule: &[u8],
+    reading: &Reading<'_>,
     at: usize,
-    scope: Scope,
     counters: &mut [u8],
     scratch: &mut [u8],
     tops: Tops,
 ) -> Result<Acted, Stopped>
-    requires { AsksSigned (words signature.now) (site_of (words rule.now) (words scratch.old) (words counters.old) at tops scope)
-        (λ sig. PairAt sig (words rule.now) at) at }
-    ensures { LowersUnion (words signature.now) (site_of (words rule.now) (words scratch.old) (words counters.old) at tops scope)
+    requires { AsksSigned (words signature.now) (site_of (words reading.now.rule.now) (words scratch.old) (words counters.old) at tops reading.now.scope)
+        (λ sig. PairAt sig (words reading.now.rule.now) at) at }
+    ensures { LowersUnion (words signature.now) (site_of (words reading.now.rule.now) (words scratch.old) (words counters.old) at tops reading.now.scope)
         (words scratch.new) (words counters.new) result }
 {
-    match as_set(signature, rule, at) {
-        Some(Side::Left) => lower_change(rule, at, SET, 1, scope, counters, scratch, tops),
-        Some(Side::Right) => set_name(rule, at, scope, counters, scratch, tops),
-        None => unite(rule, at, scope, counters, scratch, tops),
+    match as_set(signature, reading.rule, at) {
+        Some(Side::Left) => lower_change(reading, at, SET, 1, counters, scratch, tops),
+        Some(Side::Right) => set_name(reading, at, counters, scratch, tops),
+        None => unite(reading, at, counters, scratch, tops),
     }
 }

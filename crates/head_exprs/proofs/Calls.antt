@@ -78,14 +78,15 @@ module _ {k : Place} {B : Sig → List ℕ → Type 0} (g : Begun k B) where
 
 -- ---- it is a call's
 
-pub record Called {k : Place} {B : Sig → List ℕ → Type 0} (g : Begun k B) : Type 0 where
+pub record Called (k : Place) (B : Sig → List ℕ → Type 0) : Type 0 where
+  pub begun : Begun k B
   pub low : k.w < literal_base
-  pub facts : CallFacts g.known.sig k.ws k.d k.at k.w k.cs
+  pub facts : CallFacts begun.known.sig k.ws k.d k.at k.w k.cs
 
-pub called : {k : Place} {B : Sig → List ℕ → Type 0} (g : Begun k B) → k.w < literal_base → Called g
+pub called : {k : Place} {B : Sig → List ℕ → Type 0} → Begun k B → k.w < literal_base → Called k B
 called {k} g low =
     let q = g.known in
-    record { low = low; facts = call_facts q.sig k.ws k.d k.at k.cs k.w q.known.0 q.known.1 g.is low }
+    record { begun = g; low = low; facts = call_facts q.sig k.ws k.d k.at k.cs k.w q.known.0 q.known.1 g.is low }
 
 one_more : (n : ℕ) → n ≤ 1 + n
 one_more n = omega arith
@@ -94,13 +95,13 @@ one_more n = omega arith
 abbrev Args : Place → Sig → Type 0
 Args k sig = ExprsAt sig k.ws (k.d - 1) (count_of k.w) (k.at + 1)
 
-module _ {k : Place} {B : Sig → List ℕ → Type 0} {g : Begun k B} (h : Called g) where
+module _ {k : Place} {B : Sig → List ℕ → Type 0} (h : Called k B) where
   by_args : {s' cs' : List ℕ} {r : Result Walk Stopped}
       → ((sig : Sig) (es : Args k sig) (bound : List ℕ) → Counted sig k.cs → B sig bound
       → Ends k (and_call k.at (head_of k.w) (lowered_all sig bound es.value k.cs)) (1 + es.size) s' cs' r)
       → Answers k B s' cs' r
   by_args {s'} {cs'} {r} f sig x bound n i =
-      call_cases sig k.ws n.few (λ t m. Ends k (lowered sig bound t k.cs) m s' cs' r) k.d k.at k.w x g.is h.low
+      call_cases sig k.ws n.few (λ t m. Ends k (lowered sig bound t k.cs) m s' cs' r) k.d k.at k.w x h.begun.is h.low
       (λ es deep high hd. rw (lowered_call sig bound k.at (head_of k.w) es.value k.cs) (f sig es bound n i))
 
 -- what the contract of their walk says, where they are n
@@ -111,7 +112,8 @@ Rowed k B n s1 cs1 r =
 
 -- ---- its arguments are walked with the answer r, which leaves s1 and cs1
 
-pub record Argued {k : Place} {B : Sig → List ℕ → Type 0} {g : Begun k B} (h : Called g) (s1 cs1 : List ℕ) (r : Result Walk Stopped) : Type 0 where
+pub record Argued (k : Place) (B : Sig → List ℕ → Type 0) (s1 cs1 : List ℕ) (r : Result Walk Stopped) : Type 0 where
+  pub called : Called k B
   pub walk : (sig : Sig) (es : Args k sig) (bound : List ℕ) → Counted sig k.cs → B sig bound
       → Walked (count_of k.w) (OnStack k.sp (count_of k.w) k.lg s1) (lowered_all sig bound es.value k.cs) es.size
       (k.at + 1) k.to k.sp k.lg k.s k.cs s1 cs1 r
@@ -119,10 +121,11 @@ pub record Argued {k : Place} {B : Sig → List ℕ → Type 0} {g : Begun k B} 
   pub scratch : length s1 ≡ length k.s
 
 -- so it is behind a walk over n of them
-pub argued : {k : Place} {B : Sig → List ℕ → Type 0} {g : Begun k B} (h : Called g) {n : ℕ} {s1 cs1 : List ℕ} {r : Result Walk Stopped}
-    → n ≡ count_of k.w → Rowed k B n s1 cs1 r → length cs1 ≡ length k.cs → length s1 ≡ length k.s → Argued h s1 cs1 r
+pub argued : {k : Place} {B : Sig → List ℕ → Type 0} → Called k B → {n : ℕ} {s1 cs1 : List ℕ} {r : Result Walk Stopped}
+    → n ≡ count_of k.w → Rowed k B n s1 cs1 r → length cs1 ≡ length k.cs → length s1 ≡ length k.s → Argued k B s1 cs1 r
 argued {k} {B} h {n} {s1} {cs1} {r} count walk counters scratch =
     record {
+      called = h;
       walk =
           λ sig es bound c i. retold (lowered_all sig bound es.value k.cs) (subst (λ (j : ℕ). Rowed k B j s1 cs1 r) count walk sig es bound c i) (λ a p u. u.0);
       counters = counters;
@@ -130,28 +133,31 @@ argued {k} {B} h {n} {s1} {cs1} {r} count walk counters scratch =
     }
 
 -- there are none
-pub bare : {k : Place} {B : Sig → List ℕ → Type 0} {g : Begun k B} (h : Called g) {u : ℕ} → count_of k.w ≡ 0 → Argued h k.s k.cs (Ok (reached_at (k.at + 1) k.to k.lg u))
+pub bare : {k : Place} {B : Sig → List ℕ → Type 0} → Called k B → {u : ℕ} → count_of k.w ≡ 0 → Argued k B k.s k.cs (Ok (reached_at (k.at + 1) k.to k.lg u))
 bare {k} h {u} zero =
     record {
+      called = h;
       walk = λ sig es bound n i. none_way sig bound k.ws (k.d - 1) (count_of k.w) (k.at + 1) k.to k.sp k.lg u k.s k.cs zero es;
       counters = refl;
       scratch = refl;
     }
 
-module _ {k : Place} {B : Sig → List ℕ → Type 0} {g : Begun k B} {h : Called g} {s1 cs1 : List ℕ} where
+module _ {k : Place} {B : Sig → List ℕ → Type 0} {s1 cs1 : List ℕ} where
   -- one that is refused refuses the call
-  pub args_refused : {e : Stopped} → Argued h s1 cs1 (Err e) → Answers k B s1 cs1 (Err e)
+  pub args_refused : {e : Stopped} → Argued k B s1 cs1 (Err e) → Answers k B s1 cs1 (Err e)
   args_refused m =
-      by_args h
+      by_args m.called
       (λ sig es bound n i. stop (1 + es.size) k.at (lowered_all sig bound es.value k.cs)
       (λ q. ◌>>=◌ (fresh k.at (head_of k.w) q.next) (λ f. ok (call_piece (head_of k.w) q f))) (m.walk sig es bound n i) (one_more es.size))
 
 -- ---- they are fine: a
 
-module _ {k : Place} {B : Sig → List ℕ → Type 0} {g : Begun k B} {h : Called g} {s1 cs1 : List ℕ} {a : Walk} (m : Argued h s1 cs1 (Ok a)) where
+module _ {k : Place} {B : Sig → List ℕ → Type 0} {s1 cs1 : List ℕ} {a : Walk} (m : Argued k B s1 cs1 (Ok a)) where
   -- room for its end
   end_fits : UseFits 3 k.w (count_of k.w) k.sp a s1 cs1
   end_fits =
+      let h = m.called in
+      let g = h.begun in
       let q = g.known in
       let es = h.facts.args in
       let o = went (lowered_all q.sig g.bound es.value k.cs) (m.walk q.sig es g.bound q.known.1 g.binds) in
@@ -176,7 +182,7 @@ module _ {k : Place} {B : Sig → List ℕ → Type 0} {g : Begun k B} {h : Call
 
   -- and with it the call is lowered
   pub call_answer : {n : ℕ} {s2 cs2 : List ℕ} {r : Result Walk Stopped} → n ≡ count_of k.w → Binds k.w n k.at k.sp s1 cs1 s2 cs2 a r → Answers k B s2 cs2 r
-  call_answer {n} {s2} {cs2} {r} count binds = by_args h done
+  call_answer {n} {s2} {cs2} {r} count binds = by_args m.called done
     where
       end : Binds k.w (count_of k.w) k.at k.sp s1 cs1 s2 cs2 a r
       end = subst (λ (j : ℕ). Binds k.w j k.at k.sp s1 cs1 s2 cs2 a r) count binds
@@ -185,13 +191,14 @@ module _ {k : Place} {B : Sig → List ℕ → Type 0} {g : Begun k B} {h : Call
           → Ends k (and_call k.at (head_of k.w) (lowered_all sig bound es.value k.cs)) (1 + es.size) s2 cs2 r
       done sig es bound n i =
           let inside = es.inside in
+          let room = m.called.begun.room in
           end k.at k.to (1 + es.size) k.lg (lowered_all sig bound es.value k.cs) k.s k.cs
           (record {
             behind = es.size;
             whole = refl;
             walk = m.walk sig es bound n i;
             many = exprs_many sig k.ws (k.d - 1) (count_of k.w) (k.at + 1) es;
-            words = omega (arith, g.room.words);
-            stack = omega (arith, g.room.stack);
-            log = omega (arith, g.room.log);
+            words = omega (arith, room.words);
+            stack = omega (arith, room.stack);
+            log = omega (arith, room.log);
           })

@@ -8,7 +8,7 @@ use native.Mathlib.Numerals.{add-one}
 use native.Mathlib.Omega.{arith}
 use lib.ListN.{length, get_or, set}
 use Rattle.octets.specs.Regions.{splice, part}
-use Rattle.octets.proofs.Splice.{length_part, part_more, splice_nil, splice_snoc, length_splice, get_or_splice_before, get_or_splice_after}
+use Rattle.octets.proofs.Splice.{length_part, part_front, part_more, splice_nil, splice_snoc, length_splice, get_or_splice_before, get_or_splice_after}
 use Rattle.rules.specs.Words.{name_base}
 use Rattle.rules.specs.Refusals.{Res}
 use Rattle.rules.specs.Signature.{Sig}
@@ -29,7 +29,7 @@ use Rattle.head_exprs.proofs.Scopes.{scoped_kept, reads_low}
 use Rattle.head_exprs.proofs.Pieces.{lowered_row}
 use Rattle.head_exprs.proofs.Expressions.{standing, read_way}
 use Rattle.head_exprs.specs.Sites.{Site, site_of, Asks, WalkedAt}
-use Rattle.head_exprs.proofs.Sites.{Tree, Begun}
+use Rattle.head_exprs.proofs.Sites.{Tree, Begun, begun_as}
 
 -- words go onto the stack, and nothing else is done
 kept_stack : (to te sp se lg le : ℕ) (xs s cs s' : List ℕ) → to ≤ sp → sp + length xs ≤ se → sp + length xs ≤ length s → lg ≤ le
@@ -54,20 +54,25 @@ kept_stack to te sp se lg le xs s cs s' a b r h e =
 pub record Row (k : Site) (d n : ℕ) (sig : Sig) : Type 0 where
   pub exprs : ExprsAt sig k.ws d n k.at
 
+pub row : {k : Site} {d n : ℕ} → Begun k (λ sig. ExprsAt sig k.ws d n k.at) → Begun k (Row k d n)
+row g = begun_as g (λ sig x. record { exprs = x })
+
 -- the last of the globals, or of the literals where there are none
 abbrev pub last : Site → ℕ
 last k = name_base + k.scope.globals - 1
 
 module _ {k : Site} {d n : ℕ} (g : Begun k (Row k d n)) where
-  -- what putting the words up to it onto the stack asks
-  pub front_room : (k.at + n ≤ length k.ws) × (k.sp + n ≤ length k.s)
-  front_room =
-      let x = g.tree.it.exprs in
-      let i : k.at + n ≤ length k.ws = omega (arith, exprs_many g.tree.sig k.ws d n k.at x, x.inside) in
-      (i, omega (arith, g.room.stack, g.room.log))
+  -- it has as many words as expressions, or more
+  pub row_inside : k.at + n ≤ length k.ws
+  row_inside = let x = g.tree.it.exprs in omega (arith, exprs_many g.tree.sig k.ws d n k.at x, x.inside)
+
+  -- room for as many words on the stack
+  pub front_room : {row : List ℕ} → row ≡ part k.ws k.at n → k.sp + length row ≤ length k.s
+  front_room is = omega (arith, row_inside, g.room.stack, g.room.log, ap length is, length_part k.ws k.at n row_inside)
 
 -- the first i of them are on the stack, which leaves s0
-pub record Stacked {k : Site} {d n : ℕ} (g : Begun k (Row k d n)) (i : ℕ) (s0 : List ℕ) : Type 0 where
+pub record Stacked (k : Site) (d n i : ℕ) (s0 : List ℕ) : Type 0 where
+  pub begun : Begun k (Row k d n)
   pub plain : (j : ℕ) → j < i → Leaf (last k) (get_or k.ws (k.at + j) 0)
   pub put : s0 ≡ splice k.s k.sp (part k.ws k.at i)
   pub size : length s0 ≡ length k.s
@@ -75,20 +80,24 @@ pub record Stacked {k : Site} {d n : ℕ} (g : Begun k (Row k d n)) (i : ℕ) (s
   pub inside : k.at + n ≤ length k.ws
   pub stack : k.sp + n ≤ length k.s
 
-pub stacked : {k : Site} {d n : ℕ} (g : Begun k (Row k d n)) {i : ℕ} {s0 : List ℕ} → length s0 ≡ length k.s
-    → (i ≡ leaves_up_to (last k) (part k.ws k.at n)) × (s0 ≡ splice k.s k.sp (part k.ws k.at i)) → Stacked g i s0
-stacked {k} {d} {n} g {i} size e =
-    let r = front_room g in
+-- so it is behind a walk over the words of the row
+pub stacked : {k : Site} {d n : ℕ} → Begun k (Row k d n) → {i : ℕ} {row s0 : List ℕ} → length s0 ≡ length k.s → row ≡ part k.ws k.at n
+    → (i ≡ leaves_up_to (last k) row) × (s0 ≡ splice k.s k.sp (part row 0 i)) → Stacked k d n i s0
+stacked {k} {d} {n} g {i} size is e =
+    let inside = row_inside g in
+    let count : i ≡ leaves_up_to (last k) (part k.ws k.at n) = e.0 ∙ ap (leaves_up_to (last k)) is in
+    let most : i ≤ n = omega (arith, count, leaves_most (last k) k.ws k.at n inside) in
     record {
-      plain = λ j h. leaves_each (last k) k.ws k.at n r.0 j (subst (λ (m : ℕ). j < m) e.0 h);
-      put = e.1;
+      begun = g;
+      plain = λ j h. leaves_each (last k) k.ws k.at n inside j (subst (λ (m : ℕ). j < m) count h);
+      put = e.1 ∙ ap (splice k.s k.sp) (ap (λ (l : List ℕ). part l 0 i) is ∙ part_front k.ws k.at n i most);
       size = size;
-      most = omega (arith, e.0, leaves_most (last k) k.ws k.at n r.0);
-      inside = r.0;
-      stack = r.1;
+      most = most;
+      inside = inside;
+      stack = omega (arith, inside, g.room.stack, g.room.log);
     }
 
-module _ {k : Site} {d n : ℕ} {g : Begun k (Row k d n)} {i : ℕ} {s0 : List ℕ} (f : Stacked g i s0) where
+module _ {k : Site} {d n i : ℕ} {s0 : List ℕ} (f : Stacked k d n i s0) where
   -- ---- each is a turn of the walk over the row
 
   module _ (t : Tree k (Row k d n)) where
@@ -127,11 +136,11 @@ module _ {k : Site} {d n : ℕ} {g : Begun k (Row k d n)} {i : ℕ} {s0 : List �
         let xs : List ℕ = part k.ws k.at j in
         let sj : List ℕ = splice k.s k.sp xs in
         let len : length xs ≡ j = length_part k.ws k.at j (omega arith) in
-        let stack = g.room.stack in
-        let log = g.room.log in
+        let stack = f.begun.room.stack in
+        let log = f.begun.room.log in
         let size : length sj ≡ length k.s = length_splice k.s k.sp xs (omega arith) in
         let now : Room (length k.ws) at (tops k.to (k.sp + j) k.lg) (length sj) =
-        record { words = omega (arith, g.room.words); stack = omega arith; log = omega arith } in
+        record { words = omega (arith, f.begun.room.words); stack = omega arith; log = omega arith } in
         let plain = f.plain j (omega arith) in
         let there : part k.ws k.at (suc j) ≡ xs ++ (w ∷ []) = ap (part k.ws k.at) (sym (add-one j)) ∙ part_more k.ws k.at j (omega arith) in
         let put : s1 ≡ set sj (k.sp + j) w =
@@ -151,8 +160,8 @@ module _ {k : Site} {d n : ℕ} {g : Begun k (Row k d n)} {i : ℕ} {s0 : List �
     front_scoped =
         let m = f.most in
         let x = f.inside in
-        let r = g.room in
-        let sr = g.scope_room in
+        let r = f.begun.room in
+        let sr = f.begun.scope_room in
         let len : length (part k.ws k.at i) ≡ i = length_part k.ws k.at i (omega arith) in
         scoped_kept
         (kept_stack k.to k.to k.sp (k.sp + i) k.lg k.lg (part k.ws k.at i) k.s k.cs s0
@@ -168,9 +177,9 @@ module _ {k : Site} {d n : ℕ} {g : Begun k (Row k d n)} {i : ℕ} {s0 : List �
   -- what it asks
   pub rest_asks : Asks behind (λ sig. ExprsAt sig k.ws d (n - i) (k.at + i)) (k.at + i)
   rest_asks =
-      let t = g.tree in
-      let r = g.room in
-      let sr = g.scope_room in
+      let t = f.begun.tree in
+      let r = f.begun.room in
+      let sr = f.begun.scope_room in
       let size = f.size in (
         record { sig = t.sig; known = ((front_left t).rest, t.counted, record { bound = t.bound; scoped = front_scoped t }) },
         (

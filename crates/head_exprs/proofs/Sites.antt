@@ -4,10 +4,14 @@ use mathlib.Core.List.{List}
 use Prim.Native.Nat.{ℕ, ◌^◌, ◌≤◌, ◌<◌}
 use native.Mathlib.Omega.{arith}
 use lib.ListN.{length}
+use Rattle.octets.specs.Words.{words}
+use Rattle.octets.proofs.Words.{length_words}
 use Rattle.rules.specs.Signature.{Sig}
 use Rattle.walks.specs.Steps.{Counted}
+use Rattle.walks.specs.declared.Tops.{Tops}
 use Rattle.head_exprs.specs.Scopes.{Scoped}
-use Rattle.head_exprs.specs.Sites.{Site, RoomAt, ScopeRoomAt, Asks}
+use Rattle.head_exprs.specs.Sites.{Site, site_of, RoomAt, ScopeRoomAt, Asks}
+use Rattle.head_exprs.specs.declared.Reading.{Reading}
 
 -- a signature under which X stands there, and the names bound
 pub record Tree (k : Site) (X : Sig → Type 0) : Type 0 where
@@ -52,3 +56,13 @@ asks g p h =
         record { few = sr.few; body = sr.body; names = omega (arith, sr.names); top = sr.top },
       ),
     )
+
+-- ---- where a call of the code stands, by what it is given
+
+abbrev pub site : Reading → (scratch counters : List ℕ) (at : ℕ) → Tops → Site
+site r scratch counters at t = site_of (words r.rule.now) (words scratch) (words counters) at t r.scope
+
+-- what is known at its start, where X stands there: what its contract requires, and that the slices fit
+pub starts : (r : Reading) (scratch counters : List ℕ) {at : ℕ} {t : Tops} {X : Sig → Type 0}
+    → (let k = site r scratch counters at t in Asks k X at → length r.rule.now < 2 ^ 64 → length scratch < 2 ^ 64 → Begun k X)
+starts r scratch counters known fr fs = begun known (omega (arith, length_words r.rule.now)) (omega (arith, length_words scratch))

@@ -10,10 +10,6 @@ use Rattle.head_exprs.specs.declared.scope.Scope.{Scope}
 abbrev pub first_scope : (globals body first : ℕ) → Scope
 first_scope g b f = record { globals = g; body = b; first = f; names = 0 }
 
--- the scope with this many names let
-abbrev pub having : Scope → ℕ → Scope
-having c n = record { globals = c.globals; body = c.body; first = c.first; names = n }
-
 unfoldable pub in_scope : List ℕ → Scope → ℕ → Bool
 in_scope s c w = elem w (part s 0 c.body) || elem w (part s c.first c.names)
 

@@ -18,6 +18,13 @@ use crate::scope::Scope;
 use refusals::Reason;
 use walks::{Stopped, Tops, Walk};
 
+// What the head's expressions are read by: the rule's words, and which names are bound there.
+#[derive(Clone, Copy)]
+pub struct Reading<'a> {
+    pub rule: &'a [u8],
+    pub scope: Scope,
+}
+
 // The end of a call: behind the walk `args` over its n arguments, whose terms are on the stack, the fresh variable of the head of its kind 3 word w is
 // taken, and its action written. Where no count is left, it is refused at `place`.
 fn put_called(
@@ -43,113 +50,101 @@ fn put_called(
     })
 }
 
-// Lowers the expression at `at`, which is at most `depth` deep. A call without arguments sets up no walk over them.
-#[cycle(lower_lower_all)]
-pub fn lower(
-    rule: &[u8],
-    at: usize,
-    depth: u32,
-    scope: Scope,
-    counters: &mut [u8],
-    scratch: &mut [u8],
-    tops: Tops,
-) -> Result<Walk, Stopped>
-    requires { Asks (site_of (words rule.now) (words scratch.old) (words counters.old) at tops scope) (λ sig. ExprAt sig (words rule.now) depth at) at }
-    ensures { LowersExpr depth (site_of (words rule.now) (words scratch.old) (words counters.old) at tops scope)
-        (words scratch.new) (words counters.new) result }
-{
-    let w = octets::get(rule, at);
-    let here = Walk {
-        next: at + 1,
-        to: tops.to,
-        log: tops.log,
-        term: w,
-    };
-    if words::is_leaf(w) {
-        if scope.may_read(scratch, w) {
-            return Ok(here);
-        }
-        return Err(Stopped {
-            refusal: Reason::Unbound.at(at),
+impl Reading<'_> {
+    // Lowers the expression at `at`, which is at most `depth` deep. A call without arguments sets up no walk over them.
+    #[cycle(lower_lower_all)]
+    pub fn lower(
+        &self,
+        at: usize,
+        depth: u32,
+        counters: &mut [u8],
+        scratch: &mut [u8],
+        tops: Tops,
+    ) -> Result<Walk, Stopped>
+        requires { Asks (site_of (words self.now.rule.now) (words scratch.old) (words counters.old) at tops self.now.scope)
+            (λ sig. ExprAt sig (words self.now.rule.now) depth at) at }
+        ensures { LowersExpr depth (site_of (words self.now.rule.now) (words scratch.old) (words counters.old) at tops self.now.scope)
+            (words scratch.new) (words counters.new) result }
+    {
+        let w = octets::get(self.rule, at);
+        let here = Walk {
+            next: at + 1,
+            to: tops.to,
             log: tops.log,
-        });
+            term: w,
+        };
+        if words::is_leaf(w) {
+            if self.scope.may_read(scratch, w) {
+                return Ok(here);
+            }
+            return Err(Stopped {
+                refusal: Reason::Unbound.at(at),
+                log: tops.log,
+            });
+        }
+        let n = words::head_word(w).count as usize;
+        if n == 0 {
+            return put_called(here, at, w, n, counters, scratch, tops.sp);
+        }
+        let less = depth - 1;
+        let args = self.lower_all(here.next, n, less, counters, scratch, tops)?;
+        put_called(args, at, w, n, counters, scratch, tops.sp)
     }
-    let n = words::head_word(w).count as usize;
-    if n == 0 {
-        return put_called(here, at, w, n, counters, scratch, tops.sp);
-    }
-    let less = depth - 1;
-    let args = lower_all(rule, here.next, n, less, scope, counters, scratch, tops)?;
-    put_called(args, at, w, n, counters, scratch, tops.sp)
-}
 
-// Lowers the n expressions from `at` on; their terms go onto the stack.
-// Inlined by hand: else the compiler makes a call for each expression with arguments, a fifth of the time of lowering a head.
-#[cycle(lower_lower_all)]
-#[inline(always)]
-pub fn lower_all(
-    rule: &[u8],
-    at: usize,
-    n: usize,
-    depth: u32,
-    scope: Scope,
-    counters: &mut [u8],
-    scratch: &mut [u8],
-    tops: Tops,
-) -> Result<Walk, Stopped>
-    requires { Asks (site_of (words rule.now) (words scratch.old) (words counters.old) at tops scope) (λ sig. ExprsAt sig (words rule.now) depth n at) at }
-    ensures { LowersExprs depth n (site_of (words rule.now) (words scratch.old) (words counters.old) at tops scope)
-        (words scratch.new) (words counters.new) result }
-{
-    let mut walk = Walk {
-        next: at,
-        to: tops.to,
-        log: tops.log,
-        term: 0,
-    };
-    for top in tops.sp..tops.sp + n {
-        let here = walk.tops(top);
-        walk = lower(rule, walk.next, depth, scope, counters, scratch, here)?;
-        octets::put(scratch, top, walk.term);
+    // Lowers the n expressions from `at` on; their terms go onto the stack.
+    // Inlined by hand: else the compiler makes a call for each expression with arguments, a fifth of the time of lowering a head.
+    #[cycle(lower_lower_all)]
+    #[inline(always)]
+    pub fn lower_all(
+        &self,
+        at: usize,
+        n: usize,
+        depth: u32,
+        counters: &mut [u8],
+        scratch: &mut [u8],
+        tops: Tops,
+    ) -> Result<Walk, Stopped>
+        requires { Asks (site_of (words self.now.rule.now) (words scratch.old) (words counters.old) at tops self.now.scope)
+            (λ sig. ExprsAt sig (words self.now.rule.now) depth n at) at }
+        ensures { LowersExprs depth n (site_of (words self.now.rule.now) (words scratch.old) (words counters.old) at tops self.now.scope)
+            (words scratch.new) (words counters.new) result }
+    {
+        let mut walk = Walk {
+            next: at,
+            to: tops.to,
+            log: tops.log,
+            term: 0,
+        };
+        // A `for` over the stack's places: where the next expression stands is told only by the walk over the one before it.
+        for top in tops.sp..tops.sp + n {
+            let here = walk.tops(top);
+            walk = self.lower(walk.next, depth, counters, scratch, here)?;
+            octets::put(scratch, top, walk.term);
+        }
+        Ok(Walk { term: 0, ..walk })
     }
-    Ok(Walk { term: 0, ..walk })
-}
 
-// Lowers the n outermost expressions from `at` on as `lower_all` does. The literals and globals in front need no walk: they may always be read, and are
-// their own terms.
-pub fn lower_arguments(
-    rule: &[u8],
-    at: usize,
-    n: usize,
-    scope: Scope,
-    counters: &mut [u8],
-    scratch: &mut [u8],
-    tops: Tops,
-) -> Result<Walk, Stopped>
-    requires { Asks (site_of (words rule.now) (words scratch.old) (words counters.old) at tops scope) (λ sig. ExprsAt sig (words rule.now) max_depth n at) at }
-    ensures { LowersExprs max_depth n (site_of (words rule.now) (words scratch.old) (words counters.old) at tops scope)
-        (words scratch.new) (words counters.new) result }
-{
-    let k = walks::leaves(
-        rule,
-        at,
-        n,
-        words::NAME_BASE + scope.globals - 1,
-        scratch,
-        tops.sp,
-    );
-    let rest = Tops {
-        sp: tops.sp + k,
-        ..tops
-    };
-    lower_all(
-        rule,
-        at + k,
-        n - k,
-        words::MAX_DEPTH,
-        scope,
-        counters,
-        scratch,
-        rest,
-    )
+    // Lowers the n outermost expressions from `at` on as `lower_all` does. The literals and globals in front need no walk: they may always be read, and are
+    // their own terms.
+    pub fn lower_arguments(
+        &self,
+        at: usize,
+        n: usize,
+        counters: &mut [u8],
+        scratch: &mut [u8],
+        tops: Tops,
+    ) -> Result<Walk, Stopped>
+        requires { Asks (site_of (words self.now.rule.now) (words scratch.old) (words counters.old) at tops self.now.scope)
+            (λ sig. ExprsAt sig (words self.now.rule.now) max_depth n at) at }
+        ensures { LowersExprs max_depth n (site_of (words self.now.rule.now) (words scratch.old) (words counters.old) at tops self.now.scope)
+            (words scratch.new) (words counters.new) result }
+    {
+        let last = words::NAME_BASE + self.scope.globals - 1;
+        let k = walks::leaves(octets::part(self.rule, at, n), last, scratch, tops.sp);
+        let rest = Tops {
+            sp: tops.sp + k,
+            ..tops
+        };
+        self.lower_all(at + k, n - k, words::MAX_DEPTH, counters, scratch, rest)
+    }
 }

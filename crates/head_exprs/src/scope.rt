@@ -1,7 +1,7 @@
 // Which names are bound: those among the words of the body's atoms, and those let so far.
 ghost use Rattle.std.specs.Prelude.{◌≡◌};
 ghost use Rattle.octets.specs.Words.{words};
-ghost use Rattle.head_exprs.specs.Scopes.{first_scope, having, in_scope, may_read, is_taken, ScopeFits};
+ghost use Rattle.head_exprs.specs.Scopes.{first_scope, in_scope, may_read, is_taken, ScopeFits};
 
 use octets::part;
 use octets::regions::among;
@@ -26,13 +26,6 @@ impl Scope {
             first,
             names: 0,
         }
-    }
-
-    // The same scope with so many names let.
-    pub fn with_names(self, names: usize) -> Scope
-        ensures { result ≡ having self names }
-    {
-        Scope { names, ..self }
     }
 
     // Whether the variable w is bound.

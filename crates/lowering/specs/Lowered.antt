@@ -1,7 +1,7 @@
 -- 01, "Flattening the body" and "Lowering the head": what `to_core_rule` asks and gives. For a rule of n words the scratch has the words of the
 -- flat body at 0, those of the flat head at 24 n, and the log of the counters' uses at 30 n.
 -- Assumes nothing: these are definitions.
-use Rattle.std.specs.Prelude.{◌≡◌, List, ℕ, ◌+◌, ◌*◌, ◌≤◌, length, Result}
+use Rattle.std.specs.Prelude.{◌≡◌, List, ℕ, ◌+◌, ◌-◌, ◌*◌, ◌≤◌, length, Result}
 use Rattle.std.specs.Prelude.{Ok, Err}
 use Rattle.octets.specs.Regions.{part, At}
 use Rattle.rules.specs.Refusals.{Res, ok, refuse}
@@ -9,7 +9,8 @@ use Rattle.rules.specs.Signature.{Sig, heads, read_signature}
 use Rattle.rules.specs.Written.{Rule, read_written}
 use Rattle.rules.specs.Flat.{atom_words, action_words, words_of}
 use Rattle.rules.specs.ToCoreActions.{CoreRule}
-use Rattle.walks.specs.Log.{undone, total}
+use Rattle.walks.specs.Log.{undone, total, Refuses}
+use Rattle.walks.specs.declared.Stopped.{Stopped}
 use Rattle.refusals.specs.Numbers.{number_of}
 use Rattle.refusals.specs.declared.Refusal.{Refusal}
 use Rattle.lowering.specs.declared.Lowering.{Lowering}
@@ -48,3 +49,17 @@ Lowers (ok c) n cs s' cs' (Ok r) = Made c n cs s' cs' r
 Lowers (ok c) n cs s' cs' (Err r) = ⊥
 Lowers (refuse m p) n cs s' cs' (Ok r) = ⊥
 Lowers (refuse m p) n cs s' cs' (Err r) = Back m p cs cs' r
+
+-- a walk that was stopped: it refuses the rule, and the log from 30 n on takes the counters back
+pub record Halted (number place n : ℕ) (cs s' cs' : List ℕ) (e : Stopped) : Type 0 where
+  pub refuses : Refuses number place e
+  pub from : 30 * n ≤ e.log
+  pub within : e.log ≤ length s'
+  pub undo : undone (part s' (30 * n) (e.log - 30 * n)) cs' ≡ cs
+
+-- what both walks leave, before a refusal takes anything back
+abbrev pub LowersBoth : Res CoreRule → ℕ → List ℕ → List ℕ → List ℕ → Result Lowering Stopped → Type 0
+LowersBoth (ok c) n cs s' cs' (Ok r) = Made c n cs s' cs' r
+LowersBoth (ok c) n cs s' cs' (Err e) = ⊥
+LowersBoth (refuse m p) n cs s' cs' (Ok r) = ⊥
+LowersBoth (refuse m p) n cs s' cs' (Err e) = Halted m p n cs s' cs' e

@@ -2,16 +2,15 @@
 // binds. Fresh variables are taken from the counters in place; a refusal puts the counters back from the log of their uses.
 #![tactic(auto)]
 
-ghost use Rattle.std.specs.Prelude.{◌≡◌, ◌-◌, ◌≤◌, length};
+ghost use Rattle.std.specs.Prelude.{◌≡◌, length};
 ghost use Rattle.octets.specs.Words.{words};
-ghost use Rattle.octets.specs.Regions.{part};
 ghost use Rattle.rules.specs.Refusals.{ok};
 ghost use Rattle.rules.specs.Signature.{Sig, read_signature};
 ghost use Rattle.rules.specs.Written.{Rule, read_written};
 ghost use Rattle.rules.specs.ToCoreActions.{to_core_rule};
-ghost use Rattle.walks.specs.Log.{undone};
-ghost use Rattle.lowering.specs.Lowered.{Good, Lowers};
+ghost use Rattle.lowering.specs.Lowered.{Good, Lowers, LowersBoth};
 
+use head_exprs::Reading;
 use head_exprs::scope::Scope;
 use refusals::Refusal;
 use walks::{Stopped, Tops};
@@ -33,17 +32,42 @@ pub struct Lowering {
     pub log: usize,
 }
 
-// The refusal of a rule whose walk was stopped: the uses that are logged from `log` on are taken back.
-fn back(stopped: Stopped, counters: &mut [u8], scratch: &[u8], log: usize) -> Refusal
-    requires { (log ≤ stopped.log) × (stopped.log ≤ length (words scratch.now)) }
-    ensures { (result ≡ stopped.refusal)
-        × (words counters.new ≡ undone (part (words scratch.now) log (stopped.log - log)) (words counters.old)) }
+// Both walks over a rule that was read. Where one is stopped, the counters stay as it left them.
+fn lower_both(
+    signature: &[u8],
+    rule: &[u8],
+    counters: &mut [u8],
+    scratch: &mut [u8],
+) -> Result<Lowering, Stopped>
+    requires { Good (words signature.now) (words rule.now) (words counters.old) (length (words scratch.old)) }
+    ensures { (sig : Sig) (rl : Rule) → read_signature (words signature.now) ≡ ok sig → read_written sig (words rule.now) ≡ ok rl
+        → LowersBoth (to_core_rule sig rl (words counters.old)) (length (words rule.now))
+        (words counters.old) (words scratch.new) (words counters.new) result }
 {
-    walks::restore(counters, scratch, log, stopped.log - log);
-    stopped.refusal
+    let n = octets::count(rule);
+    let log = LOG_AT * n;
+    let sp = STACK_AT * n;
+    let header = words::header_word(octets::get(rule, 0));
+    let facts = header.body as usize;
+    let body = query::to_query(rule, 1, facts, counters, scratch, Tops { to: 0, sp, log })?;
+    // The globals, and the flag where a union asks for it, are read from the bytes: the struct `Signature` beside these would ask callers that the two agree.
+    let globals = octets::get(signature, 1) - words::SIGNATURE_BASE;
+    let scope = Scope::new(globals, body.to, sp);
+    let reading = Reading { rule, scope };
+    let actions = header.actions as usize;
+    let to = HEAD_AT * n;
+    let head = core_actions::to_core_actions(
+        signature, &reading, body.next, actions, counters, scratch, to, body.log,
+    )?;
+    Ok(Lowering {
+        body: body.to,
+        head: head.to - to,
+        actions: head.count,
+        log: head.log - log,
+    })
 }
 
-// Lowers a rule that was read.
+// Lowers a rule that was read. A refusal takes the uses that are logged back.
 pub fn to_core_rule(
     signature: &[u8],
     rule: &[u8],
@@ -55,30 +79,12 @@ pub fn to_core_rule(
         → Lowers (to_core_rule sig rl (words counters.old)) (length (words rule.now))
         (words counters.old) (words scratch.new) (words counters.new) result }
 {
-    let n = octets::count(rule);
-    let log = LOG_AT * n;
-    let sp = STACK_AT * n;
-    let counts = octets::get(rule, 0) - words::HEADER_BASE;
-    let facts = (counts / words::LIMIT_12) as usize;
-    let body = match query::to_query(rule, 1, facts, counters, scratch, Tops { to: 0, sp, log }) {
-        Ok(walk) => walk,
-        Err(in_body) => return Err(back(in_body, counters, scratch, log)),
-    };
-    let globals = octets::get(signature, 1) - words::SIGNATURE_BASE;
-    let scope = Scope::new(globals, body.to, sp);
-    let actions = (counts % words::LIMIT_12) as usize;
-    let to = HEAD_AT * n;
-    let lowered = core_actions::to_core_actions(
-        signature, rule, body.next, actions, scope, counters, scratch, to, body.log,
-    );
-    let head = match lowered {
-        Ok(acted) => acted,
-        Err(in_head) => return Err(back(in_head, counters, scratch, log)),
-    };
-    Ok(Lowering {
-        body: body.to,
-        head: head.to - to,
-        actions: head.count,
-        log: head.log - log,
-    })
+    match lower_both(signature, rule, counters, scratch) {
+        Ok(lowering) => Ok(lowering),
+        Err(stopped) => {
+            let log = LOG_AT * octets::count(rule);
+            walks::restore(counters, octets::part(scratch, log, stopped.log - log));
+            Err(stopped.refusal)
+        }
+    }
 }

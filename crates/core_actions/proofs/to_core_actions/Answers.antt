@@ -13,18 +13,18 @@ pub overflow_add-tops : goal.overflow_add-tops
 overflow_add-tops c = omega (arith, names_below c.loop.invariant.2 (omega arith))
 
 pub lower_action-requires : goal.lower_action-requires
-lower_action-requires c = record { known = rw c.with_names-now.ensures (turn_asks c.loop.invariant.2 (omega arith)); top = rw c.with_names-now.ensures refl }
+lower_action-requires c = record { known = turn_asks c.loop.invariant.2 (omega arith); top = refl }
 
 pub returns-in_err-one : goal.returns-in_err-one
 returns-in_err-one c =
     let p = err_from_is_err_and c.from_residual.result c.from_residual.ensures.1 in
-    rw (p.1, p.2) (row_stop c.loop.invariant.2 (omega arith) c.with_names-now.ensures c.in_err-one.ensures)
+    rw (p.1, p.2) (row_stop c.loop.invariant.2 (omega arith) c.in_err-one.ensures)
 
 pub overflow_add-row : goal.overflow_add-row
-overflow_add-row c = omega (arith, names_fit c.loop.invariant.2 (omega arith) c.with_names-now.ensures c.in_ok-one.ensures)
+overflow_add-row c = omega (arith, names_fit c.loop.invariant.2 (omega arith) c.in_ok-one.ensures)
 
 pub overflow_add-row-in-loop : goal.overflow_add-row-in-loop
-overflow_add-row-in-loop c = omega (arith, count_fits c.loop.invariant.2 (omega arith) c.with_names-now.ensures c.in_ok-one.ensures)
+overflow_add-row-in-loop c = omega (arith, count_fits c.loop.invariant.2 (omega arith) c.in_ok-one.ensures)
 
 pub loop-preserved : goal.loop-preserved
 loop-preserved c =
@@ -32,7 +32,7 @@ loop-preserved c =
       k.auto.counters ∙ c.loop.invariant.0,
       k.auto.scratch ∙ c.loop.invariant.1,
       row_is (omega arith)
-          (row_next c.loop.invariant.2 (omega arith) c.with_names-now.ensures c.in_ok-one.ensures (length_words_kept _ _ k.auto.counters)
+          (row_next c.loop.invariant.2 (omega arith) c.in_ok-one.ensures (length_words_kept _ _ k.auto.counters)
           (length_words_kept _ _ k.auto.scratch)),
     )
 

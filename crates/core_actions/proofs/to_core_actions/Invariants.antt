@@ -9,5 +9,5 @@ use Rattle.core_actions.proofs.to_core_actions.Given as goal
 abbrev pub invariant-loop : goal.invariant-loop
 invariant-loop l =
     (length l.counters ≡ length l.initial.counters) × (length l.scratch ≡ length l.initial.scratch)
-    × (Row (head (words l.signature) (words l.rule) (words l.initial.scratch) (words l.initial.counters) l.at l.n l.to l.log l.scope)
+    × (Row (head (words l.signature) (words l.reading.rule.now) (words l.initial.scratch) (words l.initial.counters) l.at l.n l.to l.log l.reading.scope)
     (l.n - l.counter) (words l.scratch) (words l.counters) l.row)
