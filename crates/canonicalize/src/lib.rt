@@ -128,7 +128,8 @@ pub struct Canonical {
     pub binds: usize,
 }
 
-// What a sweep over a body goes by: where terms may stand in it, and the signature.
+// What a sweep over a body goes by: where terms may stand in it, and the signature. Its steps take places and counts, since body, table and bindings are
+// parts of one scratch, and two parts of a slice can't be lent for writing at once.
 #[derive(Clone, Copy)]
 struct Sweep {
     spans: Table,

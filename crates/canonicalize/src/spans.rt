@@ -37,7 +37,7 @@ fn equalities(body: &[u8]) -> usize
     k
 }
 
-// Where a table of spans stands, and how many buckets it has.
+// Where a table of spans stands, and how many buckets it has. A place, since the body and the table are parts of one scratch, and both are written by turns.
 #[derive(Clone, Copy)]
 pub struct Table {
     pub at: usize,

@@ -35,7 +35,7 @@ fn member(s: &mut [u8], p: usize, q: usize, mark: usize, to: usize) -> usize
 }
 
 // Where a pass works: over the atoms in the n words at `from`. Their groups are written from `eqs` on, their links at `links`, and the table of buckets at
-// `table`.
+// `table`. These are places, since all of them are parts of one scratch, and two parts of a slice can't be lent for writing at once.
 #[derive(Clone, Copy)]
 pub struct Pass {
     pub from: usize,
@@ -85,6 +85,7 @@ impl Pass {
     {
         let mut next = chains::linked(s, self.links + i + 1);
         let mut k = 0;
+        // Nothing is counted: a link that leads nowhere ends it. An iterator over links would hold the words that each turn writes.
         while let Some(j) = next {
             k += member(
                 s,

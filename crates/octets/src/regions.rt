@@ -1,5 +1,5 @@
 // Regions of words: copy, carry, replace, search. What only reads takes the words themselves, as a slice. `carry` and `replace` take a place
-// and a count, since their callers read and write two regions of one slice, and two parts of it can't be lent for writing at once.
+// and a count: `carry` works on two regions of one slice, which can't be lent for writing at once, and each caller of `replace` would cut its part by bytes.
 ghost use Rattle.std.specs.Prelude.{◌≡◌, map, ◌+◌, ◌≤◌, length};
 ghost use Rattle.octets.specs.Words.{words};
 ghost use Rattle.octets.specs.Regions.{splice, part, Clear, swap, elem};
