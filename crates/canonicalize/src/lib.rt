@@ -108,15 +108,18 @@ fn resolve(s: &mut [u8], from: usize, n: usize, to: usize, q: Sign) -> usize
     let mut k = 0;
     // No iterator over the atoms, which would hold the words that are written, and no closure: a step changes the scratch that tells where it ends.
     while i < n {
-        let r = run(octets::part(s, from + i, n - i), false);
-        octets::regions::carry(s, to + k, from + i, r);
+        let start = from + i;
+        let r = run(octets::part(s, start, n - i), false);
+        octets::regions::carry(s, to + k, start, r);
         i += r;
         k += r;
         if i == n {
             return k;
         }
-        k += resolve_one(s, from + i, to + k, q);
-        i = past_equality(from + i) - from;
+        let p = from + i;
+        let free = to + k;
+        k += resolve_one(s, p, free, q);
+        i = past_equality(p) - from;
     }
     k
 }

@@ -58,14 +58,14 @@ returns-then-i-n c =
 
 -- ---- an equality is next
 
-pub overflow_add-from-in-loop-i-2 : goal.overflow_add-from-in-loop-i-2
-overflow_add-from-in-loop-i-2 c =
+pub overflow_add-p : goal.overflow_add-p
+overflow_add-p c =
     let ran = run_carried c.requires c.loop-i.invariant.1 c.part.ensures c.run-r.ensures c.carry.ensures in
     let b = bounds c.requires ran.here (omega (arith, length_words, c.well_formed)) in
     omega (arith, b)
 
-pub overflow_add-to-in-loop-i : goal.overflow_add-to-in-loop-i
-overflow_add-to-in-loop-i c =
+pub overflow_add-free : goal.overflow_add-free
+overflow_add-free c =
     let ran = run_carried c.requires c.loop-i.invariant.1 c.part.ensures c.run-r.ensures c.carry.ensures in
     let b = bounds c.requires ran.here (omega (arith, length_words, c.well_formed)) in
     omega (arith, b)
@@ -81,12 +81,6 @@ overflow_add-k-in-loop-i c =
     let one = c.resolve_one-k.ensures in
     let next = resolving_next c.requires ran (omega (arith, ran.here.inside, c.if-i-n.false)) c.args.q.known_equals one.0 one.1 refl in
     let b = bounds c.requires next (omega (arith, length_words, c.well_formed)) in
-    omega (arith, b)
-
-pub overflow_add-from-in-loop-i-3 : goal.overflow_add-from-in-loop-i-3
-overflow_add-from-in-loop-i-3 c =
-    let ran = run_carried c.requires c.loop-i.invariant.1 c.part.ensures c.run-r.ensures c.carry.ensures in
-    let b = bounds c.requires ran.here (omega (arith, length_words, c.well_formed)) in
     omega (arith, b)
 
 pub past_equality-requires : goal.past_equality-requires
