@@ -6,10 +6,10 @@ use mathlib.Core.Path.{◌∙◌, ◌≡◌, ap, ap₂, refl, sym}
 use Prim.Native.Nat.{◌%◌, ◌+◌, ◌-◌, ◌<◌, ◌≤◌, ℕ}
 use native.Mathlib.Omega.{arith}
 use lib.Dec.{eqb}
-use lib.ListN.{get_or, length}
-use lib.Seq.{get_or-drop}
+use lib.ListN.{get_or, length, take}
+use lib.Seq.{get_or-drop, take-length}
 use borrow.Author.Tests.{eq-eqb}
-use Rattle.octets.proofs.Splice.{get_d_part, length_part, part_more}
+use Rattle.octets.proofs.Splice.{length_part, take_more}
 use Rattle.octets.specs.Regions.{part}
 use Rattle.rules.specs.RemoveDupVars.{alike}
 use Rattle.rules.specs.Signature.{same_term, same_terms}
@@ -64,14 +64,25 @@ module _ {l : List ℕ} {p q : ℕ} (a : TabAt l p) (b : TabAt l q) where
           let m : get_or l p 0 % limit16 ≡ get_or l q 0 % limit16 = omega (arith, a.some, b.some, ca, cb, n) in
           absurd (k (whole_word (get_or l p 0) a.low a.high ∙ ap₂ head_word (alike_head (tab_at l p) (tab_at l q) e) m ∙ sym (whole_word (get_or l q 0) b.low b.high)))
 
-  pub heads_same : {x y : Atom} → Read l p x → Read l q y → get_or l p 0 ≡ get_or l q 0
-      → same_terms (part l x.terms (x.count - 1)) (part l y.terms (x.count - 1)) ≡ alike (tab_at l p) (tab_at l q)
+  -- with one first word: where their inputs stand, which decide
+  pub record Inputs (x y : Atom) : Type 0 where
+    pub left : x.terms + (x.count - 1) ≤ length l
+    pub right : y.terms + (x.count - 1) ≤ length l
+    pub decide : same_terms (part l x.terms (x.count - 1)) (part l y.terms (x.count - 1)) ≡ alike (tab_at l p) (tab_at l q)
+
+  pub inputs : {x y : Atom} → AtomSays x (get_or l p 0) p → AtomSays y (get_or l q 0) q → get_or l p 0 ≡ get_or l q 0 → Inputs x y
   unfolding tab_at
-  heads_same {x} {y} rx ry e =
+  inputs {x} {y} sx sy e =
+      let rx : Read l p x = read a sx in
+      let ry : Read l q y = read b sy in
       let n₁ : x.count - 1 ≡ count_of (get_or l p 0) - 1 = ap (λ (k : ℕ). k - 1) rx.count in
       let n₂ : x.count - 1 ≡ count_of (get_or l q 0) - 1 = n₁ ∙ ap (λ (w : ℕ). count_of w - 1) e in
       let h : true ≡ eqb (head_of (get_or l p 0)) (head_of (get_or l q 0)) = sym (eq-eqb _ _ (ap head_of e)) in
-      λ i. h i && same_terms (part l (rx.terms i) (n₁ i)) (part l (ry.terms i) (n₂ i))
+      record {
+        left = omega (arith, rx);
+        right = omega (arith, rx, ry, e);
+        decide = λ i. h i && same_terms (part l (rx.terms i) (n₁ i)) (part l (ry.terms i) (n₂ i));
+      }
 
 -- ---- the output
 
@@ -81,37 +92,36 @@ out_at {l} {p} {x} r =
     let place : x.next - 1 ≡ terms_from p + (count_of (get_or l p 0) - 1) = omega (arith, r.next, r.some, r.count) in
     ap (λ (k : ℕ). get_or l k 0) place ∙ sym (get_or-drop (terms_from p) l (count_of (get_or l p 0) - 1) 0)
 
--- ---- terms compared one by one: of the n at p and the n at q, the first i are equal, each to each
+-- ---- terms compared one by one: the first i of xs and of as many terms ys are equal, each to each
 
-pub record Agreeing (l : List ℕ) (p q n i : ℕ) : Type 0 where
-  pub most : i ≤ n
-  pub same : same_terms (part l p i) (part l q i) ≡ true
+pub record Agreeing (xs ys : List ℕ) (i : ℕ) : Type 0 where
+  pub most : i ≤ length xs
+  pub same : same_terms (take i xs) (take i ys) ≡ true
 
-module _ {l : List ℕ} {p q n i : ℕ} (g : Agreeing l p q n i) {a b : ℕ} (ea : a ≡ get_or l (p + i) 0) (eb : b ≡ get_or l (q + i) 0) (h : i < n) where
+module _ {xs ys : List ℕ} {i : ℕ} (g : Agreeing xs ys i) {a b : ℕ} (ea : a ≡ get_or xs i 0) (eb : b ≡ get_or ys i 0) where
   -- the next two are equal too
-  pub agreeing_next : p + n ≤ length l → q + n ≤ length l → same_term a b ≡ true → Agreeing l p q n (i + 1)
-  agreeing_next k m e =
-      let x = get_or l (p + i) 0 in
-      let y = get_or l (q + i) 0 in
+  pub agreeing_next : i < length xs → length xs ≡ length ys → same_term a b ≡ true → Agreeing xs ys (i + 1)
+  agreeing_next h long e =
+      let x = get_or xs i 0 in
+      let y = get_or ys i 0 in
       record {
         most = omega arith;
         same =
-            ap₂ same_terms (part_more l p i (omega arith)) (part_more l q i (omega arith)) ∙ terms_append (part l p i) (part l q i) (x ∷ []) (y ∷ []) g.same
+            ap₂ same_terms (take_more xs i h) (take_more ys i (omega arith)) ∙ terms_append (take i xs) (take i ys) (x ∷ []) (y ∷ []) g.same
             ∙ ap (λ (c : Bool). c && true) (ap₂ same_term (sym ea) (sym eb) ∙ e);
       }
 
   -- they are not
-  pub agreeing_not : same_term a b ≡ false → false ≡ same_terms (part l p n) (part l q n)
-  agreeing_not e = go (same_terms (part l p n) (part l q n)) refl
+  pub agreeing_not : same_term a b ≡ false → false ≡ same_terms xs ys
+  agreeing_not e = go (same_terms xs ys) refl
     where
-      go : (c : Bool) → same_terms (part l p n) (part l q n) ≡ c → false ≡ c
-      go true k =
-          let at_i = ap₂ same_term (sym (get_d_part l p n i h ∙ sym ea)) (sym (get_d_part l q n i h ∙ sym eb)) ∙ terms_at_lem (part l p n) (part l q n) k i in
-          sym e ∙ at_i
+      go : (c : Bool) → same_terms xs ys ≡ c → false ≡ c
+      go true k = sym e ∙ ap₂ same_term ea eb ∙ terms_at_lem xs ys k i
       go false k = refl
 
 -- all are compared
-pub agreeing_end : {l : List ℕ} {p q n i : ℕ} → Agreeing l p q n i → n ≤ i → true ≡ same_terms (part l p n) (part l q n)
-agreeing_end {l} {p} {q} {n} {i} g h =
-    let e : i ≡ n = omega (arith, g.most) in
-    sym g.same ∙ ap (λ (k : ℕ). same_terms (part l p k) (part l q k)) e
+pub agreeing_end : {xs ys : List ℕ} {i : ℕ} → Agreeing xs ys i → length xs ≡ length ys → length xs ≤ i → true ≡ same_terms xs ys
+agreeing_end {xs} {ys} {i} g long h =
+    let all : i ≡ length xs = omega (arith, g.most) in
+    let too : i ≡ length ys = all ∙ long in
+    sym g.same ∙ ap₂ same_terms (ap (λ (k : ℕ). take k xs) all ∙ take-length xs) (ap (λ (k : ℕ). take k ys) too ∙ take-length ys)

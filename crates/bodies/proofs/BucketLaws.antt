@@ -6,9 +6,10 @@ use Prim.Native.Nat.{ℕ, suc, zero, ◌+◌, ◌-◌, ◌<◌, ◌≤◌}
 use native.Mathlib.Omega.{arith}
 use native.Mathlib.Nat.{mul-lt-mul_of_pos_right}
 use native.Mathlib.Numerals.{add-one}
-use lib.ListN.{get_or, length, replicate}
+use lib.ListN.{drop, get_or, length, length-drop, replicate, take, take-append-drop}
+use lib.Seq.{length-take-le, take-length}
 use borrow.Author.Tests.{eqb-true}
-use Rattle.octets.proofs.Splice.{length_part, part_join, part_more, part_one}
+use Rattle.octets.proofs.Splice.{take_more}
 use Rattle.octets.specs.Regions.{part}
 use Rattle.rules.specs.Flat.{Tab}
 use Rattle.rules.specs.RemoveDupVars.{alike}
@@ -29,12 +30,12 @@ mix_one : (k w : ℕ) → mix_all k (w ∷ []) ≡ mix k w
 unfolding mix_all
 mix_one k w = refl
 
-pub mix_more : (k : ℕ) (l : List ℕ) (p i : ℕ) → p + i < length l → mix_all k (part l p (i + 1)) ≡ mix (mix_all k (part l p i)) (get_or l (p + i) 0)
-mix_more k l p i h = ap (mix_all k) (part_more l p i h) ∙ mix_append k (part l p i) (get_or l (p + i) 0 ∷ []) ∙ mix_one (mix_all k (part l p i)) (get_or l (p + i) 0)
+pub mix_more : (k : ℕ) (ws : List ℕ) (i : ℕ) → i < length ws → mix_all k (take (i + 1) ws) ≡ mix (mix_all k (take i ws)) (get_or ws i 0)
+mix_more k ws i h = ap (mix_all k) (take_more ws i h) ∙ mix_append k (take i ws) (get_or ws i 0 ∷ []) ∙ mix_one (mix_all k (take i ws)) (get_or ws i 0)
 
-pub mix_none : (k : ℕ) (l : List ℕ) (p : ℕ) → mix_all k (part l p 0) ≡ k
+pub mix_none : (k : ℕ) → mix_all k [] ≡ k
 unfolding mix_all
-mix_none k l p = refl
+mix_none k = refl
 
 -- ---- keys, word by word
 
@@ -47,38 +48,37 @@ key_word : (w : ℕ) → key_of (w ∷ []) ≡ w
 unfolding key_of mix_all
 key_word w = refl
 
--- k is the key of the i words at p
-pub record Keyed (l : List ℕ) (p i k : ℕ) : Type 0 where
-  pub is : k ≡ key_of (part l p i)
+-- k is the key of the first i of some words
+pub record Keyed (ws : List ℕ) (i k : ℕ) : Type 0 where
+  pub is : k ≡ key_of (take i ws)
   pub some : 0 < i
-  pub within : p + i ≤ length l
+  pub within : i ≤ length ws
 
-pub key_one : {l : List ℕ} {p w : ℕ} → p < length l → w ≡ get_or l p 0 → Keyed l p 1 w
-key_one {l} {p} {w} h e = record { is = sym (ap key_of (part_one l p w h (sym e)) ∙ key_word w); some = omega arith; within = omega arith }
+pub key_one : {ws : List ℕ} {w : ℕ} → 0 < length ws → w ≡ get_or ws 0 0 → Keyed ws 1 w
+key_one {ws} {w} h e = record { is = e ∙ sym (ap key_of (take_more ws 0 h) ∙ key_word (get_or ws 0 0)); some = omega arith; within = omega arith }
 
-module _ {l : List ℕ} {p i k : ℕ} (g : Keyed l p i k) where
-  -- with all of the n words mixed into it
-  pub key_all : (n : ℕ) {r : ℕ} → i ≤ n → r ≡ mix_all k (part l (p + i) (n - i)) → r ≡ key_of (part l p n)
-  key_all n h e =
-      let m : ℕ = n - i in
-      let all : i + m ≡ n = omega arith in
-      let size = length_part l p i g.within in
-      e ∙ ap (λ (x : ℕ). mix_all x (part l (p + i) m)) g.is
-      ∙ sym (ap key_of (part_join l p i m) ∙ key_append (part l p i) (part l (p + i) m) (omega (arith, size, g.some)))
-      ∙ ap (λ (j : ℕ). key_of (part l p j)) all
+module _ {ws : List ℕ} {i k : ℕ} (g : Keyed ws i k) where
+  size : length (take i ws) ≡ i
+  size = length-take-le i ws g.within
+
+  -- with all that are left mixed into it
+  pub key_all : {r : ℕ} → r ≡ mix_all k (part ws i (length ws - i)) → r ≡ key_of ws
+  key_all e =
+      let rest : part ws i (length ws - i) ≡ drop i ws = ap (λ (n : ℕ). take n (drop i ws)) (sym (length-drop i ws)) ∙ take-length (drop i ws) in
+      e ∙ (λ j. mix_all (g.is j) (rest j)) ∙ sym (key_append (take i ws) (drop i ws) (omega (arith, size, g.some))) ∙ ap key_of (take-append-drop i ws)
 
   -- they are all there are
-  pub key_done : (n : ℕ) → i ≡ n → k ≡ key_of (part l p n)
-  key_done n e = g.is ∙ ap (λ (j : ℕ). key_of (part l p j)) e
+  pub key_done : length ws ≤ i → k ≡ key_of ws
+  key_done h =
+      let all : i ≡ length ws = omega (arith, g.within) in
+      g.is ∙ ap (λ (j : ℕ). key_of (take j ws)) all ∙ ap key_of (take-length ws)
 
   -- with one word more
-  pub key_more : {w r : ℕ} → p + i < length l → w ≡ get_or l (p + i) 0 → r ≡ mix k w → Keyed l p (i + 1) r
+  pub key_more : {w r : ℕ} → i < length ws → w ≡ get_or ws i 0 → r ≡ mix k w → Keyed ws (i + 1) r
   key_more {w} h f e =
-      let size = length_part l p i g.within in
-      let one : w ∷ [] ≡ part l (p + i) 1 = sym (part_one l (p + i) w h (sym f)) in
       record {
-        is = e ∙ sym (mix_one k w) ∙ (λ j. mix_all (g.is j) (one j))
-            ∙ sym (ap key_of (part_join l p i 1) ∙ key_append (part l p i) (part l (p + i) 1) (omega (arith, size, g.some)));
+        is = e ∙ (λ j. mix (g.is j) (f j)) ∙ sym (mix_one (key_of (take i ws)) (get_or ws i 0))
+            ∙ sym (ap key_of (take_more ws i h) ∙ key_append (take i ws) (get_or ws i 0 ∷ []) (omega (arith, size, g.some)));
         some = omega arith;
         within = omega arith;
       }

@@ -8,7 +8,8 @@ use native.Mathlib.Numerals.{add-one}
 use native.Mathlib.Omega.{arith}
 use lib.ListN.{drop, get_or, length, length-append, length-drop, take, take-append-drop}
 use lib.Seq.{drop-cons, get_or_at, take_at}
-use Rattle.octets.proofs.Places.{at_after, at_before, at_first, at_join, at_left, at_nil, at_right}
+use Rattle.octets.proofs.Places.{at_after, at_before, at_first, at_join, at_left, at_nil, at_part, at_right, part_part}
+use Rattle.octets.proofs.Splice.{length_part, part_all}
 use Rattle.octets.specs.Regions.{At, Only, part}
 use Rattle.rules.specs.Canonicalize.{Replacement, replace_atom, resolve, resolve_eq}
 use Rattle.rules.specs.Flat.{Atom, Tab, atom_words, eqn, tab, tab_words, words_of}
@@ -22,7 +23,7 @@ use Rattle.meaning.specs.ReadBack.{Encodable, EncodableTab, atoms_of, tab_from, 
 use Rattle.words.proofs.AtomLaws.{good_next}
 use Rattle.words.specs.Atom.{AtomSays, BeginsGood, atom_size}
 use Rattle.words.specs.declared.Atom as word
-use Rattle.bodies.specs.Standing.{AtomsAt, Bare, BareTab, BodyAt, TabAt, TabsAt, atoms_in, size_at, tab_at, tabs_in}
+use Rattle.bodies.specs.Standing.{AtomsAt, Bare, BareTab, Body, BodyAt, TabAt, TabsAt, atoms_in, size_at, tab_at, tabs_in}
 
 -- ---- without places
 
@@ -92,6 +93,49 @@ module _ (l : List ℕ) (p n : ℕ) where
         size = s.size ∙ ap length (sym (unplaced_words xs));
         at = subst (λ (ws : List ℕ). At ws l p) (sym (unplaced_words xs)) s.at;
         within = omega (arith, s.size, s.at.within);
+      })
+
+-- ---- words that are lent
+
+-- atoms that stand in a region, when just its words are lent
+pub lent_body : {ws l : List ℕ} (p n : ℕ) → ws ≡ part l p n → AtomsAt (atoms_in l p n) l p n → Body ws
+lent_body {ws} {l} p n e s =
+    let xs = atoms_in l p n in
+    let us = words_of atom_words xs in
+    let is : ws ≡ us = e ∙ ap (part l p) s.size ∙ s.at.words in
+    atoms_read ws 0 (length ws) xs
+    (record {
+      fits = s.fits;
+      bare = s.bare;
+      size = ap length is;
+      at = record { within = omega (arith, ap length is); words = ap (take (length us)) is ∙ part_all us };
+      within = omega arith;
+    })
+
+-- and what is known of the atoms that are read in lent words, where these stand
+module _ {ws : List ℕ} (l : List ℕ) (p n : ℕ) (e : ws ≡ part l p n) (h : p + n ≤ length l) where
+  pub lent_size : length ws ≡ n
+  lent_size = ap length e ∙ length_part l p n h
+
+  pub lent_read : (q r m : ℕ) → r ≡ p + q → q + m ≤ n → atoms_in ws q m ≡ atoms_in l r m
+  unfolding atoms_in
+  lent_read q r m k room =
+      ap (λ (x : List ℕ). atoms_of (part x q m)) e ∙ ap atoms_of (part_part l p n q m room h) ∙ ap (λ (i : ℕ). atoms_of (part l i m)) (sym k)
+
+  -- all of them
+  pub lent_whole : atoms_in ws 0 (length ws) ≡ atoms_in l p n
+  lent_whole = ap (atoms_in ws 0) lent_size ∙ lent_read 0 p n (omega arith) (omega arith)
+
+  pub lent_atoms : (q r m : ℕ) → r ≡ p + q → AtomsAt (atoms_in ws q m) ws q m → AtomsAt (atoms_in l r m) l r m
+  lent_atoms q r m k s =
+      let room : q + m ≤ n = omega (arith, s.within, lent_size) in
+      atoms_read l r m (atoms_in ws q m)
+      (record {
+        fits = s.fits;
+        bare = s.bare;
+        size = s.size;
+        at = subst (λ (i : ℕ). At (words_of atom_words (atoms_in ws q m)) l i) (sym k) (at_part p n q e h s.at);
+        within = omega arith;
       })
 
 -- ---- after a step elsewhere

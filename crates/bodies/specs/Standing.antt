@@ -38,6 +38,10 @@ pub record AtomsAt (xs : List Atom) (l : List ℕ) (p n : ℕ) : Type 0 where
   pub at : At (words_of atom_words xs) l p
   pub within : p + n ≤ length l
 
+-- some words are those of the atoms that are read in them, and no word is left
+abbrev pub Body : List ℕ → Type 0
+Body ws = AtomsAt (atoms_in ws 0 (length ws)) ws 0 (length ws)
+
 pub record TabsAt (ts : List Tab) (l : List ℕ) (p n : ℕ) : Type 0 where
   pub fits : All EncodableTab ts
   pub bare : All BareTab ts

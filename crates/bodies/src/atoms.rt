@@ -1,7 +1,6 @@
 // Atoms where they stand. The last of an atom's terms is its output, those before it are its inputs.
 ghost use Rattle.std.specs.Prelude.{◌≡◌, ◌+◌, ◌≤◌, length};
 ghost use Rattle.octets.specs.Words.{words};
-ghost use Rattle.octets.specs.Regions.{part};
 ghost use Rattle.rules.specs.Signature.{same_terms};
 ghost use Rattle.rules.specs.RemoveDupVars.{alike};
 ghost use Rattle.words.specs.Atom.{BeginsGood};
@@ -28,13 +27,13 @@ pub fn output(s: &[u8], p: usize) -> u32
     octets::get(s, atom.next - 1)
 }
 
-// Whether the n terms at p and those at q are equal, each to each.
-fn same_terms(s: &[u8], p: usize, q: usize, n: usize) -> bool
-    requires { (p + n ≤ length (words s.now)) × (q + n ≤ length (words s.now)) }
-    ensures { result ≡ same_terms (part (words s.now) p n) (part (words s.now) q n) }
+// Whether the terms `a` and as many terms `b` are equal, each to each.
+fn same_terms(a: &[u8], b: &[u8]) -> bool
+    requires { length (words a.now) ≡ length (words b.now) }
+    ensures { result ≡ same_terms (words a.now) (words b.now) }
 {
-    for i in 0..n {
-        if !same_term(octets::get(s, p + i), octets::get(s, q + i)) {
+    for i in 0..octets::count(a) {
+        if !same_term(octets::get(a, i), octets::get(b, i)) {
             return false;
         }
     }
@@ -52,5 +51,9 @@ pub fn alike(s: &[u8], p: usize, q: usize) -> bool
     }
     let first = good_atom_at(s, p);
     let later = good_atom_at(s, q);
-    same_terms(s, first.terms, later.terms, first.count as usize - 1)
+    let inputs = first.count as usize - 1;
+    same_terms(
+        octets::part(s, first.terms, inputs),
+        octets::part(s, later.terms, inputs),
+    )
 }

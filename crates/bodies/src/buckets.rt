@@ -1,7 +1,7 @@
 // Buckets: a word falls into one of so many, and an atom by a key of its head and inputs, so that atoms that are alike fall into one.
 ghost use Rattle.std.specs.Prelude.{◌≡◌, ◌+◌, ◌≤◌, ◌<◌, length, replicate};
 ghost use Rattle.octets.specs.Words.{words};
-ghost use Rattle.octets.specs.Regions.{part, splice};
+ghost use Rattle.octets.specs.Regions.{splice};
 ghost use Rattle.bodies.specs.Buckets.{mix, mix_all, key_of, bucket_of};
 
 // A key with one word more.
@@ -11,36 +11,36 @@ fn mixed(k: u32, w: u32) -> u32
     k.wrapping_mul(0x9e37_79b1).wrapping_add(w)
 }
 
-// A key with the n words at p mixed into it, in their order.
-fn mix_all(s: &[u8], p: usize, n: usize, start: u32) -> u32
-    requires { p + n ≤ length (words s.now) }
-    ensures { result ≡ mix_all start (part (words s.now) p n) }
+// A key with the words `ws` mixed into it, in their order.
+fn mix_all(ws: &[u8], start: u32) -> u32
+    ensures { result ≡ mix_all start (words ws.now) }
 {
     let mut k = start;
-    for i in 0..n {
-        k = mixed(k, octets::get(s, p + i));
+    for i in 0..octets::count(ws) {
+        k = mixed(k, octets::get(ws, i));
     }
     k
 }
 
-// The key of the n words at p, an atom's head and inputs: the first word, with the others mixed into it. Most atoms have at most two inputs: those
-// take no loop. The words are read from the front, since n comes from the word at p: where the second and the third stand is known before n is.
-pub fn key(s: &[u8], p: usize, n: usize) -> u32
-    requires { (0 < n) × (p + n ≤ length (words s.now)) }
-    ensures { result ≡ key_of (part (words s.now) p n) }
+// The key of the words `ws`, an atom's head and inputs: the first word, with the others mixed into it. Most atoms have at most two inputs: those take no
+// loop. The words are read from the front, since their count comes from the first of them: where the second and the third stand is known before that is.
+pub fn key(ws: &[u8]) -> u32
+    requires { 0 < length (words ws.now) }
+    ensures { result ≡ key_of (words ws.now) }
 {
+    let n = octets::count(ws);
     if n < 2 {
-        return octets::get(s, p);
+        return octets::get(ws, 0);
     }
-    let two = mixed(octets::get(s, p), octets::get(s, p + 1));
+    let two = mixed(octets::get(ws, 0), octets::get(ws, 1));
     if n < 3 {
         return two;
     }
-    let three = mixed(two, octets::get(s, p + 2));
+    let three = mixed(two, octets::get(ws, 2));
     if n < 4 {
         return three;
     }
-    mix_all(s, p + 3, n - 3, three)
+    mix_all(octets::part(ws, 3, n - 3), three)
 }
 
 // The bucket of a word, of so many. A product's upper half spreads words over any number of buckets without a division.
@@ -51,7 +51,7 @@ pub fn bucket(w: u32, count: usize) -> usize
     (mixed(w, 0) as u64 * count as u64 / 0x1_0000_0000) as usize
 }
 
-// Writes w into the n words at p.
+// Writes w into the n words at p. It takes a place and a count, since each caller, which speaks of words alone, would cut a part lent for writing by bytes.
 pub fn fill(s: &mut [u8], p: usize, n: usize, w: u32)
     requires { p + n ≤ length (words s.old) }
     ensures { words s.new ≡ splice (words s.old) p (replicate n w) }

@@ -16,7 +16,7 @@ use Rattle.meaning.proofs.Room.{tabs_words_weight, weight_canonicalize}
 use Rattle.meaning.specs.Meaning.{All}
 use Rattle.meaning.specs.Weight.{weight}
 use Rattle.words.specs.Atom.{equality_size}
-use Rattle.bodies.specs.Standing.{AtomsAt, Bare, TabsAt, atoms_in}
+use Rattle.bodies.specs.Standing.{AtomsAt, Bare, Body, TabsAt, atoms_in}
 use Rattle.bodies.proofs.Standing.{First, atoms_ahead, atoms_before, atoms_is, atoms_join, atoms_read, first_atom, tabs_before, tabs_join}
 use Rattle.canonicalize.specs.declared.Canonical.{Canonical}
 use Rattle.canonicalize.specs.Canonicalize.{CanonicalAt, CanonicalizeAsks, FrontAsks, Fronted, Leads}
@@ -28,72 +28,73 @@ use Rattle.canonicalize.proofs.SpansBuilt.{built_only}
 
 -- ---- the equalities in front, counted
 
-pub record Leading (l : List ℕ) (at n i : ℕ) : Type 0 where
+pub record Leading (ws : List ℕ) (i : ℕ) : Type 0 where
   pub eqs : List Atom
   pub todo : List Atom
   pub equalities : All IsEqn eqs
-  pub passed : AtomsAt eqs l at i
-  pub others : AtomsAt todo l (at + i) (n - i)
-  pub whole : atoms_in l at n ≡ eqs ++ todo
-  pub inside : i ≤ n
+  pub passed : AtomsAt eqs ws 0 i
+  pub others : AtomsAt todo ws i (length ws - i)
+  pub whole : atoms_in ws 0 (length ws) ≡ eqs ++ todo
+  pub inside : i ≤ length ws
 
-module _ {l : List ℕ} {at n : ℕ} (c : AtomsAt (atoms_in l at n) l at n) where
-  pub leading_start : Leading l at n 0
+module _ {ws : List ℕ} (c : Body ws) where
+  pub leading_start : Leading ws 0
   leading_start =
       record {
         eqs = [];
-        todo = atoms_in l at n;
+        todo = atoms_in ws 0 (length ws);
         equalities = tt;
-        passed = record { fits = tt; bare = tt; size = refl; at = at_nil l at (omega (arith, c.within)); within = omega (arith, c.within) };
+        passed = record { fits = tt; bare = tt; size = refl; at = at_nil ws 0 (omega (arith, c.within)); within = omega (arith, c.within) };
         others = atoms_ahead c;
         whole = refl;
         inside = omega arith;
       }
 
-  pub leading_here : {i : ℕ} (w : Leading l at n i) → i < n → First w.todo l (at + i) (n - i)
-  leading_here {i} w h = first_atom w.todo l (at + i) (n - i) w.others (omega arith)
+  pub leading_here : {i : ℕ} (w : Leading ws i) → i < length ws → First w.todo ws i (length ws - i)
+  leading_here {i} w h = first_atom w.todo ws i (length ws - i) w.others (omega arith)
 
-  pub leading_next : {i j : ℕ} → Leading l at n i → i < n → get_or l (at + i) 0 ≡ equality_word → j ≡ i + equality_size → Leading l at n j
+  pub leading_next : {i j : ℕ} → Leading ws i → i < length ws → get_or ws i 0 ≡ equality_word → j ≡ i + equality_size → Leading ws j
   leading_next {i} {j} w h e ej = go t.atom refl
     where
-      t : First w.todo l (at + i) (n - i)
+      t : First w.todo ws i (length ws - i)
       t = leading_here w h
 
-      go : (x : Atom) → t.atom ≡ x → Leading l at n j
+      go : (x : Atom) → t.atom ≡ x → Leading ws j
       go (tab u) q = absurd (subst (λ (x : Atom). IsEqn x) q (eqn_met t.atom t.stands e))
       go (eqn p a b) q =
           let size_is : length (atom_words t.atom) ≡ equality_size = ap (λ (x : Atom). length (atom_words x)) q in
-          let one : AtomsAt (eqn p a b ∷ []) l (at + i) equality_size =
+          let one : AtomsAt (eqn p a b ∷ []) ws i equality_size =
           record {
             fits = (tt, tt);
             bare = (subst (λ (x : Atom). Bare x) q t.bare, tt);
             size = refl;
-            at = subst (λ (x : Atom). At (atom_words x) l (at + i)) q t.stands;
+            at = subst (λ (x : Atom). At (atom_words x) ws i) q t.stands;
             within = omega (arith, t.stands.within, size_is);
           } in
           record {
             eqs = w.eqs ++ eqn p a b ∷ [];
             todo = t.rest;
             equalities = all_append IsEqn w.eqs (eqn p a b ∷ []) w.equalities (tt, tt);
-            passed = subst (λ (k : ℕ). AtomsAt (w.eqs ++ eqn p a b ∷ []) l at k) (sym ej)
-                (atoms_join w.eqs (eqn p a b ∷ []) l at i (at + i) equality_size w.passed one refl);
-            others = t.after (at + j) (n - j) (omega arith) (omega arith);
+            passed = subst (λ (k : ℕ). AtomsAt (w.eqs ++ eqn p a b ∷ []) ws 0 k) (sym ej)
+                (atoms_join w.eqs (eqn p a b ∷ []) ws 0 i i equality_size w.passed one (omega arith));
+            others = t.after j (length ws - j) (omega arith) (omega arith);
             whole = w.whole ∙ ap (λ (us : List Atom). w.eqs ++ us) (t.is ∙ ap (λ (x : Atom). x ∷ t.rest) q)
                 ∙ sym (append_assoc w.eqs (eqn p a b ∷ []) t.rest);
             inside = omega (arith, t.inside, size_is);
           }
 
-  pub leads : {i : ℕ} → Leading l at n i → (i < n → get_or l (at + i) 0 ≡ equality_word → ⊥) → Leads l at n i
+  pub leads : {i : ℕ} → Leading ws i → (i < length ws → get_or ws i 0 ≡ equality_word → ⊥) → Leads ws 0 (length ws) i
   leads {i} w none =
-      let a = atoms_is l at i w.eqs w.passed in
-      let b = atoms_is l (at + i) (n - i) w.todo w.others in
+      let a = atoms_is ws 0 i w.eqs w.passed in
+      let b = atoms_is ws i (length ws - i) w.todo w.others in
+      let here : i ≡ 0 + i = omega arith in
       record {
         inside = w.inside;
-        last = none;
-        eqs = atoms_read l at i w.eqs w.passed;
+        last = λ h e. none h (ap (λ (k : ℕ). get_or ws k 0) here ∙ e);
+        eqs = atoms_read ws 0 i w.eqs w.passed;
         equalities = subst (λ (us : List Atom). All IsEqn us) (sym a) w.equalities;
-        others = atoms_read l (at + i) (n - i) w.todo w.others;
-        whole = w.whole ∙ ap₂ ◌++◌ (sym a) (sym b);
+        others = subst (λ (k : ℕ). AtomsAt (atoms_in ws k (length ws - i)) ws k (length ws - i)) here (atoms_read ws i (length ws - i) w.todo w.others);
+        whole = w.whole ∙ ap₂ ◌++◌ (sym a) (sym b ∙ ap (λ (k : ℕ). atoms_in ws k (length ws - i)) here);
       }
 
 -- ---- canonicalize

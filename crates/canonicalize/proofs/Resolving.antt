@@ -18,7 +18,7 @@ use Rattle.meaning.specs.ReadBack.{Encodable}
 use Rattle.words.specs.Atom.{equality_size}
 use Rattle.words.specs.declared.Atom as word
 use Rattle.bodies.specs.Standing.{AtomsAt, Bare, TabsAt, atoms_in, left_at, right_at}
-use Rattle.bodies.proofs.Standing.{First, atoms_ahead, atoms_before, atoms_is, atoms_read, bare_resolve, first_atom, no_tabs, none_left, tabs_before, tabs_join}
+use Rattle.bodies.proofs.Standing.{First, atoms_ahead, atoms_before, atoms_is, atoms_read, bare_resolve, first_atom, no_tabs, none_left, tabs_before, tabs_join, lent_whole}
 use Rattle.canonicalize.specs.Canonicalize.{ResolveAsks, ResolveOneAsks, Resolved, others_in, resolve_at, resolve_terms, until_eqn}
 use Rattle.canonicalize.proofs.Replacing.{Equality, eqn_size, eqn_word}
 use Rattle.canonicalize.proofs.Runs.{StartsEqn, from_starts, from_eqn, run_inside, run_rest, run_tabs, until_resolve}
@@ -127,9 +127,11 @@ module _ {s : Sig} {l : List ℕ} {from n to : ℕ} (c : ResolveAsks s l from n 
         ap (λ (ts : List Tab). length (words_of tab_words ts)) (until_resolve s w.todo) ∙ length_words_append tab_words run (resolve s rest)
         ∙ ap (λ (j : ℕ). j + length (words_of tab_words (resolve s rest))) (sym size)
 
-    pub run_next : {r : ℕ} → r ≡ others_in m (from + i) (n - i) → Run w r
-    run_next {r} e =
-        let size = e ∙ ap (λ (xs : List Atom). length (words_of tab_words (until_eqn xs))) (atoms_is m (from + i) (n - i) w.todo w.atoms) in
+    -- as it is told by the words that are lent
+    pub run_next : {ws : List ℕ} {r : ℕ} → ws ≡ part m (from + i) (n - i) → r ≡ others_in ws 0 (length ws) → Run w r
+    run_next {ws} {r} lent e =
+        let whole = lent_whole m (from + i) (n - i) lent w.atoms.within in
+        let size = e ∙ ap (λ (xs : List Atom). length (words_of tab_words (until_eqn xs))) whole ∙ ap (λ (xs : List Atom). length (words_of tab_words (until_eqn xs))) (atoms_is m (from + i) (n - i) w.todo w.atoms) in
         let inside : i + r ≤ n = omega (arith, w.inside, run_inside w.atoms size) in
         record {
           size = size;

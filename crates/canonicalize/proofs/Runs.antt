@@ -13,7 +13,7 @@ use Rattle.rules.specs.Words.{equality_word}
 use Rattle.meaning.proofs.MergePass.{IsEqn}
 use Rattle.meaning.specs.Meaning.{All}
 use Rattle.meaning.specs.ReadBack.{Encodable, EncodableTab}
-use Rattle.bodies.specs.Standing.{AtomsAt, Bare, BareTab, TabsAt, atoms_in, size_at}
+use Rattle.bodies.specs.Standing.{AtomsAt, Bare, BareTab, Body, TabsAt, atoms_in, size_at}
 use Rattle.bodies.proofs.Standing.{First, atoms_ahead, first_atom, none_left}
 use Rattle.canonicalize.specs.Canonicalize.{others_in, until_eqn}
 use Rattle.canonicalize.specs.Spans.{equations_in}
@@ -97,11 +97,11 @@ module _ {xs : List Atom} {l : List ℕ} {p n r : ℕ} (s : AtomsAt xs l p n) (e
 
 -- ---- the loop that looks for its end: i words are passed
 
-pub record Passing (l : List ℕ) (from n i : ℕ) : Type 0 where
+pub record Passing (ws : List ℕ) (i : ℕ) : Type 0 where
   pub todo : List Atom
-  pub atoms : AtomsAt todo l (from + i) (n - i)
-  pub size : others_in l from n ≡ i + length (words_of tab_words (until_eqn todo))
-  pub inside : i ≤ n
+  pub atoms : AtomsAt todo ws i (length ws - i)
+  pub size : others_in ws 0 (length ws) ≡ i + length (words_of tab_words (until_eqn todo))
+  pub inside : i ≤ length ws
 
 until_eqn_lem : (xs : List Atom) → StartsEqn xs → length (words_of tab_words (until_eqn xs)) ≡ 0
 unfolding until_eqn
@@ -113,95 +113,95 @@ until_tab : (t : Tab) (xs : List Atom) → length (words_of tab_words (until_eqn
 unfolding until_eqn
 until_tab t xs = length-append (tab_words t) (words_of tab_words (until_eqn xs))
 
-module _ {l : List ℕ} {from n : ℕ} (c : AtomsAt (atoms_in l from n) l from n) where
-  pub passing_start : Passing l from n 0
-  passing_start = record { todo = atoms_in l from n; atoms = atoms_ahead c; size = omega arith; inside = omega arith }
+module _ {ws : List ℕ} (c : Body ws) where
+  pub passing_start : Passing ws 0
+  passing_start = record { todo = atoms_in ws 0 (length ws); atoms = atoms_ahead c; size = omega arith; inside = omega arith }
 
-  pub passing_end : {i : ℕ} → Passing l from n i → n ≤ i → i ≡ others_in l from n
+  pub passing_end : {i : ℕ} → Passing ws i → length ws ≤ i → i ≡ others_in ws 0 (length ws)
   passing_end {i} w h =
-      let e = none_left w.todo l (from + i) (n - i) w.atoms (omega arith) in
+      let e = none_left w.todo ws i (length ws - i) w.atoms (omega arith) in
       omega (arith, w.size, until_eqn_lem w.todo (subst (λ (xs : List Atom). StartsEqn xs) (sym e) tt))
 
-  module _ {i : ℕ} (w : Passing l from n i) (h : i < n) where
-    pub passing_here : First w.todo l (from + i) (n - i)
-    passing_here = first_atom w.todo l (from + i) (n - i) w.atoms (omega arith)
+  module _ {i : ℕ} (w : Passing ws i) (h : i < length ws) where
+    pub passing_here : First w.todo ws i (length ws - i)
+    passing_here = first_atom w.todo ws i (length ws - i) w.atoms (omega arith)
 
     -- an equality is met
-    pub passing_met : get_or l (from + i) 0 ≡ equality_word → i ≡ others_in l from n
+    pub passing_met : get_or ws i 0 ≡ equality_word → i ≡ others_in ws 0 (length ws)
     passing_met e =
         let first = eqn_met passing_here.atom passing_here.stands e in
         omega (arith, w.size, until_eqn_lem w.todo (subst (λ (xs : List Atom). StartsEqn xs) (sym passing_here.is) first))
 
     -- another atom is met, and the next one is at offset j
-    pub passing_next : (get_or l (from + i) 0 ≡ equality_word → ⊥) → {j : ℕ} → j ≡ i + size_at l (from + i) → Passing l from n j
+    pub passing_next : (get_or ws i 0 ≡ equality_word → ⊥) → {j : ℕ} → j ≡ i + size_at ws i → Passing ws j
     passing_next e {j} ej = go passing_here.atom refl
       where
-        go : (x : Atom) → passing_here.atom ≡ x → Passing l from n j
-        go (eqn p a b) q = absurd (e (at_first (subst (λ (x : Atom). At (atom_words x) l (from + i)) q passing_here.stands)))
+        go : (x : Atom) → passing_here.atom ≡ x → Passing ws j
+        go (eqn p a b) q = absurd (e (at_first (subst (λ (x : Atom). At (atom_words x) ws i) q passing_here.stands)))
         go (tab t) q =
-            let size : size_at l (from + i) ≡ length (tab_words t) = passing_here.size ∙ ap (λ (x : Atom). length (atom_words x)) q in
+            let size : size_at ws i ≡ length (tab_words t) = passing_here.size ∙ ap (λ (x : Atom). length (atom_words x)) q in
             let is : w.todo ≡ tab t ∷ passing_here.rest = passing_here.is ∙ ap (λ (x : Atom). x ∷ passing_here.rest) q in
             let run : length (words_of tab_words (until_eqn w.todo)) ≡ length (tab_words t) + length (words_of tab_words (until_eqn passing_here.rest)) =
             ap (λ (xs : List Atom). length (words_of tab_words (until_eqn xs))) is ∙ until_tab t passing_here.rest in
             record {
               todo = passing_here.rest;
-              atoms = passing_here.after (from + j) (n - j) (omega (arith, passing_here.size)) (omega (arith, passing_here.size));
+              atoms = passing_here.after j (length ws - j) (omega (arith, passing_here.size)) (omega (arith, passing_here.size));
               size = omega (arith, w.size, run, size);
               inside = omega (arith, passing_here.size, passing_here.inside);
             }
 
 -- ---- the loop that counts equalities: i words are passed, and k were met
 
-pub record Counting (l : List ℕ) (at n i k : ℕ) : Type 0 where
+pub record Counting (ws : List ℕ) (i k : ℕ) : Type 0 where
   pub todo : List Atom
-  pub atoms : AtomsAt todo l (at + i) (n - i)
-  pub count : equations_in (atoms_in l at n) ≡ k + equations_in todo
-  pub inside : i ≤ n
+  pub atoms : AtomsAt todo ws i (length ws - i)
+  pub count : equations_in (atoms_in ws 0 (length ws)) ≡ k + equations_in todo
+  pub inside : i ≤ length ws
   pub few : k ≤ i
 
-module _ {l : List ℕ} {at n : ℕ} (c : AtomsAt (atoms_in l at n) l at n) where
-  pub counting_start : Counting l at n 0 0
-  counting_start = record { todo = atoms_in l at n; atoms = atoms_ahead c; count = omega arith; inside = omega arith; few = omega arith }
+module _ {ws : List ℕ} (c : Body ws) where
+  pub counting_start : Counting ws 0 0
+  counting_start = record { todo = atoms_in ws 0 (length ws); atoms = atoms_ahead c; count = omega arith; inside = omega arith; few = omega arith }
 
-  pub counting_end : {i k : ℕ} → Counting l at n i k → n ≤ i → k ≡ equations_in (atoms_in l at n)
+  pub counting_end : {i k : ℕ} → Counting ws i k → length ws ≤ i → k ≡ equations_in (atoms_in ws 0 (length ws))
   unfolding equations_in
   counting_end {i} {k} w h =
-      let e = none_left w.todo l (at + i) (n - i) w.atoms (omega arith) in
+      let e = none_left w.todo ws i (length ws - i) w.atoms (omega arith) in
       omega (arith, w.count, ap equations_in e)
 
-  module _ {i k : ℕ} (w : Counting l at n i k) (h : i < n) where
-    pub counting_here : First w.todo l (at + i) (n - i)
-    counting_here = first_atom w.todo l (at + i) (n - i) w.atoms (omega arith)
+  module _ {i k : ℕ} (w : Counting ws i k) (h : i < length ws) where
+    pub counting_here : First w.todo ws i (length ws - i)
+    counting_here = first_atom w.todo ws i (length ws - i) w.atoms (omega arith)
 
     -- an atom is met that makes `met` of k, and the next one is at offset j
-    passed : {j met : ℕ} → j ≡ i + size_at l (at + i) → equations_in (atoms_in l at n) ≡ met + equations_in counting_here.rest → met ≤ k + 1 → Counting l at n j met
+    passed : {j met : ℕ} → j ≡ i + size_at ws i → equations_in (atoms_in ws 0 (length ws)) ≡ met + equations_in counting_here.rest → met ≤ k + 1 → Counting ws j met
     passed {j} ej em few =
         let t = counting_here in
         record {
           todo = t.rest;
-          atoms = t.after (at + j) (n - j) (omega (arith, t.size)) (omega (arith, t.size));
+          atoms = t.after j (length ws - j) (omega (arith, t.size)) (omega (arith, t.size));
           count = em;
           inside = omega (arith, t.size, t.inside);
           few = omega (arith, t.size, t.some, w.few);
         }
 
-    pub counting_met : {j : ℕ} → get_or l (at + i) 0 ≡ equality_word → j ≡ i + size_at l (at + i) → Counting l at n j (k + 1)
+    pub counting_met : {j : ℕ} → get_or ws i 0 ≡ equality_word → j ≡ i + size_at ws i → Counting ws j (k + 1)
     unfolding equations_in
     counting_met {j} e ej = go counting_here.atom refl (eqn_met counting_here.atom counting_here.stands e)
       where
-        go : (x : Atom) → counting_here.atom ≡ x → IsEqn x → Counting l at n j (k + 1)
+        go : (x : Atom) → counting_here.atom ≡ x → IsEqn x → Counting ws j (k + 1)
         go (tab t) q m = absurd m
         go (eqn p a b) q m =
             let one : equations_in w.todo ≡ suc (equations_in counting_here.rest) =
             ap equations_in (counting_here.is ∙ ap (λ (x : Atom). x ∷ counting_here.rest) q) in
             passed ej (omega (arith, w.count, one)) (omega arith)
 
-    pub counting_next : {j : ℕ} → (get_or l (at + i) 0 ≡ equality_word → ⊥) → j ≡ i + size_at l (at + i) → Counting l at n j k
+    pub counting_next : {j : ℕ} → (get_or ws i 0 ≡ equality_word → ⊥) → j ≡ i + size_at ws i → Counting ws j k
     unfolding equations_in
     counting_next {j} e ej = go counting_here.atom refl
       where
-        go : (x : Atom) → counting_here.atom ≡ x → Counting l at n j k
-        go (eqn p a b) q = absurd (e (at_first (subst (λ (x : Atom). At (atom_words x) l (at + i)) q counting_here.stands)))
+        go : (x : Atom) → counting_here.atom ≡ x → Counting ws j k
+        go (eqn p a b) q = absurd (e (at_first (subst (λ (x : Atom). At (atom_words x) ws i) q counting_here.stands)))
         go (tab t) q =
             let same : equations_in w.todo ≡ equations_in counting_here.rest =
             ap equations_in (counting_here.is ∙ ap (λ (x : Atom). x ∷ counting_here.rest) q) in

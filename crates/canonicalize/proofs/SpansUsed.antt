@@ -277,14 +277,13 @@ module _ {l : List ℕ} {at n table count : ℕ} (c : Spanned l at n table count
 pub record Found {l : List ℕ} {at n table count : ℕ} (c : Spanned l at n table count) (x y b₁ b₂ : ℕ) : Type 0 where
   pub old : b₁ ≡ bucket_of count x
   pub new : b₂ ≡ bucket_of count y
-  pub old_inside : b₁ < count
   pub new_inside : b₂ < count
   pub room : table + 2 * count ≤ length l
   pub fits : length l < 2 ^ 64
 
-pub buckets_found : {l : List ℕ} {at n table count : ℕ} (c : Spanned l at n table count) {x y b₁ b₂ : ℕ} → (b₁ ≡ bucket_of count x) × (b₁ < count)
+pub buckets_found : {l : List ℕ} {at n table count : ℕ} (c : Spanned l at n table count) {x y b₁ b₂ : ℕ} → b₁ ≡ bucket_of count x
     → (b₂ ≡ bucket_of count y) × (b₂ < count) → length l < 2 ^ 64 → Found c x y b₁ b₂
-buckets_found c x y fits = record { old = x.0; new = y.0; old_inside = x.1; new_inside = y.1; room = c.room; fits = fits }
+buckets_found c x y fits = record { old = x; new = y.0; new_inside = y.1; room = c.room; fits = fits }
 
 -- the span of x, from `low` to `high`
 pub record Seen {l : List ℕ} {at n table count : ℕ} {c : Spanned l at n table count} {x y b₁ b₂ : ℕ} (f : Found c x y b₁ b₂) (low high : ℕ) : Type 0 where

@@ -11,7 +11,7 @@ ghost use Rattle.octets.specs.Regions.{splice};
 ghost use Rattle.rules.specs.Signature.{is_var, same_term};
 ghost use Rattle.rules.specs.Canonicalize.{replacement_of};
 ghost use Rattle.bodies.specs.Terms.{sig};
-ghost use Rattle.bodies.specs.Standing.{atoms_in, AtomsAt};
+ghost use Rattle.bodies.specs.Standing.{atoms_in, Body};
 ghost use Rattle.canonicalize.specs.Canonicalize.{asked_of, ask_at, place_of, StepAsks, Stepped, ReplaceAsks, Replaced};
 ghost use Rattle.canonicalize.specs.Canonicalize.{resolve_terms, resolve_at, ResolveOneAsks, is_eq, Runs, ResolveAsks, Resolved};
 ghost use Rattle.canonicalize.specs.Canonicalize.{FrontOneAsks, FrontOne, FrontAsks, Fronted, CanonicalizeAsks, CanonicalAt};
@@ -80,19 +80,20 @@ fn is_equality(atom: Atom) -> bool
     matches!(atom.head, HeadOrEq::Eq)
 }
 
-// How many of the n words at `at` are those of equalities in front of all other atoms, or of other atoms in front of all equalities.
-fn run(s: &[u8], at: usize, n: usize, equalities: bool) -> usize
-    requires { AtomsAt (atoms_in (words s.now) at n) (words s.now) at n }
-    ensures { Runs equalities (words s.now) at n result }
+// How many words of a body are those of equalities in front of all other atoms, or of other atoms in front of all equalities.
+fn run(body: &[u8], equalities: bool) -> usize
+    requires { Body (words body.now) }
+    ensures { Runs equalities (words body.now) 0 (length (words body.now)) result }
 {
+    let n = octets::count(body);
     let mut i = 0;
     // `successors` of std in place of the two loops that only read was tried at `equalities`, whose line says what was not proved.
     while i < n {
-        let atom = good_atom_at(s, at + i);
+        let atom = good_atom_at(body, i);
         if is_equality(atom) != equalities {
             return i;
         }
-        i = atom.next - at;
+        i = atom.next;
     }
     i
 }
@@ -107,15 +108,18 @@ fn resolve(s: &mut [u8], from: usize, n: usize, to: usize, q: Sign) -> usize
     let mut k = 0;
     // No iterator over the atoms, which would hold the words that are written, and no closure: a step changes the scratch that tells where it ends.
     while i < n {
-        let r = run(s, from + i, n - i, false);
-        octets::regions::carry(s, to + k, from + i, r);
+        let start = from + i;
+        let r = run(octets::part(s, start, n - i), false);
+        octets::regions::carry(s, to + k, start, r);
         i += r;
         k += r;
         if i == n {
             return k;
         }
-        k += resolve_one(s, from + i, to + k, q);
-        i = past_equality(from + i) - from;
+        let p = from + i;
+        let free = to + k;
+        k += resolve_one(s, p, free, q);
+        i = past_equality(p) - from;
     }
     k
 }
@@ -127,7 +131,8 @@ pub struct Canonical {
     pub binds: usize,
 }
 
-// What a sweep over a body goes by: where terms may stand in it, and the signature.
+// What a sweep over a body goes by: where terms may stand in it, and the signature. Its steps take places and counts, since body, table and bindings are
+// parts of one scratch, and two parts of a slice can't be lent for writing at once.
 #[derive(Clone, Copy)]
 struct Sweep {
     spans: Table,
@@ -226,7 +231,7 @@ pub fn canonicalize(s: &mut [u8], at: usize, n: usize, to: usize, d: usize, q: S
 {
     let spans = Table::build(s, at, n, at + n);
     let sweep = Sweep { spans, sign: q };
-    let e = run(s, at, n, true);
+    let e = run(octets::part(s, at, n), true);
     let t = sweep.canonicalize_front(s, at, e, n - e, to, d);
     let binds = sweep.replace_all(s, at + e, n - e, t.binds);
     let words = t.words + resolve(s, at + e, n - e, to + t.words, q);

@@ -6,7 +6,7 @@
 ghost use Rattle.std.specs.Prelude.{◌≡◌, map, ◌+◌, ◌-◌, ◌≤◌, length};
 ghost use Rattle.octets.specs.Words.{words};
 ghost use Rattle.octets.specs.Regions.{part, splice, swap};
-ghost use Rattle.bodies.specs.Standing.{atoms_in, AtomsAt};
+ghost use Rattle.bodies.specs.Standing.{atoms_in, AtomsAt, Body};
 ghost use Rattle.canonicalize.specs.Spans.{equations_in, Spanned, SpanAsks, Built, WidenAsks, widened, Replacing};
 
 use crate::Replacement;
@@ -18,17 +18,18 @@ const LONG: usize = 128;
 
 const MANY: usize = 16;
 
-// How many equalities there are among the atoms in the n words at `at`.
-fn equalities(s: &[u8], at: usize, n: usize) -> usize
-    requires { AtomsAt (atoms_in (words s.now) at n) (words s.now) at n }
-    ensures { result ≡ equations_in (atoms_in (words s.now) at n) }
+// How many equalities there are among the atoms of a body.
+fn equalities(body: &[u8]) -> usize
+    requires { Body (words body.now) }
+    ensures { result ≡ equations_in (atoms_in (words body.now) 0 (length (words body.now))) }
 {
+    let n = octets::count(body);
     let mut i = 0;
     let mut k = 0;
     // Tried: for `successors(..).take(n).filter(..).count()`, `search` did not prove that its closure may be called at each atom, nor the result.
     while i < n {
-        let atom = good_atom_at(s, at + i);
-        i = atom.next - at;
+        let atom = good_atom_at(body, i);
+        i = atom.next;
         if let HeadOrEq::Eq = atom.head {
             k += 1;
         }
@@ -36,7 +37,7 @@ fn equalities(s: &[u8], at: usize, n: usize) -> usize
     k
 }
 
-// Where a table of spans stands, and how many buckets it has.
+// Where a table of spans stands, and how many buckets it has. A place, since the body and the table are parts of one scratch, and both are written by turns.
 #[derive(Clone, Copy)]
 pub struct Table {
     pub at: usize,
@@ -88,7 +89,7 @@ impl Table {
         ensures place { result.at ≡ table }
         ensures built { Built (words s.old) (words s.new) at n result.at result.count }
     {
-        let count = if n < LONG || equalities(s, at, n) < MANY {
+        let count = if n < LONG || equalities(octets::part(s, at, n)) < MANY {
             one_bucket(s, at, n, table)
         } else {
             narrow(s, at, n, table)

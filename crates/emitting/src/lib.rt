@@ -36,7 +36,8 @@ fn emit(output: &mut [u8], header: u32, scratch: &[u8], body: Settled, head: Act
     copy(output, behind + bound, head.words);
 }
 
-// Writes a settled body with a head's actions, and answers how many words that takes. If the output has fewer, it is left as it is.
+// Writes a settled body with a head's actions, and answers how many words that takes. If the output has fewer, it is left as it is. No `Option`: the words
+// needed are told there too, as the place of the refusal.
 pub fn finish(output: &mut [u8], scratch: &[u8], body: Settled, head: Actions) -> usize
     requires { Stand (words scratch.now) body head.count (words head.words.now) }
     ensures { (b : rules.Settled) (xs : List CoreAction)

@@ -87,11 +87,11 @@ pub record Told (l : List ℕ) (from i links table count b old : ℕ) : Type 0 w
   pub in_table : b < count
   pub table_in : table + b < length l
 
-pub told : {l : List ℕ} {from i links table count : ℕ} → LinkOneAsks l from i links table count → {z key b old : ℕ}
-    → z ≡ size_at l (from + i) → key ≡ key_of (part l (from + i) (z - 1)) → b ≡ bucket_of count key → old ≡ get_or l (table + b) 0
+pub told : {l : List ℕ} {from i links table count : ℕ} → LinkOneAsks l from i links table count → {z key b old : ℕ} {ws : List ℕ}
+    → z ≡ size_at l (from + i) → ws ≡ part l (from + i) (z - 1) → key ≡ key_of ws → b ≡ bucket_of count key → old ≡ get_or l (table + b) 0
     → Told l from i links table count b old
-told {l} {from} {i} {links} {table} {count} asks {z} {key} {b} {old} ez ek eb eo =
-    let e : b ≡ bucket_at count l (from + i) = bucket_told count l (from + i) z key b ez ek eb in
+told {l} {from} {i} {links} {table} {count} asks {z} {key} {b} {old} ez ew ek eb eo =
+    let e : b ≡ bucket_at count l (from + i) = bucket_told count l (from + i) z key b ez (ek ∙ ap key_of ew) eb in
     let o : old ≡ get_or l (table + bucket_at count l (from + i)) 0 = eo ∙ ap (λ (k : ℕ). get_or l (table + k) 0) e in
     let in_table : b < count = omega (arith, bucket_there count l (from + i) asks.some) in
     record {

@@ -28,7 +28,7 @@ impl Pass {
             × LinkedOne (words s.old) (words s.new) self.from i self.links self.table count }
     {
         let z = size(s, self.from + i);
-        let key = buckets::key(s, self.from + i, z - 1);
+        let key = buckets::key(octets::part(s, self.from + i, z - 1));
         let bucket = self.table + buckets::bucket(key, count);
         let last = octets::get(s, bucket) as usize;
         octets::put(s, self.links + last, (i + 1) as u32);

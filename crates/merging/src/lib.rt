@@ -35,7 +35,7 @@ fn member(s: &mut [u8], p: usize, q: usize, mark: usize, to: usize) -> usize
 }
 
 // Where a pass works: over the atoms in the n words at `from`. Their groups are written from `eqs` on, their links at `links`, and the table of buckets at
-// `table`.
+// `table`. These are places, since all of them are parts of one scratch, and two parts of a slice can't be lent for writing at once.
 #[derive(Clone, Copy)]
 pub struct Pass {
     pub from: usize,
@@ -83,22 +83,22 @@ impl Pass {
         requires { GroupAsks (words s.old) self.from self.n i self.links to }
         ensures { Grouped (words s.old) (words s.new) self.from self.n i self.links to result }
     {
+        let first = self.from + i;
         let mut next = chains::linked(s, self.links + i + 1);
         let mut k = 0;
+        // Nothing is counted: a link that leads nowhere ends it. An iterator over links would hold the words that each turn writes.
         while let Some(j) = next {
-            k += member(
-                s,
-                self.from + i,
-                self.from + j,
-                self.links + j + 2,
-                to + 2 + k,
-            );
-            next = chains::linked(s, self.links + j + 1);
+            let later = self.from + j;
+            let link = self.links + j + 1;
+            let mark = self.links + j + 2;
+            let free = to + 2 + k;
+            k += member(s, first, later, mark, free);
+            next = chains::linked(s, link);
         }
         if k == 0 {
             return 0;
         }
-        let left = output(s, self.from + i);
+        let left = output(s, first);
         octets::rows::put_all(s, to, &[left, k as u32]);
         k + 2
     }
@@ -117,7 +117,8 @@ impl Pass {
                 start: i + z,
             };
         }
-        let e = self.group(s, i, self.eqs + t.done.eqs);
+        let free = self.eqs + t.done.eqs;
+        let e = self.group(s, i, free);
         let done = Merged {
             eqs: t.done.eqs + e,
             atoms: t.done.atoms + 1,

@@ -51,13 +51,6 @@ filled_clear {row} {l} {m} {p} {n} {i} from f h r c = ap (λ (x : List ℕ). get
     there (below k) = get_or_splice_after (words l) p (row i) (from + i) (omega arith) (omega (arith, f.count))
     there (beyond k) = get_or_splice_before (words l) p (row i) (from + i) (omega arith) (omega arith)
 
--- what `carry` asks, of n words that lie behind a row that was just written and ends at q
-pub carry_asks : (l m : List ℕ) (q from n : ℕ) → length m ≡ length l → q ≤ from → from + n ≤ length (words l)
-    → ((q + n ≤ length (words m)) × (from + n ≤ length (words m))) × Clear q from n
-carry_asks l m q from n e h r =
-    let kept = length_words_kept m l e in
-    ((omega arith, omega arith), below (omega arith))
-
 -- ---- a mapped part, one word longer
 
 map_append : (f : ℕ → ℕ) (xs ys : List ℕ) → map f (xs ++ ys) ≡ map f xs ++ map f ys

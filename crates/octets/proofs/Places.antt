@@ -7,7 +7,7 @@ use native.Mathlib.Omega.{arith}
 use lib.ListN.{length, get_or, take, drop, length-append, length-drop}
 use lib.Seq.{take-take, drop-drop, take_at, drop_at, length-take-le, take-add, get_or-take, get_or-drop}
 use Rattle.octets.specs.Regions.{splice, part, At, Only}
-use Rattle.octets.proofs.Splice.{length_splice, take_splice, drop_splice, part_splice, get_d_part}
+use Rattle.octets.proofs.Splice.{length_splice, take_splice, drop_splice, part_splice, get_d_part, length_part}
 
 -- ---- what a step leaves
 
@@ -116,3 +116,20 @@ at_first {w} {ws} {l} {p} s = ap (λ (k : ℕ). get_or l k 0) (plus p) ∙ at_wo
   where
     plus : (p : ℕ) → p ≡ p + 0
     plus p = omega arith
+
+-- a part of a part, and what stands in it
+
+pub part_part : (l : List ℕ) (p n q k : ℕ) → q + k ≤ n → p + n ≤ length l → part (part l p n) q k ≡ part l (p + q) k
+part_part l p n q k h r =
+    let m : ℕ = n - q in
+    let all : n ≡ q + m = omega arith in
+    ap (λ (i : ℕ). part (take i (drop p l)) q k) all ∙ ap (take k) (part_take (drop p l) q m (omega (arith, length-drop p l)))
+    ∙ take-take k m (drop q (drop p l)) (omega arith) ∙ ap (take k) (drop-drop q p l)
+
+pub at_part : {us ws l : List ℕ} (p n q : ℕ) → ws ≡ part l p n → p + n ≤ length l → At us ws q → At us l (p + q)
+at_part {us} {ws} {l} p n q e h s =
+    let size : length ws ≡ n = ap length e ∙ length_part l p n h in
+    record {
+      within = omega (arith, s.within, size);
+      words = sym (part_part l p n q (length us) (omega (arith, s.within, size)) h) ∙ ap (λ (x : List ℕ). part x q (length us)) (sym e) ∙ s.words;
+    }

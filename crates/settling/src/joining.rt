@@ -15,7 +15,7 @@ use canonicalize::{Canonical, Replacement, replacement_of, resolve_terms};
 use words::LET;
 
 // Where joining works, apart from the groups, and by which signature: the k words of atoms stand at `body`, what becomes of equalities is written at `to`,
-// and a replacement is bound before d.
+// and a replacement is bound before d. These are places, since two parts of one scratch can't be lent for writing at once.
 #[derive(Clone, Copy)]
 pub struct Area {
     pub body: usize,

@@ -9,20 +9,15 @@ loop-i-init c = record { most = omega arith; same = refl }
 
 -- ---- a pair is read
 
--- ---- it differs
-
 pub returns-then-not-same_term : goal.returns-then-not-same_term
 returns-then-not-same_term c =
-    agreeing_not c.loop-i.invariant c.get.ensures.is c.get-in-loop-i.ensures.is c.loop-i-test.true
-    (sym c.same_term.ensures ∙ c.if-not-same_term.true)
+    agreeing_not c.loop-i.invariant c.get.ensures.is c.get-in-loop-i.ensures.is (sym c.same_term.ensures ∙ c.if-not-same_term.true)
 
 pub loop-i-preserved : goal.loop-i-preserved
 loop-i-preserved c =
-    let k = c.requires in
-    agreeing_next c.loop-i.invariant c.get.ensures.is c.get-in-loop-i.ensures.is c.loop-i-test.true k.0 k.1
-    (sym c.same_term.ensures ∙ c.if-not-same_term.false)
+    agreeing_next c.loop-i.invariant c.get.ensures.is c.get-in-loop-i.ensures.is (omega arith) c.requires (sym c.same_term.ensures ∙ c.if-not-same_term.false)
 
 -- ---- none is left
 
 pub returns : goal.returns
-returns c = agreeing_end c.loop-i.invariant c.loop-i-test.false
+returns c = agreeing_end c.loop-i.invariant c.requires (omega arith)

@@ -17,23 +17,20 @@ loop-next-init c =
     let at_start = begun c.requires (omega (arith, length_words c.args.s.now, c.well_formed)) in
     (refl, follow_start at_start c.linked-next.ensures)
 
-pub overflow_add-self-in-Some-2 : goal.overflow_add-self-in-Some-2
-overflow_add-self-in-Some-2 c = let at_in = met c.loop-next.invariant.1 (ap link_of c.in-Some.is) in omega (arith, at_in)
+pub overflow_add-later : goal.overflow_add-later
+overflow_add-later c = let at_in = met c.loop-next.invariant.1 (ap link_of c.in-Some.is) in omega (arith, at_in)
 
-pub overflow_add-self-in-Some-3 : goal.overflow_add-self-in-Some-3
-overflow_add-self-in-Some-3 c = let at_in = met c.loop-next.invariant.1 (ap link_of c.in-Some.is) in omega (arith, at_in)
+pub overflow_add-link : goal.overflow_add-link
+overflow_add-link c = let at_in = met c.loop-next.invariant.1 (ap link_of c.in-Some.is) in omega (arith, at_in)
 
-pub overflow_add-self-in-Some-4 : goal.overflow_add-self-in-Some-4
-overflow_add-self-in-Some-4 c = let at_in = met c.loop-next.invariant.1 (ap link_of c.in-Some.is) in omega (arith, at_in)
+pub overflow_add-link-in-Some : goal.overflow_add-link-in-Some
+overflow_add-link-in-Some c = let at_in = met c.loop-next.invariant.1 (ap link_of c.in-Some.is) in omega (arith, at_in)
 
-pub overflow_add-to-in-Some : goal.overflow_add-to-in-Some
-overflow_add-to-in-Some c = let at_in = met c.loop-next.invariant.1 (ap link_of c.in-Some.is) in omega (arith, at_in)
+pub overflow_add-mark : goal.overflow_add-mark
+overflow_add-mark c = let at_in = met c.loop-next.invariant.1 (ap link_of c.in-Some.is) in omega (arith, at_in)
 
-pub overflow_add-self-in-Some-5 : goal.overflow_add-self-in-Some-5
-overflow_add-self-in-Some-5 c = let at_in = met c.loop-next.invariant.1 (ap link_of c.in-Some.is) in omega (arith, at_in)
-
-pub overflow_add-self-in-Some-6 : goal.overflow_add-self-in-Some-6
-overflow_add-self-in-Some-6 c = let at_in = met c.loop-next.invariant.1 (ap link_of c.in-Some.is) in omega (arith, at_in)
+pub overflow_add-mark-in-Some : goal.overflow_add-mark-in-Some
+overflow_add-mark-in-Some c = let at_in = met c.loop-next.invariant.1 (ap link_of c.in-Some.is) in omega (arith, at_in)
 
 pub member-k-requires : goal.member-k-requires
 member-k-requires c =

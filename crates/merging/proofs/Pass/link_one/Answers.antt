@@ -12,23 +12,23 @@ size-z-requires c = c.requires.begins
 pub put-requires : goal.put-requires
 put-requires c =
     let at_get : (let a = c.args in Told (words a.s.now) a.self.from a.i a.self.links a.self.table a.count c.bucket.result c.get-last.result) =
-    told c.requires c.size-z.ensures c.key-key.ensures c.bucket.ensures.0 c.get-last.ensures.is in
+    told c.requires c.size-z.ensures c.part.ensures c.key-key.ensures c.bucket.ensures.0 c.get-last.ensures.is in
     omega (arith, at_get)
 
 pub put_all-requires : goal.put_all-requires
 put_all-requires c =
     let at_get : (let a = c.args in Told (words a.s.now) a.self.from a.i a.self.links a.self.table a.count c.bucket.result c.get-last.result) =
-    told c.requires c.size-z.ensures c.key-key.ensures c.bucket.ensures.0 c.get-last.ensures.is in
+    told c.requires c.size-z.ensures c.part.ensures c.key-key.ensures c.bucket.ensures.0 c.get-last.ensures.is in
     (omega arith, pair_in at_get c.put.ensures)
 
 pub put-requires-2 : goal.put-requires-2
 put-requires-2 c =
     let at_get : (let a = c.args in Told (words a.s.now) a.self.from a.i a.self.links a.self.table a.count c.bucket.result c.get-last.result) =
-    told c.requires c.size-z.ensures c.key-key.ensures c.bucket.ensures.0 c.get-last.ensures.is in
+    told c.requires c.size-z.ensures c.part.ensures c.key-key.ensures c.bucket.ensures.0 c.get-last.ensures.is in
     place_still at_get c.put.ensures c.put_all.ensures.1
 
 pub returns : goal.returns
 returns c =
     let at_get : (let a = c.args in Told (words a.s.now) a.self.from a.i a.self.links a.self.table a.count c.bucket.result c.get-last.result) =
-    told c.requires c.size-z.ensures c.key-key.ensures c.bucket.ensures.0 c.get-last.ensures.is in
+    told c.requires c.size-z.ensures c.part.ensures c.key-key.ensures c.bucket.ensures.0 c.get-last.ensures.is in
     (c.size-z.ensures, linked_one at_get c.put.ensures c.put_all.ensures.1 c.put-2.ensures)

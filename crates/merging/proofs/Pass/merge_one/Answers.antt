@@ -37,8 +37,8 @@ group-e-requires c =
     let at_else = unmarked at_start c.get.ensures.is c.if-get-ne0.false in
     at_else.group
 
-pub overflow_add-self-3 : goal.overflow_add-self-3
-overflow_add-self-3 c =
+pub overflow_add-free : goal.overflow_add-free
+overflow_add-free c =
     let at_start = begun c.requires (omega (arith, length_words c.args.s.now, c.well_formed)) in
     let at_else = unmarked at_start c.get.ensures.is c.if-get-ne0.false in
     omega (arith, at_else)

@@ -11,41 +11,41 @@ returns-then-self-eq1 c =
 
 pub replace_between-requires : goal.replace_between-requires
 replace_between-requires c =
-    let at_buckets = buckets_found c.requires c.bucket.ensures c.bucket-2.ensures (omega (arith, length_words c.args.s.now, c.well_formed)) in
+    let at_buckets = buckets_found c.requires c.bucket.ensures.0 c.bucket-2.ensures (omega (arith, length_words c.args.s.now, c.well_formed)) in
     let at_span = seen at_buckets c.get-low.ensures.is c.get-high.ensures.is in
     at_span.inside
 
 pub get-first-requires : goal.get-first-requires
 get-first-requires c =
-    let at_buckets = buckets_found c.requires c.bucket.ensures c.bucket-2.ensures (omega (arith, length_words c.args.s.now, c.well_formed)) in
+    let at_buckets = buckets_found c.requires c.bucket.ensures.0 c.bucket-2.ensures (omega (arith, length_words c.args.s.now, c.well_formed)) in
     let at_span = seen at_buckets c.get-low.ensures.is c.get-high.ensures.is in
     let at_between = passed at_span c.max.ensures c.replace_between.ensures in
     omega (arith, at_between)
 
 pub get-end-requires : goal.get-end-requires
 get-end-requires c =
-    let at_buckets = buckets_found c.requires c.bucket.ensures c.bucket-2.ensures (omega (arith, length_words c.args.s.now, c.well_formed)) in
+    let at_buckets = buckets_found c.requires c.bucket.ensures.0 c.bucket-2.ensures (omega (arith, length_words c.args.s.now, c.well_formed)) in
     let at_span = seen at_buckets c.get-low.ensures.is c.get-high.ensures.is in
     let at_between = passed at_span c.max.ensures c.replace_between.ensures in
     omega (arith, at_between)
 
 pub put-requires : goal.put-requires
 put-requires c =
-    let at_buckets = buckets_found c.requires c.bucket.ensures c.bucket-2.ensures (omega (arith, length_words c.args.s.now, c.well_formed)) in
+    let at_buckets = buckets_found c.requires c.bucket.ensures.0 c.bucket-2.ensures (omega (arith, length_words c.args.s.now, c.well_formed)) in
     let at_span = seen at_buckets c.get-low.ensures.is c.get-high.ensures.is in
     let at_between = passed at_span c.max.ensures c.replace_between.ensures in
     omega (arith, at_between)
 
 pub put-requires-2 : goal.put-requires-2
 put-requires-2 c =
-    let at_buckets = buckets_found c.requires c.bucket.ensures c.bucket-2.ensures (omega (arith, length_words c.args.s.now, c.well_formed)) in
+    let at_buckets = buckets_found c.requires c.bucket.ensures.0 c.bucket-2.ensures (omega (arith, length_words c.args.s.now, c.well_formed)) in
     let at_span = seen at_buckets c.get-low.ensures.is c.get-high.ensures.is in
     let at_between = passed at_span c.max.ensures c.replace_between.ensures in
     omega (arith, at_between, length_words_kept c.put.new.s c.replace_between.new.s c.put.auto.s)
 
 pub returns : goal.returns
 returns c =
-    let at_buckets = buckets_found c.requires c.bucket.ensures c.bucket-2.ensures (omega (arith, length_words c.args.s.now, c.well_formed)) in
+    let at_buckets = buckets_found c.requires c.bucket.ensures.0 c.bucket-2.ensures (omega (arith, length_words c.args.s.now, c.well_formed)) in
     let at_span = seen at_buckets c.get-low.ensures.is c.get-high.ensures.is in
     let at_between = passed at_span c.max.ensures c.replace_between.ensures in
     replaced at_between c.get-first.ensures.is c.get-end.ensures.is
