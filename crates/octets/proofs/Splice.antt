@@ -7,7 +7,7 @@ use native.Mathlib.Nat.{add-zero, zero-add}
 use native.Mathlib.Numerals.{add-one}
 use native.Mathlib.Omega.{arith}
 use lib.ListN.{length, get_or, set, take, drop, length-append, length-take, length-drop, take-append-drop}
-use lib.Seq.{take-suc, take_at, drop_at, set_split, append_snoc, length-take-le, get_or-take, get_or-drop, drop-drop, take-add, take-length, ext_get_or}
+use lib.Seq.{take-suc, take_at, drop_at, set_split, append_snoc, length-take-le, get_or-take, get_or-drop, drop-drop, take-add, take-take, take-length, ext_get_or}
 use Rattle.octets.specs.Regions.{splice, part}
 
 -- ---- parts
@@ -42,6 +42,10 @@ part_one l p w h e =
 -- two parts that meet
 pub part_join : (l : List ℕ) (p m n : ℕ) → part l p (m + n) ≡ part l p m ++ part l (p + m) n
 part_join l p m n = take-add m n (drop p l) ∙ ap (λ (x : List ℕ). take m (drop p l) ++ take n x) (drop-drop m p l)
+
+-- the front of a part
+pub part_front : (l : List ℕ) (p n k : ℕ) → k ≤ n → part (part l p n) 0 k ≡ part l p k
+part_front l p n k h = take-take k n (drop p l) h
 
 -- two lists that agree on each word of a part
 pub part_same : (l m : List ℕ) (p n : ℕ) → length m ≡ length l → ((i : ℕ) → p ≤ i → i < p + n → get_or m i 0 ≡ get_or l i 0) → part m p n ≡ part l p n

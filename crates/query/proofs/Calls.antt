@@ -16,7 +16,7 @@ use Rattle.walks.specs.declared.Walk.{Walk}
 use Rattle.walks.specs.declared.Stopped.{Stopped}
 use Rattle.walks.specs.declared.Tops.{Tops}
 use Rattle.walks.proofs.Asks.{counted_kept}
-use Rattle.walks.proofs.LeavesUpTo.{leaves_most}
+use Rattle.walks.proofs.LeavesUpTo.{leaves_most, leaves_in}
 use Rattle.walks.proofs.Words.{head_says, count_says}
 use Rattle.query.specs.Flattened.{AsksExpr}
 use Rattle.query.proofs.Spots.{Spot, spot_of, ExprsAsked, ExprAnswers, ExprsAnswers}
@@ -35,21 +35,22 @@ pub record Fronted (p : Spot) (d w v n k : ℕ) (s1 cs1 sl : List ℕ) : Type 0 
   pub left : length sl ≡ length s1
 
 -- so it is by what is asked of the call, its word, its variable and the arguments in front
-pub fronted : {ws s cs : List ℕ} {at d w v k : ℕ} {t : Tops} {q : HeadWord} (s1 cs1 sl : List ℕ) (bound : ℕ) → AsksExpr ws d at t s cs
+pub fronted : {ws s cs row : List ℕ} {at d w v k : ℕ} {t : Tops} {q : HeadWord} (s1 cs1 sl : List ℕ) (bound : ℕ) → AsksExpr ws d at t s cs
     → (w ≡ get_or ws at 0) × (w < literal_base)
     → q ≡ head_word_of w → Asked (spot_of ws s cs at t) q.head (Ok v) s1 cs1 → length cs1 ≡ length cs → length s1 ≡ length s
-    → (k ≡ leaves_up_to bound (part ws (at + 1) q.count)) × (sl ≡ splice s1 (t.to + 1) (part ws (at + 1) k)) → length sl ≡ length s1
+    → row ≡ part ws (at + 1) q.count → (k ≡ leaves_up_to bound row) × (sl ≡ splice s1 (t.to + 1) (part row 0 k)) → length sl ≡ length s1
     → Fronted (spot_of ws s cs at t) d w v q.count k s1 cs1 sl
-fronted {ws} {at = at} s1 cs1 sl bound asks word is asked counters scratch leaves left =
-    let begins = begun asks word in
+fronted {ws} {s} {cs} {at = at} {d} {w} {t = t} {q = q} s1 cs1 sl bound asks word is asked counters scratch row leaves left =
+    let begins : Begun (spot_of ws s cs at t) d w = begun asks word in
     let count = count_says is in
+    let front = leaves_in ws (at + 1) q.count bound s1 (t.to + 1) (omega (arith, begins.atom.inside, count)) row leaves in
     record {
       start = begins;
       own = named begins s1 cs1 (head_says is) asked counters scratch;
       count = count;
       bound = bound;
-      run = leaves.0 ∙ ap (λ (i : ℕ). leaves_up_to bound (part ws (at + 1) i)) count;
-      put = leaves.1;
+      run = front.0 ∙ ap (λ (i : ℕ). leaves_up_to bound (part ws (at + 1) i)) count;
+      put = front.1;
       left = left;
     }
 

@@ -79,7 +79,8 @@ fn flatten_call(
         ..tops
     };
     let first = at + 1;
-    let k = walks::leaves(rule, first, n, u32::MAX, scratch, tops.to + 1);
+    let row = octets::part(rule, first, n);
+    let k = walks::leaves(row, u32::MAX, scratch, tops.to + 1);
     if k == n {
         let to = put_around(scratch, tops.to, w + 1, n, v);
         return Ok(Walk {

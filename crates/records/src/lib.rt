@@ -1,12 +1,13 @@
 // Reading the records of 01: whether each is good, and else the refusal. What rules hold is read in crates of their own.
 #![tactic(auto)]
 
-ghost use Rattle.std.specs.Prelude.{ℕ, ◌≡◌, ◌&&◌, length, leb};
+ghost use Rattle.std.specs.Prelude.{ℕ, ◌≡◌};
 ghost use Rattle.octets.specs.Words.{words};
 ghost use Rattle.refusals.specs.Numbers.{said};
 ghost use Rattle.rules.specs.Refusals.{Res};
 ghost use Rattle.rules.specs.Written.{read_row, read_written};
 ghost use Rattle.rules.specs.Flat.{read_atom, read_flat};
+ghost use Rattle.rules.specs.Calls.{length_fits};
 ghost use Rattle.written.specs.Written.{with_heads, ending_of, whole_of, Tells};
 ghost use Rattle.records.specs.Rows.{whole_ends};
 
@@ -19,11 +20,16 @@ pub const MAX_WRITTEN: usize = 512;
 
 pub const MAX_FLAT: usize = 1024;
 
-// Whether a record has from 1 to `most` words: refusal 4 is given where it has not.
-pub fn length_fits(rule: &[u8], most: usize) -> bool
-    ensures { result ≡ (leb 1 (length (words rule.now)) && leb (length (words rule.now)) most) }
+// How many words a record has, if they are from 1 to `most`; else refusal 4.
+pub fn length_fits(rule: &[u8], most: usize) -> Result<usize, Refusal>
+    ensures { said result ≡ length_fits most (words rule.now) }
 {
-    (1..=most).contains(&octets::count(rule))
+    let n = octets::count(rule);
+    if (1..=most).contains(&n) {
+        Ok(n)
+    } else {
+        Err(Reason::BadLength.at(0))
+    }
 }
 
 // A whole rule, with nothing behind it: its header, a row of what its body holds, and a row of its actions. It ends with its words.

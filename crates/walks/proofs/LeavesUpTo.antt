@@ -3,13 +3,14 @@
 use mathlib.Core.Path.{◌≡◌, refl, sym, ap, ◌∙◌, subst}
 use mathlib.Core.Bool.{Bool, true, false, ◌&&◌}
 use mathlib.Core.List.{List, [], ◌∷◌, ◌++◌}
+use mathlib.Core.Logic.{◌⊎◌, inl, inr}
 use Prim.Native.Nat.{ℕ, zero, suc, ◌+◌, ◌-◌, ◌≤◌, ◌<◌}
 use native.Mathlib.Omega.{arith}
 use lib.Dec.{leb}
 use lib.ListN.{length, get_or}
 use borrow.Author.Tests.{leb-true, le-leb, lt-leb}
-use Rattle.octets.specs.Regions.{part}
-use Rattle.octets.proofs.Splice.{part_join, part_one, length_part, get_d_part}
+use Rattle.octets.specs.Regions.{splice, part}
+use Rattle.octets.proofs.Splice.{part_all, part_front, part_join, part_one, length_part, get_d_part}
 use Rattle.rules.specs.Words.{literal_base}
 use Rattle.walks.specs.Leaves.{is_leaf, leaves_up_to}
 
@@ -72,45 +73,51 @@ module _ (most : ℕ) (ws : List ℕ) (at n : ℕ) (inside : at + n ≤ length w
   pub leaves_each : (i : ℕ) → i < leaves_up_to most (part ws at n) → Leaf most (get_or ws (at + i) 0)
   leaves_each i h = subst (Leaf most) (get_d_part ws at n i (omega (arith, leaves_most))) (each most (part ws at n) i h)
 
--- ---- the loop over them: k words are passed
+-- where the row is a part of a rule, what is written is the rule's
+module _ (ws : List ℕ) (at n most : ℕ) (s : List ℕ) (to : ℕ) (inside : at + n ≤ length ws) where
+  pub leaves_in : {row s' : List ℕ} {k : ℕ} → row ≡ part ws at n → (k ≡ leaves_up_to most row) × (s' ≡ splice s to (part row 0 k))
+      → (k ≡ leaves_up_to most (part ws at n)) × (s' ≡ splice s to (part ws at k))
+  leaves_in {row} {s'} {k} is r =
+      let count : k ≡ leaves_up_to most (part ws at n) = r.0 ∙ ap (leaves_up_to most) is in
+      let few : k ≤ n = omega (arith, count, leaves_most most ws at n inside) in
+      (count, r.1 ∙ ap (λ (l : List ℕ). splice s to (part l 0 k)) is ∙ ap (splice s to) (part_front ws at n k few))
 
-pub record Passed (most : ℕ) (ws : List ℕ) (at n k : ℕ) : Type 0 where
-  pub inside : at + n ≤ length ws
-  pub count : leaves_up_to most (part ws at n) ≡ k + leaves_up_to most (part ws (at + k) (n - k))
+-- ---- the loop over a row of words: k are passed
 
-pub passed_start : {most : ℕ} {ws : List ℕ} {at n : ℕ} → at + n ≤ length ws → Passed most ws at n 0
-passed_start {most} {ws} {at} {n} inside =
-    let a : at ≡ at + 0 = omega arith in
-    let b : n ≡ n - 0 = omega arith in
-    let here : leaves_up_to most (part ws at n) ≡ leaves_up_to most (part ws (at + 0) (n - 0)) = λ i. leaves_up_to most (part ws (a i) (b i)) in
-    record { inside = inside; count = omega (arith, here) }
+pub record Passed (most : ℕ) (ws : List ℕ) (k : ℕ) : Type 0 where
+  pub inside : k ≤ length ws
+  pub count : leaves_up_to most ws ≡ k + leaves_up_to most (part ws k (length ws - k))
 
-module _ {most : ℕ} {ws : List ℕ} {at n k : ℕ} (p : Passed most ws at n k) where
+pub passed_start : {most : ℕ} {ws : List ℕ} → Passed most ws 0
+passed_start {most} {ws} =
+    let n : length ws ≡ length ws - 0 = omega arith in
+    let here : leaves_up_to most ws ≡ leaves_up_to most (part ws 0 (length ws - 0)) = ap (leaves_up_to most) (sym (part_all ws) ∙ ap (part ws 0) n) in
+    record { inside = omega arith; count = omega (arith, here) }
+
+module _ {most : ℕ} {ws : List ℕ} {k : ℕ} (p : Passed most ws k) where
   -- no word is left
-  pub passed_end : n ≤ k → k ≤ n → n ≡ leaves_up_to most (part ws at n)
-  passed_end h all =
-      let z : n - k ≡ 0 = omega arith in
-      let left : leaves_up_to most (part ws (at + k) (n - k)) ≡ 0 = ap (λ (j : ℕ). leaves_up_to most (part ws (at + k) j)) z ∙ none most in
-      omega (arith, p.count)
+  pub passed_end : length ws ≤ k → length ws ≡ leaves_up_to most ws
+  passed_end h =
+      let z : length ws - k ≡ 0 = omega (arith, p.inside) in
+      let left : leaves_up_to most (part ws k (length ws - k)) ≡ 0 = ap (λ (j : ℕ). leaves_up_to most (part ws k j)) z ∙ none most in
+      omega (arith, p.count, p.inside)
 
   -- the next word is w
-  module _ {w : ℕ} (h : k < n) (is : w ≡ get_or ws (at + k) 0) where
-    first : part ws (at + k) (n - k) ≡ w ∷ part ws (at + k + 1) (n - (k + 1))
+  module _ {w : ℕ} (h : k < length ws) (is : w ≡ get_or ws k 0) where
+    first : part ws k (length ws - k) ≡ w ∷ part ws (k + 1) (length ws - (k + 1))
     first =
-        part_first ws (at + k) (n - (k + 1)) (n - k) (omega (arith, p.inside)) (omega arith) ∙ ap (λ (v : ℕ). v ∷ part ws (at + k + 1) (n - (k + 1))) (sym is)
+        part_first ws k (length ws - (k + 1)) (length ws - k) h (omega arith) ∙ ap (λ (v : ℕ). v ∷ part ws (k + 1) (length ws - (k + 1))) (sym is)
 
-    pub passed_next : literal_base ≤ w → w ≤ most → Passed most ws at n (k + 1)
+    pub passed_next : literal_base ≤ w → w ≤ most → Passed most ws (k + 1)
     passed_next low high =
-        let e : at + k + 1 ≡ at + (k + 1) = omega arith in
         let leaf : is_leaf most w ≡ true = rw (le-leb literal_base w low, le-leb w most high) in
-        let one = ap (leaves_up_to most) first ∙ one_more most w _ leaf ∙ ap (λ (j : ℕ). suc (leaves_up_to most (part ws j (n - (k + 1))))) e in
-        record { inside = p.inside; count = omega (arith, p.count, one) }
+        let one = ap (leaves_up_to most) first ∙ one_more most w _ leaf in
+        record { inside = omega arith; count = omega (arith, p.count, one) }
 
-    other : is_leaf most w ≡ false → k ≡ leaves_up_to most (part ws at n)
-    other e = omega (arith, p.count, ap (leaves_up_to most) first ∙ no_more most w _ e)
-
-    pub passed_below : w < literal_base → k ≡ leaves_up_to most (part ws at n)
-    passed_below low = other (rw (lt-leb literal_base w low))
-
-    pub passed_above : literal_base ≤ w → most < w → k ≡ leaves_up_to most (part ws at n)
-    passed_above low high = other (rw (le-leb literal_base w low, lt-leb w most high))
+    -- it is none of them
+    pub passed_other : (w < literal_base) ⊎ ((literal_base ≤ w) × (most < w)) → k ≡ leaves_up_to most ws
+    passed_other out = omega (arith, p.count, ap (leaves_up_to most) first ∙ no_more most w _ (outside out))
+      where
+        outside : (w < literal_base) ⊎ ((literal_base ≤ w) × (most < w)) → is_leaf most w ≡ false
+        outside (inl low) = rw (lt-leb literal_base w low)
+        outside (inr high) = rw (le-leb literal_base w high.0, lt-leb w most high.1)

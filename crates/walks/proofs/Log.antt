@@ -8,7 +8,7 @@ use lib.ListN.{length, get_or, set}
 use lib.Seq.{set-set, set-get_or, set_out}
 use borrow.Author.Tests.{lt-ltb}
 use Rattle.octets.specs.Regions.{part}
-use Rattle.octets.proofs.Splice.{part_more}
+use Rattle.octets.proofs.Splice.{part_all, take_more}
 use Rattle.rules.specs.Words.{limit12, limit16, fresh_word}
 use Rattle.rules.specs.ToQuery.{count, fresh}
 use Rattle.std.specs.Prelude.{Ok}
@@ -78,37 +78,35 @@ module _ {cs : List ℕ} {h c : ℕ} (k : Counter cs h c) (lg : ℕ) (s : List �
           let uc : used_count (fresh_word h c) ≡ get_or cs h 0 = used_count_lem h c low ∙ k.is in
           (λ i. set (grown i) (uh i) (uc i)) ∙ set-set cs h (c + 1) (get_or cs h 0) ∙ set-get_or cs h 0
 
--- ---- the loop that takes uses back: of the n that are logged at `from` the first k are left, and cs is what the others make of cs0
+-- ---- the loop that takes uses back: of the words s of the log the first k are left, and cs is what the others make of cs0
 
-pub record Taking (s cs0 : List ℕ) (from n k : ℕ) (cs : List ℕ) : Type 0 where
-  pub most : k ≤ n
-  pub inside : from + n ≤ length s
-  pub same : undone (part s from k) cs ≡ undone (part s from n) cs0
+pub record Taking (s cs0 : List ℕ) (k : ℕ) (cs : List ℕ) : Type 0 where
+  pub most : k ≤ length s
+  pub same : undone (part s 0 k) cs ≡ undone s cs0
 
-pub taking_start : {s cs : List ℕ} {from n : ℕ} → from + n ≤ length s → Taking s cs from n n cs
-taking_start inside = record { most = omega arith; inside = inside; same = refl }
+pub taking_start : {s cs : List ℕ} → Taking s cs (length s) cs
+taking_start {s} {cs} = record { most = omega arith; same = ap (λ (l : List ℕ). undone l cs) (part_all s) }
 
-module _ {s cs0 : List ℕ} {from n k : ℕ} {cs : List ℕ} (t : Taking s cs0 from n k cs) where
-  pub taking_end : k ≤ 0 → cs ≡ undone (part s from n) cs0
+module _ {s cs0 : List ℕ} {k : ℕ} {cs : List ℕ} (t : Taking s cs0 k cs) where
+  pub taking_end : k ≤ 0 → cs ≡ undone s cs0
   taking_end none =
       let z : k ≡ 0 = omega arith in
-      sym (undone_none cs) ∙ ap (λ (j : ℕ). undone (part s from j) cs) (sym z) ∙ t.same
+      sym (undone_none cs) ∙ ap (λ (j : ℕ). undone (part s 0 j) cs) (sym z) ∙ t.same
 
   -- the use v is the last of those left
-  module _ (some : 0 < k) {v : ℕ} (is : v ≡ get_or s (from + (k - 1)) 0) where
-    pub taking_next : {cs1 : List ℕ} → cs1 ≡ set cs (used_head v) (used_count v) → Taking s cs0 from n (k - 1) cs1
+  module _ (some : 0 < k) {v : ℕ} (is : v ≡ get_or s (k - 1) 0) where
+    pub taking_next : {cs1 : List ℕ} → cs1 ≡ set cs (used_head v) (used_count v) → Taking s cs0 (k - 1) cs1
     taking_next {cs1} put =
         let e : k - 1 + 1 ≡ k = omega arith in
-        let last : part s from k ≡ part s from (k - 1) ++ (v ∷ []) =
-        ap (part s from) (sym e) ∙ part_more s from (k - 1) (omega (arith, t.inside, t.most)) ∙ ap (λ (w : ℕ). part s from (k - 1) ++ (w ∷ [])) (sym is) in
+        let last : part s 0 k ≡ part s 0 (k - 1) ++ (v ∷ []) =
+        ap (part s 0) (sym e) ∙ take_more s (k - 1) (omega (arith, t.most)) ∙ ap (λ (w : ℕ). part s 0 (k - 1) ++ (w ∷ [])) (sym is) in
         record {
           most = omega (arith, t.most);
-          inside = t.inside;
           same =
-              ap (undone (part s from (k - 1))) (put ∙ sym (undone_one v cs)) ∙ sym (undone_append (part s from (k - 1)) (v ∷ []) cs)
+              ap (undone (part s 0 (k - 1))) (put ∙ sym (undone_one v cs)) ∙ sym (undone_append (part s 0 (k - 1)) (v ∷ []) cs)
               ∙ ap (λ (l : List ℕ). undone l cs) (sym last) ∙ t.same;
         }
 
     -- where its head has no counter, nothing is stored
-    pub taking_out : length cs ≤ used_head v → Taking s cs0 from n (k - 1) cs
+    pub taking_out : length cs ≤ used_head v → Taking s cs0 (k - 1) cs
     taking_out out = taking_next (sym (set_out cs (used_head v) (used_count v) out))

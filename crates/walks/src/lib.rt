@@ -76,13 +76,13 @@ pub fn take(
     Ok(v)
 }
 
-// Takes back the n uses that are logged from `from` on. The last one goes first, since a head may have been used more than once.
-pub fn restore(counters: &mut [u8], scratch: &[u8], from: usize, n: usize)
-    requires { from + n ≤ length (words scratch.now) }
-    ensures { words counters.new ≡ undone (part (words scratch.now) from n) (words counters.old) }
+// Takes back the uses that are logged. The last one goes first, since a head may have been used more than once.
+#[tactic(auto, using(octets::proofs::Words::length_words))]
+pub fn restore(counters: &mut [u8], log: &[u8])
+    ensures { words counters.new ≡ undone (words log.now) (words counters.old) }
 {
-    for k in (0..n).rev() {
-        let v = octets::get(scratch, from + k);
+    for k in (0..octets::count(log)).rev() {
+        let v = octets::get(log, k);
         let h = (v / words::LIMIT_16 % 32768) as usize;
         if h < octets::count(counters) {
             octets::put(counters, h, v % words::LIMIT_16);
@@ -90,18 +90,17 @@ pub fn restore(counters: &mut [u8], scratch: &[u8], from: usize, n: usize)
     }
 }
 
-// Of the n words from `at` on, writes those before the first that is no literal or name, or is above `most`, to `to`. Returns how many they are.
-pub fn leaves(rule: &[u8], at: usize, n: usize, most: u32, scratch: &mut [u8], to: usize) -> usize
-    requires { (at + n ≤ length (words rule.now)) × (to + n ≤ length (words scratch.old)) }
-    ensures { (result ≡ leaves_up_to most (part (words rule.now) at n))
-        × (words scratch.new ≡ splice (words scratch.old) to (part (words rule.now) at result)) }
+// Of a row of words, writes those before the first that is no literal or name, or is above `most`, to `to`. Returns how many they are.
+#[tactic(auto, using(octets::proofs::Words::length_words))]
+pub fn leaves(row: &[u8], most: u32, scratch: &mut [u8], to: usize) -> usize
+    requires { to + length (words row.now) ≤ length (words scratch.old) }
+    ensures { (result ≡ leaves_up_to most (words row.now))
+        × (words scratch.new ≡ splice (words scratch.old) to (part (words row.now) 0 result)) }
 {
+    let n = octets::count(row);
     for k in 0..n {
-        let w = octets::get(rule, at + k);
-        if w < words::LITERAL_BASE {
-            return k;
-        }
-        if most < w {
+        let w = octets::get(row, k);
+        if w < words::LITERAL_BASE || most < w {
             return k;
         }
         octets::put(scratch, to + k, w);

@@ -7,6 +7,7 @@ use Rattle.rules.specs.Words.{limit16, fresh_base, name_base, literal_base, head
 use Rattle.rules.specs.Words.{signature_base, action_word, within, is_name_word, is_literal_word}
 use Rattle.rules.specs.Words.{is_equality_word, is_header_word, head_of, count_of, facts_of, actions_of}
 use Rattle.words.specs.declared.HeadWord.{HeadWord}
+use Rattle.words.specs.declared.Header.{Header as HeaderWord}
 use Rattle.words.specs.declared.Word.{Word}
 use Rattle.words.specs.declared.Word.TheVariants.{Fresh, Name, Literal, Head, Equality, Header, Action, Signature}
 
@@ -61,3 +62,7 @@ pub record WordSays (r : Option Word) (ws : List ℕ) (p : ℕ) : Type 0 where
 -- the head and the count of a word of kind 3
 abbrev pub head_word_of : ℕ → HeadWord
 head_word_of w = record { head = head_of w; count = count_of w }
+
+-- the two numbers of a header
+abbrev pub header_of : ℕ → HeaderWord
+header_of w = record { body = facts_of w; actions = actions_of w }

@@ -3,8 +3,8 @@
 
 ghost use Rattle.std.specs.Prelude.{◌≡◌, ◌+◌, ◌^◌, ◌≤◌, ◌<◌, leb, get_or};
 ghost use Rattle.octets.specs.Words.{words};
-ghost use Rattle.rules.specs.Words.{limit12, equality_base, head_base, literal_base};
-ghost use Rattle.words.specs.Word.{numbers, numbers_of, WordSays, head_word_of};
+ghost use Rattle.rules.specs.Words.{limit12, header_base, equality_base, head_base, literal_base};
+ghost use Rattle.words.specs.Word.{numbers, numbers_of, WordSays, head_word_of, header_of};
 ghost use Rattle.words.specs.Atom.{TermSays, HeadSays, laid_out, AtomSays, BeginsAtom, BeginsGood};
 
 // Heads, names, facts, atoms and actions are numbered below LIMIT_12, counts and literals below LIMIT_16.
@@ -166,6 +166,25 @@ pub fn head_word(w: u32) -> HeadWord
     HeadWord {
         head: p / LIMIT_16,
         count: p % LIMIT_16,
+    }
+}
+
+// A header taken apart: how many facts or atoms the body of a rule has, and how many actions its head.
+#[derive(Clone, Copy)]
+pub struct Header {
+    pub body: u32,
+    pub actions: u32,
+}
+
+// What a word of kind 5, a header, says.
+pub fn header_word(w: u32) -> Header
+    requires { header_base ≤ w }
+    ensures { result ≡ header_of w }
+{
+    let p = w - HEADER_BASE;
+    Header {
+        body: p / LIMIT_12,
+        actions: p % LIMIT_12,
     }
 }
 

@@ -1,10 +1,13 @@
 -- Flattening a call and a row of arguments: the one proof of their cycle. The depth falls at each call's arguments. What is known at a place of the
 -- code is said once, as a record of `Arguments`, `Exprs` or `Calls`, and the needs behind that place cite it. Assumes nothing.
-use Prim.Native.Nat.{◌-◌, ◌^◌}
+use mathlib.Core.Path.{ap, ◌∙◌}
+use Prim.Native.Nat.{◌-◌, ◌+◌, ◌^◌}
 use native.Mathlib.Omega.{arith}
 use Rattle.std.proofs.lemmas.Result.{err_from_is_err_and}
 use Rattle.octets.specs.Words.{words}
 use Rattle.octets.proofs.Words.{length_words, length_words_kept}
+use Rattle.octets.proofs.Splice.{length_part}
+use lib.ListN.{length}
 use Rattle.walks.specs.Steps.{tops_at}
 use Rattle.walks.proofs.Words.{leaf_high, call_low, head_says, count_says}
 use Rattle.query.proofs.Spots.{spot_of}
@@ -84,11 +87,18 @@ flatten_call-overflow_add-first t c = omega (arith, begun c.requires.asks c.requ
 
 -- ---- the arguments in front
 
+pub flatten_call-part-row-requires : goal.flatten_call-part-row-requires
+flatten_call-part-row-requires t c =
+    let room = (begun c.requires.asks c.requires.call).atom in
+    let count = count_says c.head_word-call.ensures in
+    omega (arith, room.inside)
+
 pub flatten_call-leaves-k-requires : goal.flatten_call-leaves-k-requires
 flatten_call-leaves-k-requires t c =
     let room = (begun c.requires.asks c.requires.call).atom in
     let count = count_says c.head_word-call.ensures in
-    (omega (arith, room.inside), omega (arith, room.words, length_words_kept c.take.new.scratch c.args.scratch.now c.take.auto.scratch))
+    let row = ap length c.part-row.ensures ∙ length_part (words c.args.rule.now) (c.args.at + 1) c.head_word-call.result.count (omega (arith, room.inside)) in
+    omega (arith, row, room.words, length_words_kept c.take.new.scratch c.args.scratch.now c.take.auto.scratch)
 
 -- ---- all are names or literals
 
@@ -97,7 +107,7 @@ flatten_call-put_around-to-requires t c =
     let v = c.take in
     let front =
     fronted _ _ _ (2 ^ 32 - 1) c.requires.asks c.requires.call c.head_word-call.ensures c.in_ok-v.ensures
-    (length_words_kept _ _ v.auto.counters) (length_words_kept _ _ v.auto.scratch) c.leaves-k.ensures (length_words_kept _ _ c.leaves-k.auto.scratch) in
+    (length_words_kept _ _ v.auto.counters) (length_words_kept _ _ v.auto.scratch) c.part-row.ensures c.leaves-k.ensures (length_words_kept _ _ c.leaves-k.auto.scratch) in
     around_room front
 
 pub flatten_call-overflow_add-result : goal.flatten_call-overflow_add-result
@@ -110,7 +120,7 @@ flatten_call-returns-then-k-n t c =
     let v = c.take in
     let front =
     fronted _ _ _ (2 ^ 32 - 1) c.requires.asks c.requires.call c.head_word-call.ensures c.in_ok-v.ensures
-    (length_words_kept _ _ v.auto.counters) (length_words_kept _ _ v.auto.scratch) c.leaves-k.ensures (length_words_kept _ _ c.leaves-k.auto.scratch) in
+    (length_words_kept _ _ v.auto.counters) (length_words_kept _ _ v.auto.scratch) c.part-row.ensures c.leaves-k.ensures (length_words_kept _ _ c.leaves-k.auto.scratch) in
     let e = c.put_around-to.ensures in
     leaves_answer front _ _ c.if-k-n.true e.0 e.1
 
@@ -121,7 +131,7 @@ flatten_call-flatten_all-requires t c =
     let v = c.take in
     let front =
     fronted _ _ _ (2 ^ 32 - 1) c.requires.asks c.requires.call c.head_word-call.ensures c.in_ok-v.ensures
-    (length_words_kept _ _ v.auto.counters) (length_words_kept _ _ v.auto.scratch) c.leaves-k.ensures (length_words_kept _ _ c.leaves-k.auto.scratch) in
+    (length_words_kept _ _ v.auto.counters) (length_words_kept _ _ v.auto.scratch) c.part-row.ensures c.leaves-k.ensures (length_words_kept _ _ c.leaves-k.auto.scratch) in
     let f = front.start.facts in
     (omega (arith, c.decreases, f.inside, f.deep), args_asked front)
 
@@ -130,7 +140,7 @@ flatten_call-returns-in_err-args t c =
     let v = c.take in
     let front =
     fronted _ _ _ (2 ^ 32 - 1) c.requires.asks c.requires.call c.head_word-call.ensures c.in_ok-v.ensures
-    (length_words_kept _ _ v.auto.counters) (length_words_kept _ _ v.auto.scratch) c.leaves-k.ensures (length_words_kept _ _ c.leaves-k.auto.scratch) in
+    (length_words_kept _ _ v.auto.counters) (length_words_kept _ _ v.auto.scratch) c.part-row.ensures c.leaves-k.ensures (length_words_kept _ _ c.leaves-k.auto.scratch) in
     let p = err_from_is_err_and c.from_residual-in_err-args.result c.from_residual-in_err-args.ensures.1 in
     rw (p.1, p.2) (args_refused front c.in_err-args.ensures)
 
@@ -139,7 +149,7 @@ flatten_call-put_atom-to-requires t c =
     let v = c.take in
     let front =
     fronted _ _ _ (2 ^ 32 - 1) c.requires.asks c.requires.call c.head_word-call.ensures c.in_ok-v.ensures
-    (length_words_kept _ _ v.auto.counters) (length_words_kept _ _ v.auto.scratch) c.leaves-k.ensures (length_words_kept _ _ c.leaves-k.auto.scratch) in
+    (length_words_kept _ _ v.auto.counters) (length_words_kept _ _ v.auto.scratch) c.part-row.ensures c.leaves-k.ensures (length_words_kept _ _ c.leaves-k.auto.scratch) in
     atom_asks front c.in_ok-args.ensures (length_words_kept _ _ c.flatten_all.auto.scratch)
 
 pub flatten_call-returns : goal.flatten_call-returns
@@ -147,6 +157,6 @@ flatten_call-returns t c =
     let v = c.take in
     let front =
     fronted _ _ _ (2 ^ 32 - 1) c.requires.asks c.requires.call c.head_word-call.ensures c.in_ok-v.ensures
-    (length_words_kept _ _ v.auto.counters) (length_words_kept _ _ v.auto.scratch) c.leaves-k.ensures (length_words_kept _ _ c.leaves-k.auto.scratch) in
+    (length_words_kept _ _ v.auto.counters) (length_words_kept _ _ v.auto.scratch) c.part-row.ensures c.leaves-k.ensures (length_words_kept _ _ c.leaves-k.auto.scratch) in
     let e = c.put_atom-to.ensures in
     call_answer front c.in_ok-args.ensures (length_words_kept _ _ c.flatten_all.auto.scratch) _ _ e.0 e.1

@@ -6,4 +6,4 @@ use Rattle.walks.proofs.LeavesUpTo.{Passed}
 use Rattle.walks.proofs.leaves.Given as goal
 
 abbrev pub invariant-loop-k : goal.invariant-loop-k
-invariant-loop-k l = Filled (λ (i : ℕ). part (words l.rule) l.at i) l.initial.scratch l.scratch l.to l.n l.k × Passed l.most (words l.rule) l.at l.n l.k
+invariant-loop-k l = Filled (λ (i : ℕ). part (words l.row) 0 i) l.initial.scratch l.scratch l.to l.n l.k × Passed l.most (words l.row) l.k

@@ -1,15 +1,11 @@
 -- Taking uses back from the last on: each turn stores the count that one more use says, so that what is left of the log takes the counters back to the
 -- same. A head without a counter has nothing to store. Assumes nothing.
 use native.Mathlib.Omega.{arith}
-use Rattle.octets.proofs.Words.{length_words}
 use Rattle.walks.proofs.Log.{taking_start, taking_next, taking_out, taking_end}
 use Rattle.walks.proofs.restore.Goals as goal
 
 pub loop-k-init : goal.loop-k-init
-loop-k-init c = taking_start c.requires
-
-pub overflow_add-from : goal.overflow_add-from
-overflow_add-from c = omega (arith, length_words c.args.scratch.now, c.loop-k.invariant)
+loop-k-init c = rw c.count-k.ensures taking_start
 
 -- ---- the head has a counter
 

@@ -3,4 +3,4 @@ use Rattle.walks.proofs.Log.{Taking}
 use Rattle.walks.proofs.restore.Given as goal
 
 abbrev pub invariant-loop-k : goal.invariant-loop-k
-invariant-loop-k l = Taking (words l.scratch) (words l.initial.counters) l.from l.n l.k (words l.counters)
+invariant-loop-k l = Taking (words l.log) (words l.initial.counters) l.k (words l.counters)
