@@ -18,9 +18,7 @@ fn sizes(rule: &[u8], most: usize, scratch: usize) -> Result<(), Refusal>
     if scratch < SCRATCH_WORDS {
         return Err(Reason::SmallScratch.at(0));
     }
-    if !records::length_fits(rule, most) {
-        return Err(Reason::BadLength.at(0));
-    }
+    records::length_fits(rule, most)?;
     Ok(())
 }
 

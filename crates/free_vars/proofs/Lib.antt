@@ -1,5 +1,5 @@
--- Laws. Sets and Free are about 01's definition; Reading, Found, Bounds and Atoms about the words of a rule; Terms, Moving, Adding and Writing about
--- the steps of the row; Bits, Listing, Gathering, Marking, Spanning and Sweeping about those of the spans.
+-- Laws. Sets and Free are about 01's definition; Reading, Found, Bounds and Atoms about the words of a rule; Terms, Moving, Searching, Adding and Writing
+-- about the steps of the row; Bits, Listing, Gathering, Marking, Spanning and Sweeping about those of the spans.
 pub mod Sets
 pub mod Free
 pub mod Reading
@@ -8,6 +8,7 @@ pub mod Bounds
 pub mod Atoms
 pub mod Terms
 pub mod Moving
+pub mod Searching
 pub mod Adding
 pub mod Writing
 pub mod Bits

@@ -32,6 +32,7 @@ fn lower_good(
 {
     let n = octets::count(rule);
     let core = lowering::to_core_rule(signature, rule, counters, scratch)?;
+    // No `From`, which could ask for nothing: that both numbers are in bounds is known of a signature that was read, not of the type.
     let terms = Sign {
         globals: sign.globals,
         equals: sign.equals,

@@ -13,7 +13,7 @@ ghost use Rattle.rules.specs.Signature.{read_signature};
 ghost use Rattle.written.specs.Written.{whole_of};
 ghost use Rattle.reads.specs.Answers.{Says, heads_behind, written_alone, flat_alone, Answers};
 
-use refusals::{Reason, Refusal};
+use refusals::Refusal;
 use std::io::{Stdout, Write};
 
 // The bytes of a word in a line: a space and eight digits.
@@ -95,9 +95,7 @@ fn signature(bytes: &[u8], heads: u32) -> Answer
 fn written_rule(bytes: &[u8], heads: u32) -> Result<usize, Refusal>
     ensures { said result ≡ whole_of (words bytes.now) (written_alone heads (words bytes.now)) }
 {
-    if !records::length_fits(bytes, records::MAX_WRITTEN) {
-        return Err(Reason::BadLength.at(0));
-    }
+    records::length_fits(bytes, records::MAX_WRITTEN)?;
     records::written(bytes, heads)
 }
 
@@ -105,9 +103,7 @@ fn written_rule(bytes: &[u8], heads: u32) -> Result<usize, Refusal>
 fn flat_rule(bytes: &[u8], heads: u32) -> Result<usize, Refusal>
     ensures { said result ≡ whole_of (words bytes.now) (flat_alone heads (words bytes.now)) }
 {
-    if !records::length_fits(bytes, records::MAX_FLAT) {
-        return Err(Reason::BadLength.at(0));
-    }
+    records::length_fits(bytes, records::MAX_FLAT)?;
     records::flat(bytes, heads, 0)
 }
 

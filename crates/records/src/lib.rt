@@ -5,10 +5,10 @@ ghost use Rattle.std.specs.Prelude.{ℕ, ◌≡◌};
 ghost use Rattle.octets.specs.Words.{words};
 ghost use Rattle.refusals.specs.Numbers.{said};
 ghost use Rattle.rules.specs.Refusals.{Res};
-ghost use Rattle.rules.specs.Written.{read_row, read_written};
-ghost use Rattle.rules.specs.Flat.{read_atom, read_flat};
+ghost use Rattle.rules.specs.Written.{read_written};
+ghost use Rattle.rules.specs.Flat.{read_flat};
 ghost use Rattle.rules.specs.Calls.{length_fits};
-ghost use Rattle.written.specs.Written.{with_heads, ending_of, whole_of, Tells};
+ghost use Rattle.written.specs.Written.{with_heads, whole_of, Tells};
 ghost use Rattle.records.specs.Rows.{whole_ends};
 
 use refusals::{Reason, Refusal};
@@ -59,18 +59,6 @@ pub fn written(rule: &[u8], heads: u32) -> Result<usize, Refusal>
 {
     let record = written::Record { rule, heads };
     whole_rule(rule, |at| record.fact(at), |at| record.action(at))
-}
-
-// `count` atoms, one after the other.
-pub fn atoms(rule: &[u8], heads: u32, globals: u32, at: usize, count: u32) -> Result<usize, Refusal>
-    ensures { said result ≡ ending_of (read_row (read_atom (with_heads heads) (words rule.now)) count at) }
-{
-    let record = flat::Record {
-        rule,
-        heads,
-        globals,
-    };
-    row(|next| record.atom(next), at, count)
 }
 
 // A whole flat rule.

@@ -13,9 +13,10 @@ use answers::fronts::flat_front;
 use answers::{Answer, Counts, whole_words};
 use bodies::terms::Sign;
 use emitting::Actions;
+use free_vars::first_action;
 use refusals::{Reason, Refusal};
 use signature::Signature;
-use words::{HEADER_BASE, LIMIT_12};
+use words::header_word;
 
 // The bytes of scratch that are lent on for each word of the rule: 16 words.
 const LENT: usize = 64;
@@ -27,10 +28,10 @@ fn settle_good(rule: &[u8], sign: Signature, output: &mut [u8], scratch: &mut [u
     ensures { (s : Sig) (f : FlatRule) → FlatUnder (words rule.now) sign s f
         → EndedWith s f result output.old output.new }
 {
-    let counts = octets::get(rule, 0) - HEADER_BASE;
-    let end = records::atoms(rule, sign.heads, sign.globals, 1, counts / LIMIT_12).unwrap();
+    let end = first_action(rule);
     let n = end - 1;
     octets::regions::copy(scratch, 0, octets::part(rule, 1, n));
+    // No `From`, which could ask for nothing: that both numbers are in bounds is known of a signature that was read, not of the type.
     let terms = Sign {
         globals: sign.globals,
         equals: sign.equals,
@@ -38,7 +39,7 @@ fn settle_good(rule: &[u8], sign: Signature, output: &mut [u8], scratch: &mut [u
     let body = settling::settle(scratch, 0, n, terms);
     let head = Actions {
         words: octets::part(rule, end, octets::count(rule) - end),
-        count: (counts % LIMIT_12) as usize,
+        count: header_word(octets::get(rule, 0)).actions as usize,
     };
     let words = emitting::finish(output, scratch, body, head);
     Counts {
