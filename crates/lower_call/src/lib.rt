@@ -44,7 +44,8 @@ fn lower_good(
     };
     let words = emitting::finish(output, scratch, body, head);
     if octets::count(output) < words {
-        walks::restore(counters, scratch, lowering::LOG_AT * n, core.log);
+        let log = octets::part(scratch, lowering::LOG_AT * n, core.log);
+        walks::restore(counters, log);
     }
     Ok(Counts {
         words,
