@@ -1,5 +1,5 @@
 -- Laws of what is printed: bytes written one behind the other, lines of words, and decimal numbers. Assumes nothing.
-use mathlib.Core.Path.{◌≡◌, refl, sym, ap, ◌∙◌}
+use mathlib.Core.Path.{◌≡◌, refl, sym, ap, ◌∙◌, subst}
 use mathlib.Core.List.{List, [], ◌∷◌, ◌++◌, append_assoc, append-nil}
 use mathlib.Core.Bool.{Bool, true, false, cond}
 use Prim.Native.Nat.{ℕ, zero, suc, ◌+◌, ◌-◌, ◌*◌, ◌/◌, ◌%◌, ◌^◌, ◌≤◌, ◌<◌}
@@ -113,34 +113,36 @@ lines_more ws i h =
     ∙ ap (λ (l : List ℕ). words_of word_line (part ws 0 i) ++ l) (append-nil (word_line (get_or ws i 0)))
 
 -- i words are written, a line each
-pub record LinesTo (l : List ℕ) (at : ℕ) (ws : List ℕ) (i : ℕ) (m : List ℕ) (end : ℕ) : Type 0 where
+pub record LinesTo (l : List ℕ) (at : ℕ) (ws : List ℕ) (i : ℕ) (m : List ℕ) : Type 0 where
   pub most : i ≤ length ws
   pub size : length m ≡ length l
-  pub place : end ≡ at + i * 9
-  pub wrote : Wrote l at (words_of word_line (part ws 0 i)) m end
+  pub wrote : Wrote l at (words_of word_line (part ws 0 i)) m (at + 9 * i)
 
-pub lines_start : (l : List ℕ) (at : ℕ) (ws : List ℕ) → LinesTo l at ws 0 l at
-lines_start l at ws = record { most = omega arith; size = refl; place = omega arith; wrote = wrote_nothing l at }
+pub lines_start : (l : List ℕ) (at : ℕ) (ws : List ℕ) → LinesTo l at ws 0 l
+lines_start l at ws =
+    record { most = omega arith; size = refl; wrote = subst (Wrote l at [] l) (let e : at ≡ at + 9 * 0 = omega arith in e) (wrote_nothing l at) }
 
-pub lines_next : {l m k : List ℕ} {at i end w : ℕ} {ws : List ℕ} → LinesTo l at ws i m end → i < length ws → at + length ws * 9 ≤ length l
-    → w ≡ get_or ws i 0 → length k ≡ length m → k ≡ splice m end (hexadecimal 8 w) → LinesTo l at ws (i + 1) (set k (end + 8) line_feed) (end + 9)
-lines_next {l} {m} {k} {at} {i} {end} {w} {ws} f h room e size hex =
+pub lines_next : {l m k : List ℕ} {at i w : ℕ} {ws : List ℕ} → LinesTo l at ws i m → i < length ws → at + length ws * 9 ≤ length l
+    → w ≡ get_or ws i 0 → length k ≡ length m → k ≡ splice m (at + 9 * i) (hexadecimal 8 w) → LinesTo l at ws (i + 1) (set k (at + 9 * i + 8) line_feed)
+lines_next {l} {m} {k} {at} {i} {w} {ws} f h room e size hex =
     let eight : length (hexadecimal 8 w) ≡ 8 = length_hexadecimal 8 w in
+    let end : ℕ = at + 9 * i in
     let digits : Wrote m end (hexadecimal 8 w) k (end + 8) = record { end = omega arith; bytes = hex } in
-    let line : Wrote m end (word_line w) (set k (end + 8) line_feed) (end + 8 + 1) = wrote_snoc line_feed digits (omega arith) (omega arith) in
+    let line : Wrote m end (word_line w) (set k (end + 8) line_feed) (end + 8 + 1) = wrote_snoc line_feed digits (omega (arith, f.size)) (omega arith) in
     let more = lines_more ws i (omega arith) in
-    let nine : end + 8 + 1 ≡ end + 9 = omega arith in
+    let nine : end + 8 + 1 ≡ at + 9 * (i + 1) = omega arith in
     record {
       most = omega arith;
       size = length-set k (end + 8) line_feed ∙ size ∙ f.size;
-      place = omega arith;
-      wrote = rw nine at (wrote_same (ap (λ (x : ℕ). words_of word_line (part ws 0 i) ++ word_line x) e ∙ sym more) (wrote_then f.wrote line (omega arith)));
+      wrote = rw nine at (wrote_same (ap (λ (x : ℕ). words_of word_line (part ws 0 i) ++ word_line x) e ∙ sym more) (wrote_then f.wrote line (omega (arith, f.size))));
     }
 
-pub lines_end : {l m : List ℕ} {at i end : ℕ} {ws : List ℕ} → LinesTo l at ws i m end → length ws ≤ i → Wrote l at (words_of word_line ws) m end
-lines_end {i = i} {ws = ws} f h =
+pub lines_end : {l m : List ℕ} {at i : ℕ} {ws : List ℕ} → LinesTo l at ws i m → length ws ≤ i → {n : ℕ} → n ≡ length ws
+    → Wrote l at (words_of word_line ws) m (at + 9 * n)
+lines_end {l} {m} {at} {i} {ws} f h {n} all =
     let e : i ≡ length ws = omega (arith, f.most) in
-    wrote_same (ap (λ (j : ℕ). words_of word_line (part ws 0 j)) e ∙ ap (words_of word_line) (part_all ws)) f.wrote
+    subst (λ (k : ℕ). Wrote l at (words_of word_line ws) m (at + 9 * k)) (e ∙ sym all)
+    (wrote_same (ap (λ (j : ℕ). words_of word_line (part ws 0 j)) e ∙ ap (words_of word_line) (part_all ws)) f.wrote)
 
 -- ---- decimal numbers
 
@@ -186,9 +188,6 @@ pub length_tenth : (k : ℕ) → k < 10 ^ 20 → length (decimal_up_to 20 (k / 1
 length_tenth k l =
     let small : k / 10 < 10 ^ 19 = omega arith in
     omega (arith, ap length (decimal_enough 18 (k / 10) [] small), length_decimal 19 (k / 10) [])
-
-pub length_spaced : (k : ℕ) → length (spaced k) ≤ 21
-length_spaced k = omega (arith, length_decimal 20 k [])
 
 -- ---- an answer
 

@@ -49,13 +49,13 @@ fn put_words(text: &mut [u8], at: usize, input: &[u8]) -> usize
     requires { at + length (words input.now) * 9 ≤ length text.old }
     ensures { Wrote text.old at (words_of word_line (words input.now)) text.new result }
 {
-    let mut end = at;
-    for i in 0..octets::count(input) {
-        put_hexadecimal(text, end, octets::get(input, i));
-        text[end + 8] = b'\n';
-        end += 9;
+    let n = octets::count(input);
+    for i in 0..n {
+        let line = at + 9 * i;
+        put_hexadecimal(text, line, octets::get(input, i));
+        text[line + 8] = b'\n';
     }
-    end
+    at + 9 * n
 }
 
 // A number's digits, with no zero in front: those of its tenth come before the last one.

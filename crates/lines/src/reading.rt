@@ -9,14 +9,10 @@ ghost use Rattle.rules.specs.Program.{digit as Program·digit};
 ghost use Rattle.lines.specs.Reading.{spelling, line_says, LinesRead};
 
 use refusals::{Reason, Refusal};
+use words::{LIMIT_12, SIGNATURE_BASE};
 
 // The lines that are read at most: 01, "Turned back".
 const MAX_LINES: usize = 4612;
-
-// H of a signature is from 1 to 4,096, and 0 has this word.
-const SIGNATURE_BASE: u32 = 0x0100_0000;
-
-const MAX_HEADS: u32 = 4096;
 
 // The value of a digit. It is found by ranges, and no table is kept.
 fn digit(b: u8) -> Option<u32>
@@ -30,13 +26,12 @@ fn digit(b: u8) -> Option<u32>
     }
 }
 
-// The word that the eight bytes from `at` on spell, the highest digit first; whichever line they are of.
-pub fn spelled(input: &[u8], at: usize) -> Option<u32>
-    requires { at + 8 ≤ length input.now }
-    ensures { (line : ℕ) → line_says result line ≡ spelling (part input.now at 8) line }
+// The word that eight bytes spell, the highest digit first; whichever line they are of.
+pub fn spelled(digits: &[u8; 8]) -> Option<u32>
+    ensures { (line : ℕ) → line_says result line ≡ spelling digits.now line }
 {
     let mut w: u32 = 0;
-    for b in &input[at..at + 8] {
+    for b in digits {
         w = w * 16 + digit(*b)?;
     }
     Some(w)
@@ -49,7 +44,7 @@ fn line_at(text: &[u8], line: usize) -> Option<u32>
     if line >= MAX_LINES || text.len() < 9 || text[8] != b'\n' {
         return None;
     }
-    spelled(text, 0)
+    spelled(text.first_chunk()?)
 }
 
 // The words of all lines, at the front of `out`, and how many they are. Every line before one is whole, so it starts at nine times its number.
@@ -66,7 +61,7 @@ pub fn read_lines(input: &[u8], out: &mut [u8]) -> Result<usize, Refusal>
     Ok(input.len() / 9)
 }
 
-// How many of the words are the signature: four and H, or all of them if H can't be had.
+// How many of the words are the signature: four and H, which is from 1 to 4,096, or all of them if H can't be had.
 pub fn signature_length(input: &[u8]) -> usize
     ensures { result ≡ signature_length (words input.now) }
 {
@@ -75,7 +70,7 @@ pub fn signature_length(input: &[u8]) -> usize
         return 0;
     }
     match octets::get(input, 0).checked_sub(SIGNATURE_BASE) {
-        Some(heads @ 1..=MAX_HEADS) => 4 + heads as usize,
+        Some(heads @ 1..=LIMIT_12) => 4 + heads as usize,
         _ => n,
     }
 }

@@ -55,22 +55,17 @@ fn read_words(line: &[u8], out: &mut [u8]) -> Option<usize>
     requires { 0 < length line.now }
     ensures { IfSome result (λ end. IsPrefixLen end out.new) }
 {
-    let spaced = line[1..].chunks_exact(SPACED);
-    if !spaced.remainder().is_empty() {
+    let (spaced, rest) = line[1..].as_chunks::<SPACED>();
+    if !rest.is_empty() {
         return None;
     }
-    let mut count = 0;
-    for word in spaced {
-        if word[0] != b' ' || octets::count(out) <= count {
+    for (i, word) in spaced.iter().enumerate() {
+        if word[0] != b' ' || octets::count(out) <= i {
             return None;
         }
-        let Some(w) = lines::reading::spelled(word, 1) else {
-            return None;
-        };
-        octets::put(out, count, w);
-        count += 1;
+        octets::put(out, i, lines::reading::spelled(word.last_chunk()?)?);
     }
-    Some(4 * count)
+    Some(4 * spaced.len())
 }
 
 // ---- records

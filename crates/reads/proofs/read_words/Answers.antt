@@ -3,5 +3,5 @@ use native.Mathlib.Omega.{arith}
 use Rattle.octets.proofs.Words.{length_words}
 use Rattle.reads.proofs.read_words.Goals as goal
 
-pub loop-word-preserved : goal.loop-word-preserved
-loop-word-preserved c = omega (arith, length_words c.loop-word.out, c.put.auto.s)
+pub loop-i-preserved : goal.loop-i-preserved
+loop-i-preserved c = omega (arith, length_words c.loop-i.out, c.put.auto.s)

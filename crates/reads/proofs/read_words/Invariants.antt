@@ -2,5 +2,5 @@ use Prim.Native.Nat.{◌≤◌, ◌*◌}
 use lib.ListN.{length}
 use Rattle.reads.proofs.read_words.Given as goal
 
-abbrev pub invariant-loop-word : goal.invariant-loop-word
-invariant-loop-word l = 4 * l.count ≤ length l.out
+abbrev pub invariant-loop-i : goal.invariant-loop-i
+invariant-loop-i l = 4 * l.i ≤ length l.out

@@ -9,7 +9,7 @@ loop-i-init c = lines_start _ _ _
 pub loop-i-preserved : goal.loop-i-preserved
 loop-i-preserved c =
     let p = c.put_hexadecimal in
-    lines_next c.loop-i.invariant (omega (arith, c.loop-i-test.true, c.count-i-end.ensures)) c.requires c.get.ensures.is p.auto.text p.ensures
+    lines_next c.loop-i.invariant (omega (arith, c.loop-i-test.true, c.count-n.ensures)) c.requires c.get.ensures.is p.auto.text p.ensures
 
 pub returns : goal.returns
-returns c = lines_end c.loop-i.invariant (omega (arith, c.loop-i-test.false, c.count-i-end.ensures))
+returns c = lines_end c.loop-i.invariant (omega (arith, c.loop-i-test.false, c.count-n.ensures)) c.count-n.ensures

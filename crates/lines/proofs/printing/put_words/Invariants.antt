@@ -4,4 +4,4 @@ use Rattle.lines.proofs.Texts.{LinesTo}
 use Rattle.lines.proofs.printing.put_words.Given as goal
 
 abbrev pub invariant-loop-i : goal.invariant-loop-i
-invariant-loop-i l = LinesTo l.initial.text l.at (words l.input) l.i l.text l.end
+invariant-loop-i l = LinesTo l.initial.text l.at (words l.input) l.i l.text

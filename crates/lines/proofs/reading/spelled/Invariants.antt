@@ -3,4 +3,4 @@ use Rattle.lines.proofs.Spelling.{SpeltTo}
 use Rattle.lines.proofs.reading.spelled.Given as goal
 
 abbrev pub invariant-loop-b : goal.invariant-loop-b
-invariant-loop-b l = SpeltTo l.b-items l.b-index l.w
+invariant-loop-b l = SpeltTo l.digits l.b-index l.w
