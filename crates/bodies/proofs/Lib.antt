@@ -2,3 +2,4 @@
 pub mod Standing
 pub mod Alike
 pub mod BucketLaws
+pub mod Shapes

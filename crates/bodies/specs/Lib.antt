@@ -2,3 +2,4 @@
 pub mod Terms
 pub mod Standing
 pub mod Buckets
+pub mod Shapes

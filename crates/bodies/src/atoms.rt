@@ -4,10 +4,12 @@ ghost use Rattle.octets.specs.Words.{words};
 ghost use Rattle.rules.specs.Signature.{same_terms};
 ghost use Rattle.rules.specs.RemoveDupVars.{alike};
 ghost use Rattle.words.specs.Atom.{BeginsGood};
-ghost use Rattle.bodies.specs.Standing.{size_at, tab_at, TabAt};
+ghost use Rattle.std.specs.Iterator.{YieldsFirstBy, item_count};
+ghost use Rattle.bodies.specs.Standing.{size_at, tab_at, TabAt, Body};
+ghost use Rattle.bodies.specs.Shapes.{is_eq, seen, shapes, body_prop};
 
 use crate::terms::same_term;
-use words::good_atom_at;
+use words::{Atom, HeadOrEq, good_atom_at};
 
 // How many words the atom at p has.
 pub fn size(s: &[u8], p: usize) -> usize
@@ -56,4 +58,36 @@ pub fn alike(s: &[u8], p: usize, q: usize) -> bool
         octets::part(s, first.terms, inputs),
         octets::part(s, later.terms, inputs),
     )
+}
+
+// Whether an atom is an equality.
+pub fn is_equality(atom: Atom) -> bool
+    ensures { result ≡ is_eq atom.head }
+{
+    matches!(atom.head, HeadOrEq::Eq)
+}
+
+// The atoms of a body, one by one: what is left of its words. Each is read where the words that are left begin, so that its next place is its size.
+#[derive(Clone, Copy)]
+pub struct Atoms<'a> {
+    pub left: &'a [u8],
+    pub ghost good: { Body (words left.now) } by { body_prop (words left.now) },
+}
+
+impl Iterator for Atoms<'_> {
+    type Item = Atom;
+
+    ghost next_gives = { YieldsFirstBy seen (λ s. shapes (words s.left.now)) };
+
+    ghost remaining = { item_count (λ s. shapes (words s.left.now)) };
+
+    fn next(&mut self) -> Option<Atom> {
+        let n = octets::count(self.left);
+        if n == 0 {
+            return None;
+        }
+        let atom = good_atom_at(self.left, 0);
+        self.left = octets::part(self.left, atom.next, n - atom.next);
+        Some(atom)
+    }
 }

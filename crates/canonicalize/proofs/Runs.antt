@@ -1,5 +1,7 @@
 -- Runs of atoms that are no equalities: where one ends, and that it is resolved as it stands; and how many equalities there are. Assumes nothing.
-use mathlib.Core.List.{List, [], ◌++◌, ◌∷◌, append_assoc}
+use mathlib.Core.List.{List, [], ◌++◌, ◌∷◌, append_assoc, map}
+use Rattle.std.specs.Prelude.{filter}
+use Rattle.bodies.specs.Shapes.{shape, shapes}
 use mathlib.Core.Path.{◌∙◌, ◌≡◌, ap, refl, subst, sym}
 use Prim.Native.Nat.{◌+◌, ◌-◌, ◌<◌, ◌≤◌, suc, ℕ}
 use native.Mathlib.Omega.{arith}
@@ -150,59 +152,14 @@ module _ {ws : List ℕ} (c : Body ws) where
               inside = omega (arith, passing_here.size, passing_here.inside);
             }
 
--- ---- the loop that counts equalities: i words are passed, and k were met
+-- ---- how many equalities there are
 
-pub record Counting (ws : List ℕ) (i k : ℕ) : Type 0 where
-  pub todo : List Atom
-  pub atoms : AtomsAt todo ws i (length ws - i)
-  pub count : equations_in (atoms_in ws 0 (length ws)) ≡ k + equations_in todo
-  pub inside : i ≤ length ws
-  pub few : k ≤ i
+equations_filter : (xs : List Atom) → length (filter (λ x. x.0) (map shape xs)) ≡ equations_in xs
+unfolding equations_in
+equations_filter [] = refl
+equations_filter (eqn p a b ∷ xs) = ap suc (equations_filter xs)
+equations_filter (tab t ∷ xs) = equations_filter xs
 
-module _ {ws : List ℕ} (c : Body ws) where
-  pub counting_start : Counting ws 0 0
-  counting_start = record { todo = atoms_in ws 0 (length ws); atoms = atoms_ahead c; count = omega arith; inside = omega arith; few = omega arith }
-
-  pub counting_end : {i k : ℕ} → Counting ws i k → length ws ≤ i → k ≡ equations_in (atoms_in ws 0 (length ws))
-  unfolding equations_in
-  counting_end {i} {k} w h =
-      let e = none_left w.todo ws i (length ws - i) w.atoms (omega arith) in
-      omega (arith, w.count, ap equations_in e)
-
-  module _ {i k : ℕ} (w : Counting ws i k) (h : i < length ws) where
-    pub counting_here : First w.todo ws i (length ws - i)
-    counting_here = first_atom w.todo ws i (length ws - i) w.atoms (omega arith)
-
-    -- an atom is met that makes `met` of k, and the next one is at offset j
-    passed : {j met : ℕ} → j ≡ i + size_at ws i → equations_in (atoms_in ws 0 (length ws)) ≡ met + equations_in counting_here.rest → met ≤ k + 1 → Counting ws j met
-    passed {j} ej em few =
-        let t = counting_here in
-        record {
-          todo = t.rest;
-          atoms = t.after j (length ws - j) (omega (arith, t.size)) (omega (arith, t.size));
-          count = em;
-          inside = omega (arith, t.size, t.inside);
-          few = omega (arith, t.size, t.some, w.few);
-        }
-
-    pub counting_met : {j : ℕ} → get_or ws i 0 ≡ equality_word → j ≡ i + size_at ws i → Counting ws j (k + 1)
-    unfolding equations_in
-    counting_met {j} e ej = go counting_here.atom refl (eqn_met counting_here.atom counting_here.stands e)
-      where
-        go : (x : Atom) → counting_here.atom ≡ x → IsEqn x → Counting ws j (k + 1)
-        go (tab t) q m = absurd m
-        go (eqn p a b) q m =
-            let one : equations_in w.todo ≡ suc (equations_in counting_here.rest) =
-            ap equations_in (counting_here.is ∙ ap (λ (x : Atom). x ∷ counting_here.rest) q) in
-            passed ej (omega (arith, w.count, one)) (omega arith)
-
-    pub counting_next : {j : ℕ} → (get_or ws i 0 ≡ equality_word → ⊥) → j ≡ i + size_at ws i → Counting ws j k
-    unfolding equations_in
-    counting_next {j} e ej = go counting_here.atom refl
-      where
-        go : (x : Atom) → counting_here.atom ≡ x → Counting ws j k
-        go (eqn p a b) q = absurd (e (at_first (subst (λ (x : Atom). At (atom_words x) ws i) q counting_here.stands)))
-        go (tab t) q =
-            let same : equations_in w.todo ≡ equations_in counting_here.rest =
-            ap equations_in (counting_here.is ∙ ap (λ (x : Atom). x ∷ counting_here.rest) q) in
-            passed ej (w.count ∙ ap (λ (x : ℕ). k + x) same) (omega arith)
+pub equations_shapes : (ws : List ℕ) → length (filter (λ x. x.0) (shapes ws)) ≡ equations_in (atoms_in ws 0 (length ws))
+unfolding shapes
+equations_shapes ws = equations_filter (atoms_in ws 0 (length ws))

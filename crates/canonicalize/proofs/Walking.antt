@@ -22,17 +22,9 @@ use Rattle.words.specs.declared.HeadOrEq.{HeadOrEq}
 use Rattle.words.specs.declared.HeadOrEq.TheVariants.{Eq, Head}
 use Rattle.bodies.specs.Standing.{AtomsAt, Body, atoms_in, size_at}
 use Rattle.bodies.proofs.Standing.{First, lent_atoms, lent_read, lent_size, lent_whole}
-use Rattle.canonicalize.specs.Canonicalize.{Runs, is_eq, until_eqn}
+use Rattle.canonicalize.specs.Canonicalize.{Runs, until_eqn}
 use Rattle.canonicalize.proofs.Canonicalizing.{Leading, leading_here, leading_next, leading_start, leads}
 use Rattle.canonicalize.proofs.Runs.{Passing, passing_end, passing_here, passing_met, passing_next, passing_start}
-
--- what is read of an atom tells whether its first word is that of an equality
-pub told_equality : {r : word.Atom} {w at : ℕ} → FirstWord w → AtomSays r w at → is_eq r.head ≡ eqb w equality_word
-told_equality {r} {w} f says = go r.head (λ e. sign_word f says e) (λ h e. head_other f says e)
-  where
-    go : (h : HeadOrEq) → (h ≡ Eq → w ≡ equality_word) → ((k : ℕ) → h ≡ Head k → w ≡ equality_word → ⊥) → is_eq h ≡ eqb w equality_word
-    go Eq one other = sym (eq-eqb w equality_word (one refl))
-    go (Head k) one other = sym (ne_eqb w equality_word (other k refl))
 
 -- what the test of two `bool`s says
 pub same_kind : (x y : Bool) → not (beq x y) ≡ false → x ≡ y

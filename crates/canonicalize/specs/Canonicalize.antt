@@ -11,8 +11,6 @@ use Rattle.meaning.proofs.MergePass.{IsEqn}
 use Rattle.meaning.specs.Meaning.{All}
 use Rattle.meaning.specs.Weight.{weight}
 use Rattle.words.specs.Atom.{BeginsGood}
-use Rattle.words.specs.declared.HeadOrEq.{HeadOrEq}
-use Rattle.words.specs.declared.HeadOrEq.TheVariants.{Head, Eq}
 use Rattle.bodies.specs.Standing.{AtomsAt, TabsAt, atoms_in}
 use Rattle.canonicalize.specs.declared.Replacement as code
 use Rattle.canonicalize.specs.declared.Canonical.{Canonical}
@@ -147,10 +145,6 @@ pub record Leads (l : List ℕ) (at n r : ℕ) : Type 0 where
 abbrev pub Runs : (equalities : Bool) → List ℕ → (at n r : ℕ) → Type 0
 Runs true l at n r = Leads l at n r
 Runs false l at n r = r ≡ others_in l at n
-
-abbrev pub is_eq : HeadOrEq → Bool
-is_eq Eq = true
-is_eq (Head h) = false
 
 -- one of them, at p with n words from it to the end: it is resolved, or its replacement is made behind it
 abbrev pub FrontStep : Option Replacement → Sig → List ℕ → List ℕ → (p n to d table buckets : ℕ) → Canonical → Type 0

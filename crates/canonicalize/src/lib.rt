@@ -13,15 +13,16 @@ ghost use Rattle.rules.specs.Canonicalize.{replacement_of};
 ghost use Rattle.bodies.specs.Terms.{sig};
 ghost use Rattle.bodies.specs.Standing.{atoms_in, Body};
 ghost use Rattle.canonicalize.specs.Canonicalize.{asked_of, ask_at, place_of, StepAsks, Stepped, ReplaceAsks, Replaced};
-ghost use Rattle.canonicalize.specs.Canonicalize.{resolve_terms, resolve_at, ResolveOneAsks, is_eq, Runs, ResolveAsks, Resolved};
+ghost use Rattle.canonicalize.specs.Canonicalize.{resolve_terms, resolve_at, ResolveOneAsks, Runs, ResolveAsks, Resolved};
 ghost use Rattle.canonicalize.specs.Canonicalize.{FrontOneAsks, FrontOne, FrontAsks, Fronted, CanonicalizeAsks, CanonicalAt};
 
 pub mod spans; // spans.rt: where in a body a term may stand
 
+use bodies::atoms::is_equality;
 use bodies::terms::{Sign, same_term};
 use spans::Table;
 use words::{
-    Atom, HEAD_BASE, HeadOrEq, LET, LIMIT_16, Term, UNIT, good_atom_at, good_term_of, past_equality,
+    HEAD_BASE, HeadOrEq, LET, LIMIT_16, Term, UNIT, good_atom_at, good_term_of, past_equality,
 };
 
 // One term, which another replaces throughout a body.
@@ -71,13 +72,6 @@ fn resolve_one(s: &mut [u8], p: usize, to: usize, q: Sign) -> usize
     let a = octets::get(s, atom.terms);
     let b = octets::get(s, atom.terms + 1);
     resolve_terms(s, to, a, b, q)
-}
-
-// Whether an atom is an equality.
-fn is_equality(atom: Atom) -> bool
-    ensures { result ≡ is_eq atom.head }
-{
-    matches!(atom.head, HeadOrEq::Eq)
 }
 
 // How many words of a body are those of equalities in front of all other atoms, or of other atoms in front of all equalities.

@@ -10,8 +10,8 @@ ghost use Rattle.bodies.specs.Standing.{atoms_in, AtomsAt, Body};
 ghost use Rattle.canonicalize.specs.Spans.{equations_in, Spanned, SpanAsks, Built, WidenAsks, widened, Replacing};
 
 use crate::Replacement;
+use bodies::atoms::{Atoms, is_equality};
 use bodies::buckets::{bucket, fill};
-use words::{HeadOrEq, good_atom_at};
 
 // A body has more words than this, and more equalities, before a table pays.
 const LONG: usize = 128;
@@ -23,18 +23,9 @@ fn equalities(body: &[u8]) -> usize
     requires { Body (words body.now) }
     ensures { result ≡ equations_in (atoms_in (words body.now) 0 (length (words body.now))) }
 {
-    let n = octets::count(body);
-    let mut i = 0;
-    let mut k = 0;
-    // Tried: for `successors(..).take(n).filter(..).count()`, `search` did not prove that its closure may be called at each atom, nor the result.
-    while i < n {
-        let atom = good_atom_at(body, i);
-        i = atom.next;
-        if let HeadOrEq::Eq = atom.head {
-            k += 1;
-        }
-    }
-    k
+    Atoms { left: body }
+        .filter(|atom| is_equality(*atom))
+        .count()
 }
 
 // Where a table of spans stands, and how many buckets it has. A place, since the body and the table are parts of one scratch, and both are written by turns.

@@ -2,8 +2,9 @@
 -- Assumes nothing.
 use mathlib.Core.Path.{◌∙◌, sym}
 use native.Mathlib.Omega.{arith}
+use Rattle.bodies.proofs.Shapes.{told_equality}
 use Rattle.bodies.proofs.Standing.{next_at_lem}
-use Rattle.canonicalize.proofs.Walking.{other_kind, same_kind, told_equality, walking_end, walking_here, walking_met, walking_next, walking_start}
+use Rattle.canonicalize.proofs.Walking.{other_kind, same_kind, walking_end, walking_here, walking_met, walking_next, walking_start}
 use Rattle.canonicalize.proofs.run.Goals as goal
 
 pub loop-i-init : goal.loop-i-init

@@ -1,45 +1,26 @@
--- Counting equalities: each atom that is met is one or none, and those that are left are still to be counted. Assumes nothing.
+-- The atoms that pass are the equalities. Assumes nothing.
+use mathlib.Core.Logic.{inl}
+use mathlib.Core.Path.{◌∙◌, ap}
 use native.Mathlib.Omega.{arith}
-use Rattle.words.proofs.AtomLaws.{head_other, sign_word}
-use Rattle.bodies.proofs.Standing.{next_at_lem}
-use Rattle.canonicalize.proofs.Runs.{counting_end, counting_here, counting_met, counting_next, counting_start}
+use lib.ListN.{length}
+use Rattle.std.proofs.Common.{rules}
+use Rattle.std.proofs.lemmas.Iterator.Consumers.{YieldsList-from_filter, YieldsList-from_first, count_from_yields_List}
+use Rattle.octets.proofs.Words.{length_words}
+use Rattle.octets.specs.Words.{words}
+use Rattle.bodies.specs.Shapes.{seen, shapes}
+use Rattle.bodies.proofs.Shapes.{few_shapes}
+use Rattle.canonicalize.proofs.Runs.{equations_shapes}
 use Rattle.canonicalize.proofs.spans.equalities.Goals as goal
 
-pub loop-i-init : goal.loop-i-init
-loop-i-init c = counting_start c.requires
-
-pub good_atom_at-atom-requires : goal.good_atom_at-atom-requires
-good_atom_at-atom-requires c =
-    let at_atom = counting_here c.requires c.loop-i.invariant (omega arith) in
-    at_atom.begins
-
-pub loop-i-smaller-in-Eq : goal.loop-i-smaller-in-Eq
-loop-i-smaller-in-Eq c =
-    let at_atom = counting_here c.requires c.loop-i.invariant (omega arith) in
-    let at_next = next_at_lem at_atom.begins c.good_atom_at-atom.ensures in
-    omega (arith, at_next, at_atom.size, at_atom.some)
-
-pub loop-i-preserved-in-Eq : goal.loop-i-preserved-in-Eq
-loop-i-preserved-in-Eq c =
-    let at_atom = counting_here c.requires c.loop-i.invariant (omega arith) in
-    let at_next = next_at_lem at_atom.begins c.good_atom_at-atom.ensures in
-    counting_met c.requires c.loop-i.invariant (omega arith)
-    (sign_word at_atom.begins.first c.good_atom_at-atom.ensures c.in-Eq.is) (omega (arith, at_next))
-
-pub loop-i-smaller : goal.loop-i-smaller
-loop-i-smaller c =
-    let at_atom = counting_here c.requires c.loop-i.invariant (omega arith) in
-    let at_next = next_at_lem at_atom.begins c.good_atom_at-atom.ensures in
-    omega (arith, at_next, at_atom.size, at_atom.some)
-
-pub loop-i-preserved : goal.loop-i-preserved
-loop-i-preserved c =
-    let at_atom = counting_here c.requires c.loop-i.invariant (omega arith) in
-    let at_next = next_at_lem at_atom.begins c.good_atom_at-atom.ensures in
-    counting_next c.requires c.loop-i.invariant (omega arith)
-    (head_other at_atom.begins.first c.good_atom_at-atom.ensures c.in_default.is) (omega (arith, at_next))
-
--- ---- none is left
+pub count-requires-clause-fits : goal.count-requires-clause-fits
+count-requires-clause-fits c =
+    let here = ap (λ s. length (shapes (words s.left.now))) c.filter.ensures.source in
+    inl (omega (arith, here, few_shapes c.requires, length_words c.args.body.now, c.well_formed))
 
 pub returns : goal.returns
-returns c = counting_end c.requires c.loop-i.invariant (omega arith)
+returns c =
+    let ws = words c.args.body.now in
+    count_from_yields_List c.filter.result c.count.result c.count.ensures.ran
+    (YieldsList-from_filter _ (λ x. x.0) (YieldsList-from_first seen (λ s. shapes (words s.left.now)) (shapes ws) (cc)) c.filter.ensures.closure
+    (λ x r q k. search rules))
+    ∙ equations_shapes ws
