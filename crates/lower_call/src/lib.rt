@@ -43,7 +43,7 @@ fn lower_good(
     };
     let words = emitting::finish(output, scratch, body, head);
     if octets::count(output) < words {
-        walks::restore(counters, scratch, lowering::LOG_AT * n, core.log);
+        walks::restore(counters, octets::part(scratch, lowering::LOG_AT * n, core.log));
     }
     Ok(Counts {
         words,

@@ -1,9 +1,13 @@
 -- The rule is lowered into the scratch, its body settled in front of its head and of the log, and all of it written; where there is no room the log, which
 -- is as it was, takes the counters back. Assumes nothing.
 use native.Mathlib.Omega.{arith}
-use mathlib.Core.Path.{refl}
+use Prim.Native.Nat.{ℕ}
+use mathlib.Core.List.{List}
+use mathlib.Core.Path.{refl, ap, ◌∙◌}
 use Rattle.std.proofs.lemmas.Result.{err_from_is_err_and}
+use Rattle.octets.specs.Words.{words}
 use Rattle.octets.proofs.Words.{length_words_kept}
+use Rattle.walks.specs.Log.{undone}
 use Rattle.lower_call.proofs.Lowering.{core_asks, few_globals, known_equals, turned, laid, asks_settle, is_done, head_inside, stands, ends_short, ends_good}
 use Rattle.lower_call.proofs.lower_good.Goals as goal
 
@@ -49,18 +53,19 @@ overflow_mul-n-then-count-words c =
     let at_settle = is_done at_core c.count-n.ensures refl refl c.settle-body.ensures in
     omega (arith, at_settle.fits)
 
-pub restore-requires : goal.restore-requires
-restore-requires c =
+pub part-requires-then-count-words : goal.part-requires-then-count-words
+part-requires-then-count-words c =
     let at_core = laid c.requires (length_words_kept _ _ c.to_core_rule.auto.scratch) c.in_ok-core.ensures in
     let at_settle = is_done at_core c.count-n.ensures refl refl c.settle-body.ensures in
-    at_settle.log
+    omega (arith, at_settle.log)
 
 pub returns-then-count-words : goal.returns-then-count-words
 returns-then-count-words c =
     let at_core = laid c.requires (length_words_kept _ _ c.to_core_rule.auto.scratch) c.in_ok-core.ensures in
     let at_settle = is_done at_core c.count-n.ensures refl refl c.settle-body.ensures in
     let f = c.finish-words in
-    ends_short at_settle c.part.ensures f.ensures c.count.ensures f.auto.output c.if-count-words.true c.restore.ensures
+    ends_short at_settle c.part.ensures f.ensures c.count.ensures f.auto.output c.if-count-words.true
+    (c.restore.ensures ∙ ap (λ (l : List ℕ). undone l (words c.to_core_rule.new.counters)) c.part-then-count-words.ensures)
 
 pub returns-else-count-words : goal.returns-else-count-words
 returns-else-count-words c =
