@@ -26,10 +26,28 @@ impl TryFrom<usize> for Call {
     }
 }
 
-// The words in front of a case's parts: how many words follow, the call, the bytes that are lent, and the answer.
+// What is read of one part at most: a little less than its buffer holds, since a part may be padded.
+const PART: usize = 65533;
+
+const PART_WORDS: usize = 16383;
+
+// What can be lent of output and scratch.
+pub const ROOM: usize = 66048;
+
+// What the twelve words in front of a case's parts say: its call, if there is a case; how many bytes are lent of each slice, and how many words are written of
+// the output, but no more than there is room for; and the answer that it has.
 #[derive(Clone, Copy)]
 pub struct Front {
-    pub bytes: [u8; 48],
+    pub call: Option<Call>,
+    pub signature: usize,
+    pub rule: usize,
+    pub counters: usize,
+    pub output: usize,
+    pub scratch: usize,
+    pub written: usize,
+    pub expected: Answer,
+    ghost read: { (signature ≤ 65533) × (rule ≤ 65533) × (counters ≤ 65533) × (written ≤ 16383) },
+    ghost lent: { (output ≤ 66048) × (scratch ≤ 66048) },
 }
 
 // A case, and where its differences are printed.
@@ -48,29 +66,29 @@ pub fn number(bytes: &[u8], at: usize) -> usize
     octets::get(bytes, at) as usize
 }
 
-impl Front {
-    // The call that the case names, if there is a case.
-    pub(crate) fn call(&self) -> Option<Call> {
-        Call::try_from(number(&self.bytes, 1)).ok()
+// The answer that a case has, by the words in front of its parts.
+fn expected(front: &[u8; 48]) -> Answer {
+    Answer {
+        number: number(front, 7) as u64,
+        place: number(front, 8) as u64,
+        words: number(front, 9) as u64,
+        replacements: number(front, 10) as u64,
+        passes: number(front, 11) as u64,
     }
+}
 
-    // The number at an index, but no more than there is room for.
-    pub fn lent(&self, at: usize, most: usize) -> usize
-        requires { at < 12 }
-        ensures { result ≤ most }
-    {
-        number(&self.bytes, at).min(most)
-    }
-
-    // The answer that the case has.
-    pub fn expected(&self) -> Answer {
-        let front = &self.bytes;
-        Answer {
-            number: number(front, 7) as u64,
-            place: number(front, 8) as u64,
-            words: number(front, 9) as u64,
-            replacements: number(front, 10) as u64,
-            passes: number(front, 11) as u64,
+// The first word, how many follow, is passed over: the others say it.
+impl From<[u8; 48]> for Front {
+    fn from(front: [u8; 48]) -> Front {
+        Front {
+            call: Call::try_from(number(&front, 1)).ok(),
+            signature: number(&front, 2).min(PART),
+            rule: number(&front, 3).min(PART),
+            counters: number(&front, 4).min(PART),
+            output: number(&front, 5).min(ROOM),
+            scratch: number(&front, 6).min(ROOM),
+            written: number(&front, 9).min(PART_WORDS),
+            expected: expected(&front),
         }
     }
 }

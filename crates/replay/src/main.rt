@@ -12,18 +12,11 @@ ghost use Rattle.std.specs.Prelude.{◌+◌, ◌<◌, ◌≤◌, length};
 ghost use Rattle.streams.specs.Counts.{IsPrefixLen};
 
 use answers::Answer;
-use cases::{Call, Case, Front};
+use cases::{Call, Case, Front, ROOM};
 use std::io::{Stdin, Stdout};
 
 // The bytes of the text in front of the lists.
 const TEXT: usize = 2048;
-
-// What can be lent of output and scratch; and of what is read from the list, which is a little less than its buffers hold, since a part may be padded.
-const ROOM: usize = 66048;
-
-const PART: usize = 65533;
-
-const PART_WORDS: usize = 16383;
 
 // ---- reading the list
 
@@ -31,7 +24,7 @@ const PART_WORDS: usize = 16383;
 fn read_front(list: &mut Stdin) -> Front {
     let mut bytes = [0u8; 48];
     streams::read_full(list, &mut bytes);
-    Front { bytes }
+    Front::from(bytes)
 }
 
 // So many bytes, padded to whole words, to the front of a slice. Answers how many they are without the padding.
@@ -42,21 +35,6 @@ fn read_padded(list: &mut Stdin, part: &mut [u8], bytes: usize) -> usize
     let end = bytes.div_ceil(4) * 4;
     streams::read_full(list, &mut part[..end]);
     bytes
-}
-
-// A part of a case: the word at an index of its front says how many bytes it has.
-fn read_part(list: &mut Stdin, part: &mut [u8], front: &Front, at: usize) -> usize
-    requires { (65536 ≤ length part.old) × (at < 12) }
-    ensures { IsPrefixLen result part.new }
-{
-    read_padded(list, part, front.lent(at, PART))
-}
-
-// The words that the output begins with.
-fn read_written(list: &mut Stdin, part: &mut [u8], front: &Front)
-    requires { 65536 ≤ length part.old }
-{
-    read_padded(list, part, 4 * front.lent(9, PART_WORDS));
 }
 
 // How many cases follow.
@@ -96,12 +74,12 @@ fn compare_case(
 ) -> u64 {
     let mut wanted = streams::filled::<ROOM>((case.number % 256) as u8);
     let mut after = streams::filled::<65536>(0);
-    read_written(list, &mut wanted, &case.front);
-    read_part(list, &mut after, &case.front, 4);
+    read_padded(list, &mut wanted, 4 * case.front.written);
+    read_padded(list, &mut after, case.front.counters);
     differences::compare(
         case,
         found,
-        case.front.expected(),
+        case.front.expected,
         output,
         &wanted,
         counters,
@@ -121,8 +99,8 @@ fn run_case(
     counters: &mut [u8],
 ) -> u64 {
     let dirt = (case.number % 256) as u8;
-    let room = case.front.lent(5, ROOM);
-    let space = case.front.lent(6, ROOM);
+    let room = case.front.output;
+    let space = case.front.scratch;
     let mut output = streams::filled::<ROOM>(dirt);
     let mut scratch = streams::filled::<ROOM>(255 - dirt);
     let found = run(
@@ -139,14 +117,14 @@ fn run_case(
 // Reads what a case lends, and runs it: how many things differ, or that there is no such case.
 fn replay_case(list: &mut Stdin, out: Stdout, number: usize) -> Option<u64> {
     let front = read_front(list);
-    let call = front.call()?;
+    let call = front.call?;
     let case = Case { number, front, out };
     let mut signature = streams::filled::<65536>(0);
     let mut rule = streams::filled::<65536>(0);
     let mut counters = streams::filled::<65536>(0);
-    let s = read_part(list, &mut signature, &front, 2);
-    let r = read_part(list, &mut rule, &front, 3);
-    let c = read_part(list, &mut counters, &front, 4);
+    let s = read_padded(list, &mut signature, front.signature);
+    let r = read_padded(list, &mut rule, front.rule);
+    let c = read_padded(list, &mut counters, front.counters);
     Some(run_case(
         list,
         &case,
