@@ -30,7 +30,7 @@ told_equality {r} {w} f says = go r.head (λ e. sign_word f says e) (λ h e. hea
     go (Head k) one other = sym (ne_eqb w equality_word (other k refl))
 
 -- and so does what stands there
-stands_equality : (x : Atom) {l : List ℕ} {p : ℕ} → At (atom_words x) l p → eqb (get_or l p 0) equality_word ≡ is_eqn x
+pub stands_equality : (x : Atom) {l : List ℕ} {p : ℕ} → At (atom_words x) l p → eqb (get_or l p 0) equality_word ≡ is_eqn x
 stands_equality (eqn q a b) s = eq-eqb _ equality_word (at_first s)
 stands_equality (tab t) s = ne_eqb _ equality_word (λ e. no (suc (length t.ins)) (sym (at_first s) ∙ e))
   where

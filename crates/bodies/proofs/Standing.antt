@@ -15,7 +15,7 @@ use Rattle.rules.specs.Canonicalize.{Replacement, replace_atom, resolve, resolve
 use Rattle.rules.specs.Flat.{Atom, Tab, atom_words, eqn, tab, tab_words, words_of}
 use Rattle.rules.specs.Signature.{Sig, same_term}
 use Rattle.rules.specs.Words.{count_of, equality_word, head_base, head_word, limit16}
-use Rattle.meaning.proofs.Lists.{all_append, length_words_append, words_append}
+use Rattle.meaning.proofs.Lists.{all_append, all_left, all_right, length_words_append, words_append}
 use Rattle.meaning.proofs.ReadBack.{atoms_back, count_of_lem, head_of_lem, tabs_back, tabs_encodable, unplaced_encodable, unplaced_words}
 use Rattle.meaning.proofs.WordLaws.{length_tab, tabs_words, two_atom, two_tab}
 use Rattle.meaning.specs.Meaning.{All}
@@ -207,6 +207,31 @@ atoms_join xs ys l p n q m s t e =
       at = subst (λ (ws : List ℕ). At ws l p) (sym (words_append atom_words xs ys)) (at_join s.at t.at (omega (arith, s.size)));
       within = omega (arith, t.within);
     }
+
+-- and apart
+module _ (xs ys : List Atom) {l : List ℕ} {p n : ℕ} (s : AtomsAt (xs ++ ys) l p n) where
+  words_at : At (words_of atom_words xs ++ words_of atom_words ys) l p
+  words_at = subst (λ (ws : List ℕ). At ws l p) (words_append atom_words xs ys) s.at
+
+  pub atoms_left : (m : ℕ) → m ≡ length (words_of atom_words xs) → AtomsAt xs l p m
+  atoms_left m e =
+      record {
+        fits = all_left Encodable xs ys s.fits;
+        bare = all_left Bare xs ys s.bare;
+        size = e;
+        at = at_left (words_of atom_words ys) words_at;
+        within = omega (arith, s.within, s.size, length_words_append atom_words xs ys);
+      }
+
+  pub atoms_right : (q m : ℕ) → q ≡ p + length (words_of atom_words xs) → m ≡ n - length (words_of atom_words xs) → AtomsAt ys l q m
+  atoms_right q m e f =
+      record {
+        fits = all_right Encodable xs ys s.fits;
+        bare = all_right Bare xs ys s.bare;
+        size = omega (arith, s.size, length_words_append atom_words xs ys);
+        at = at_right (words_of atom_words xs) q words_at e;
+        within = omega (arith, s.within, s.size, length_words_append atom_words xs ys);
+      }
 
 pub tabs_join : (xs ys : List Tab) (l : List ℕ) (p n q m : ℕ) → TabsAt xs l p n → TabsAt ys l q m → q ≡ p + n → TabsAt (xs ++ ys) l p (n + m)
 tabs_join xs ys l p n q m s t e =

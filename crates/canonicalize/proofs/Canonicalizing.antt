@@ -1,101 +1,25 @@
 -- The steps of `canonicalize` make the whole: equalities in front, all replacements in what is left, and what becomes of it. Assumes nothing.
-use mathlib.Core.List.{List, [], ◌++◌, ◌∷◌, append_assoc}
-use mathlib.Core.Path.{◌∙◌, ◌≡◌, ap, ap₂, refl, subst, sym}
+use mathlib.Core.List.{List, [], ◌++◌}
+use mathlib.Core.Path.{◌∙◌, ◌≡◌, ap, refl, subst, sym}
 use Prim.Native.Nat.{◌*◌, ◌+◌, ◌-◌, ◌^◌, ◌<◌, ◌≤◌, ℕ}
 use native.Mathlib.Omega.{arith}
-use lib.ListN.{get_or, length, length-append}
-use Rattle.octets.proofs.Places.{at_after, at_join, at_nil, only_then, only_wide}
+use lib.ListN.{length, length-append}
+use Rattle.octets.proofs.Places.{at_after, at_join, only_then, only_wide}
 use Rattle.octets.specs.Regions.{At, Only}
 use Rattle.rules.specs.Canonicalize.{Replacement, canonicalize, replace_all, resolve}
-use Rattle.rules.specs.Flat.{Atom, Tab, atom_words, eqn, tab, tab_words, words_of}
+use Rattle.rules.specs.Flat.{Atom, Tab, tab_words, words_of}
 use Rattle.rules.specs.Signature.{Sig}
-use Rattle.rules.specs.Words.{equality_word}
-use Rattle.meaning.proofs.Lists.{all_append}
-use Rattle.meaning.proofs.MergePass.{IsEqn}
 use Rattle.meaning.proofs.Room.{tabs_words_weight, weight_canonicalize}
-use Rattle.meaning.specs.Meaning.{All}
 use Rattle.meaning.specs.Weight.{weight}
-use Rattle.words.specs.Atom.{equality_size}
-use Rattle.bodies.specs.Standing.{AtomsAt, Bare, Body, TabsAt, atoms_in}
-use Rattle.bodies.proofs.Standing.{First, atoms_ahead, atoms_before, atoms_is, atoms_join, atoms_read, first_atom, tabs_before, tabs_join}
+use Rattle.bodies.specs.Standing.{AtomsAt, TabsAt, atoms_in}
+use Rattle.bodies.proofs.Standing.{atoms_before, atoms_is, atoms_read, tabs_before, tabs_join}
 use Rattle.canonicalize.specs.declared.Canonical.{Canonical}
 use Rattle.canonicalize.specs.Canonicalize.{CanonicalAt, CanonicalizeAsks, FrontAsks, Fronted, Leads}
 use Rattle.canonicalize.specs.Canonicalize.{ReplaceAsks, Replaced, ResolveAsks, Resolved, binding_size, binding_words}
 use Rattle.canonicalize.specs.Spans.{Built, Spanned}
-use Rattle.canonicalize.proofs.Replacing.{bindings_append, bindings_size, eqn_met}
+use Rattle.canonicalize.proofs.Replacing.{bindings_append, bindings_size}
 use Rattle.canonicalize.proofs.SpanLaws.{spanned_tail}
 use Rattle.canonicalize.proofs.SpansBuilt.{built_only}
-
--- ---- the equalities in front, counted
-
-pub record Leading (ws : List ℕ) (i : ℕ) : Type 0 where
-  pub eqs : List Atom
-  pub todo : List Atom
-  pub equalities : All IsEqn eqs
-  pub passed : AtomsAt eqs ws 0 i
-  pub others : AtomsAt todo ws i (length ws - i)
-  pub whole : atoms_in ws 0 (length ws) ≡ eqs ++ todo
-  pub inside : i ≤ length ws
-
-module _ {ws : List ℕ} (c : Body ws) where
-  pub leading_start : Leading ws 0
-  leading_start =
-      record {
-        eqs = [];
-        todo = atoms_in ws 0 (length ws);
-        equalities = tt;
-        passed = record { fits = tt; bare = tt; size = refl; at = at_nil ws 0 (omega (arith, c.within)); within = omega (arith, c.within) };
-        others = atoms_ahead c;
-        whole = refl;
-        inside = omega arith;
-      }
-
-  pub leading_here : {i : ℕ} (w : Leading ws i) → i < length ws → First w.todo ws i (length ws - i)
-  leading_here {i} w h = first_atom w.todo ws i (length ws - i) w.others (omega arith)
-
-  pub leading_next : {i j : ℕ} → Leading ws i → i < length ws → get_or ws i 0 ≡ equality_word → j ≡ i + equality_size → Leading ws j
-  leading_next {i} {j} w h e ej = go t.atom refl
-    where
-      t : First w.todo ws i (length ws - i)
-      t = leading_here w h
-
-      go : (x : Atom) → t.atom ≡ x → Leading ws j
-      go (tab u) q = absurd (subst (λ (x : Atom). IsEqn x) q (eqn_met t.atom t.stands e))
-      go (eqn p a b) q =
-          let size_is : length (atom_words t.atom) ≡ equality_size = ap (λ (x : Atom). length (atom_words x)) q in
-          let one : AtomsAt (eqn p a b ∷ []) ws i equality_size =
-          record {
-            fits = (tt, tt);
-            bare = (subst (λ (x : Atom). Bare x) q t.bare, tt);
-            size = refl;
-            at = subst (λ (x : Atom). At (atom_words x) ws i) q t.stands;
-            within = omega (arith, t.stands.within, size_is);
-          } in
-          record {
-            eqs = w.eqs ++ eqn p a b ∷ [];
-            todo = t.rest;
-            equalities = all_append IsEqn w.eqs (eqn p a b ∷ []) w.equalities (tt, tt);
-            passed = subst (λ (k : ℕ). AtomsAt (w.eqs ++ eqn p a b ∷ []) ws 0 k) (sym ej)
-                (atoms_join w.eqs (eqn p a b ∷ []) ws 0 i i equality_size w.passed one (omega arith));
-            others = t.after j (length ws - j) (omega arith) (omega arith);
-            whole = w.whole ∙ ap (λ (us : List Atom). w.eqs ++ us) (t.is ∙ ap (λ (x : Atom). x ∷ t.rest) q)
-                ∙ sym (append_assoc w.eqs (eqn p a b ∷ []) t.rest);
-            inside = omega (arith, t.inside, size_is);
-          }
-
-  pub leads : {i : ℕ} → Leading ws i → (i < length ws → get_or ws i 0 ≡ equality_word → ⊥) → Leads ws 0 (length ws) i
-  leads {i} w none =
-      let a = atoms_is ws 0 i w.eqs w.passed in
-      let b = atoms_is ws i (length ws - i) w.todo w.others in
-      let here : i ≡ 0 + i = omega arith in
-      record {
-        inside = w.inside;
-        last = λ h e. none h (ap (λ (k : ℕ). get_or ws k 0) here ∙ e);
-        eqs = atoms_read ws 0 i w.eqs w.passed;
-        equalities = subst (λ (us : List Atom). All IsEqn us) (sym a) w.equalities;
-        others = subst (λ (k : ℕ). AtomsAt (atoms_in ws k (length ws - i)) ws k (length ws - i)) here (atoms_read ws i (length ws - i) w.todo w.others);
-        whole = w.whole ∙ ap₂ ◌++◌ (sym a) (sym b ∙ ap (λ (k : ℕ). atoms_in ws k (length ws - i)) here);
-      }
 
 -- ---- canonicalize
 

@@ -131,7 +131,8 @@ module _ {s : Sig} {l : List ℕ} {from n to : ℕ} (c : ResolveAsks s l from n 
     pub run_next : {ws : List ℕ} {r : ℕ} → ws ≡ part m (from + i) (n - i) → r ≡ others_in ws 0 (length ws) → Run w r
     run_next {ws} {r} lent e =
         let whole = lent_whole m (from + i) (n - i) lent w.atoms.within in
-        let size = e ∙ ap (λ (xs : List Atom). length (words_of tab_words (until_eqn xs))) whole ∙ ap (λ (xs : List Atom). length (words_of tab_words (until_eqn xs))) (atoms_is m (from + i) (n - i) w.todo w.atoms) in
+        let same = whole ∙ atoms_is m (from + i) (n - i) w.todo w.atoms in
+        let size = e ∙ ap (λ (xs : List Atom). length (words_of tab_words (until_eqn xs))) same in
         let inside : i + r ≤ n = omega (arith, w.inside, run_inside w.atoms size) in
         record {
           size = size;

@@ -1,88 +1,117 @@
--- Walking over a run of equalities, or of other atoms: each atom is told by its first word, and where another one is met, or none is left, the run ends.
--- Assumes nothing.
-use mathlib.Core.Bool.{Bool, beq, false, false≢true, not, true}
-use mathlib.Core.List.{List, ◌++◌}
+-- How far a run of equalities goes, or one of other atoms: the sizes of the atoms in front that are of its kind, added up. Assumes nothing.
+use mathlib.Core.Bool.{Bool, beq, false, true}
+use mathlib.Core.List.{List, [], ◌++◌, ◌∷◌, map}
 use mathlib.Core.Path.{◌∙◌, ◌≡◌, ap, ap₂, refl, subst, sym}
-use Prim.Native.Nat.{◌%◌, ◌+◌, ◌-◌, ◌<◌, ◌≤◌, ℕ}
+use Prim.Native.Nat.{◌+◌, ◌-◌, ◌<◌, ◌≤◌, suc, ℕ}
 use native.Mathlib.Nat.{zero-add}
 use native.Mathlib.Omega.{arith}
-use lib.Dec.{eqb}
-use lib.ListN.{get_or, length}
-use borrow.Author.Tests.{eq-eqb, eqb-false, eqb-true, ne_eqb}
+use lib.ListN.{get_or, length, length-append, take}
+use Rattle.std.specs.List.{prefix_len}
+use Rattle.std.specs.Prelude.{sum_by}
+use Rattle.std.proofs.lemmas.List.Sums.{sum_by-cons}
 use Rattle.octets.proofs.Splice.{get_d_part}
 use Rattle.octets.specs.Regions.{part}
-use Rattle.rules.specs.Flat.{Atom, tab_words, words_of}
-use Rattle.rules.specs.Words.{equality_word, limit16}
+use Rattle.rules.specs.Flat.{Atom, atom_words, eqn, tab, tab_words, words_of}
 use Rattle.meaning.proofs.MergePass.{IsEqn}
 use Rattle.meaning.specs.Meaning.{All}
-use Rattle.words.proofs.AtomLaws.{head_other, sign_word}
-use Rattle.words.specs.Atom.{AtomSays, FirstWord, equality_size}
-use Rattle.words.specs.declared.Atom as word
-use Rattle.words.specs.declared.HeadOrEq.{HeadOrEq}
-use Rattle.words.specs.declared.HeadOrEq.TheVariants.{Eq, Head}
-use Rattle.bodies.specs.Standing.{AtomsAt, Body, atoms_in, size_at}
-use Rattle.bodies.proofs.Standing.{First, lent_atoms, lent_read, lent_size, lent_whole}
+use Rattle.bodies.specs.Shapes.{shape, shapes}
+use Rattle.bodies.specs.Standing.{AtomsAt, Body, atoms_in}
+use Rattle.bodies.proofs.Standing.{atoms_is, atoms_left, atoms_read, atoms_right, first_atom, lent_atoms, lent_read, lent_size, lent_whole}
 use Rattle.canonicalize.specs.Canonicalize.{Runs, until_eqn}
-use Rattle.canonicalize.proofs.Canonicalizing.{Leading, leading_here, leading_next, leading_start, leads}
-use Rattle.canonicalize.proofs.Runs.{Passing, passing_end, passing_here, passing_met, passing_next, passing_start}
+use Rattle.canonicalize.proofs.Replacing.{eqn_met}
+use Rattle.canonicalize.proofs.Runs.{run_inside}
 
--- what the test of two `bool`s says
-pub same_kind : (x y : Bool) → not (beq x y) ≡ false → x ≡ y
-same_kind true true h = refl
-same_kind true false h = absurd (false≢true (sym h))
-same_kind false true h = absurd (false≢true (sym h))
-same_kind false false h = refl
+-- ---- sizes added up
 
-pub other_kind : (x y : Bool) → not (beq x y) ≡ true → x ≡ y → ⊥
-other_kind true true h e = false≢true h
-other_kind true false h e = false≢true (sym e)
-other_kind false true h e = false≢true e
-other_kind false false h e = false≢true h
+abbrev pub sizes_of : (equalities : Bool) → List (Bool × ℕ) → ℕ
+sizes_of e ys = sum_by (λ x. x.1) (take (prefix_len (λ x. beq x.0 e) ys) ys)
 
-equality_long : (l : List ℕ) (p : ℕ) → get_or l p 0 ≡ equality_word → size_at l p ≡ equality_size
-unfolding size_at
-equality_long l p word = ap (λ (w : ℕ). w % limit16 + 1) word
+-- one more atom of the kind
+one_more : (n : ℕ) (y : Bool × ℕ) (ys : List (Bool × ℕ)) → sum_by (λ x. x.1) (take (1 + n) (y ∷ ys)) ≡ y.1 + sum_by (λ x. x.1) (take n ys)
+one_more n y ys =
+    let one : 1 + n ≡ suc n = omega arith in
+    ap (λ (m : ℕ). sum_by (λ x. x.1) (take m (y ∷ ys))) one ∙ sum_by-cons (λ x. x.1) y (take n ys)
 
--- i words of the run are passed
-abbrev pub Walking : (equalities : Bool) → List ℕ → ℕ → Type 0
-Walking true ws i = Leading ws i
-Walking false ws i = Passing ws i
+-- the equalities in front, and the atoms from the first other one on
 
--- an atom is next
-pub record Ahead (ws : List ℕ) (i : ℕ) : Type 0 where
-  pub todo : List Atom
-  pub first : First todo ws i (length ws - i)
+unfoldable eqns_of : List Atom → List Atom
+eqns_of [] = []
+eqns_of (eqn p a b ∷ xs) = eqn p a b ∷ eqns_of xs
+eqns_of (tab t ∷ xs) = []
 
-module _ {ws : List ℕ} (c : Body ws) where
-  pub walking_start : (equalities : Bool) → Walking equalities ws 0
-  walking_start true = leading_start c
-  walking_start false = passing_start c
+unfoldable after_eqns : List Atom → List Atom
+after_eqns [] = []
+after_eqns (eqn p a b ∷ xs) = after_eqns xs
+after_eqns (tab t ∷ xs) = tab t ∷ xs
 
-  pub walking_here : (equalities : Bool) {i : ℕ} → Walking equalities ws i → i < length ws → Ahead ws i
-  walking_here true w h = record { todo = w.todo; first = leading_here c w h }
-  walking_here false w h = record { todo = w.todo; first = passing_here c w h }
+whole_eqns : (xs : List Atom) → xs ≡ eqns_of xs ++ after_eqns xs
+unfolding eqns_of after_eqns
+whole_eqns [] = refl
+whole_eqns (eqn p a b ∷ xs) = ap (λ (ys : List Atom). eqn p a b ∷ ys) (whole_eqns xs)
+whole_eqns (tab t ∷ xs) = refl
 
-  pub walking_end : (equalities : Bool) {i : ℕ} → Walking equalities ws i → length ws ≤ i → Runs equalities ws 0 (length ws) i
-  walking_end true w h = leads c w (λ k e. omega arith)
-  walking_end false w h = passing_end c w h
+all_eqns : (xs : List Atom) → All IsEqn (eqns_of xs)
+unfolding eqns_of
+all_eqns [] = tt
+all_eqns (eqn p a b ∷ xs) = (tt, all_eqns xs)
+all_eqns (tab t ∷ xs) = tt
 
-  -- it is of the run
-  pub walking_next : (equalities : Bool) {i j : ℕ} → Walking equalities ws i → i < length ws → eqb (get_or ws i 0) equality_word ≡ equalities
-      → j ≡ i + size_at ws i → Walking equalities ws j
-  walking_next true {i} w h e ej =
-      let word = eqb-true (get_or ws i 0) equality_word e in
-      leading_next c w h word (ej ∙ ap (λ (k : ℕ). i + k) (equality_long ws i word))
-  walking_next false {i} w h e ej = passing_next c w h (eqb-false (get_or ws i 0) equality_word e) ej
+-- none of them follows
+none_follows : (xs : List Atom) (x : Atom) (ys : List Atom) → after_eqns xs ≡ x ∷ ys → IsEqn x → ⊥
+unfolding after_eqns
+none_follows [] x ys e h = cc
+none_follows (eqn p a b ∷ xs) x ys e h = none_follows xs x ys e h
+none_follows (tab t ∷ xs) x ys e h =
+    let is : tab t ≡ x = cc in
+    subst (λ (y : Atom). IsEqn y) (sym is) h
 
-  -- it is not
-  pub walking_met : (equalities : Bool) {i : ℕ} → Walking equalities ws i → i < length ws → (eqb (get_or ws i 0) equality_word ≡ equalities → ⊥)
-      → Runs equalities ws 0 (length ws) i
-  walking_met true {i} w h other = leads c w (λ k e. other (eq-eqb (get_or ws i 0) equality_word e))
-  walking_met false {i} w h other = passing_met c w h (go (eqb (get_or ws i 0) equality_word) refl)
-    where
-      go : (b : Bool) → eqb (get_or ws i 0) equality_word ≡ b → get_or ws i 0 ≡ equality_word
-      go true e = eqb-true (get_or ws i 0) equality_word e
-      go false e = absurd (other e)
+eqns_size : (xs : List Atom) → sizes_of true (map shape xs) ≡ length (words_of atom_words (eqns_of xs))
+unfolding eqns_of
+eqns_size [] = refl
+eqns_size (eqn p a b ∷ xs) =
+    one_more (prefix_len (λ x. beq x.0 true) (map shape xs)) (shape (eqn p a b)) (map shape xs) ∙ ap (λ (n : ℕ). length (atom_words (eqn p a b)) + n) (eqns_size xs)
+    ∙ sym (length-append (atom_words (eqn p a b)) (words_of atom_words (eqns_of xs)))
+eqns_size (tab t ∷ xs) = refl
+
+others_size : (xs : List Atom) → sizes_of false (map shape xs) ≡ length (words_of tab_words (until_eqn xs))
+unfolding until_eqn
+others_size [] = refl
+others_size (eqn p a b ∷ xs) = refl
+others_size (tab t ∷ xs) =
+    one_more (prefix_len (λ x. beq x.0 false) (map shape xs)) (shape (tab t)) (map shape xs) ∙ ap (λ (n : ℕ). length (tab_words t) + n) (others_size xs)
+    ∙ sym (length-append (tab_words t) (words_of tab_words (until_eqn xs)))
+
+module _ {ws : List ℕ} (b : Body ws) where
+  abbrev xs : List Atom
+  xs = atoms_in ws 0 (length ws)
+
+  cut : AtomsAt (eqns_of xs ++ after_eqns xs) ws 0 (length ws)
+  cut = subst (λ (ys : List Atom). AtomsAt ys ws 0 (length ws)) (whole_eqns xs) b
+
+  pub run_far : (equalities : Bool) (r : ℕ) → r ≡ sizes_of equalities (shapes ws) → Runs equalities ws 0 (length ws) r
+  unfolding shapes
+  run_far false r e = e ∙ others_size xs
+  run_far true r e =
+      let size : r ≡ length (words_of atom_words (eqns_of xs)) = e ∙ eqns_size xs in
+      let front = atoms_left (eqns_of xs) (after_eqns xs) cut r size in
+      let behind = atoms_right (eqns_of xs) (after_eqns xs) cut (0 + r) (length ws - r) (omega (arith, size)) (omega (arith, size)) in
+      let a = atoms_is ws 0 r (eqns_of xs) front in
+      let inside : r ≤ length ws = omega (arith, front.within) in
+      record {
+        inside = inside;
+        last = λ h w.
+            let next = first_atom (after_eqns xs) ws (0 + r) (length ws - r) behind (omega arith) in
+            none_follows xs next.atom next.rest next.is (eqn_met next.atom next.stands w);
+        eqs = atoms_read ws 0 r (eqns_of xs) front;
+        equalities = subst (λ (us : List Atom). All IsEqn us) (sym a) (all_eqns xs);
+        others = atoms_read ws (0 + r) (length ws - r) (after_eqns xs) behind;
+        whole = whole_eqns xs ∙ ap₂ ◌++◌ (sym a) (sym (atoms_is ws (0 + r) (length ws - r) (after_eqns xs) behind));
+      }
+
+  pub sizes_fit : (equalities : Bool) → sizes_of equalities (shapes ws) ≤ length ws
+  unfolding shapes
+  sizes_fit false = run_inside b (others_size xs)
+  sizes_fit true = (run_far true (sizes_of true (shapes ws)) refl).inside
 
 -- ---- the words are lent: how far they go is how far those go where they stand
 

@@ -18,7 +18,7 @@ ghost use Rattle.canonicalize.specs.Canonicalize.{FrontOneAsks, FrontOne, FrontA
 
 pub mod spans; // spans.rt: where in a body a term may stand
 
-use bodies::atoms::is_equality;
+use bodies::atoms::{Atoms, is_equality};
 use bodies::terms::{Sign, same_term};
 use spans::Table;
 use words::{
@@ -79,17 +79,10 @@ fn run(body: &[u8], equalities: bool) -> usize
     requires { Body (words body.now) }
     ensures { Runs equalities (words body.now) 0 (length (words body.now)) result }
 {
-    let n = octets::count(body);
-    let mut i = 0;
-    // `successors` of std in place of the two loops that only read was tried at `equalities`, whose line says what was not proved.
-    while i < n {
-        let atom = good_atom_at(body, i);
-        if is_equality(atom) != equalities {
-            return i;
-        }
-        i = atom.next;
-    }
-    i
+    Atoms { left: body }
+        .take_while(|atom| is_equality(*atom) == equalities)
+        .map(|atom| atom.next)
+        .sum()
 }
 
 // Resolves the atoms in the n words at `from`, writing at `to`, which lies beyond them. Those that are no equalities stay as they are, so they

@@ -1,43 +1,38 @@
--- Counting the words of a run: those passed are of its kind, so where an atom of the other kind is met, or nothing is left, the count is whole.
--- Assumes nothing.
-use mathlib.Core.Path.{◌∙◌, sym}
+-- The atoms that pass are those in front that are of the run's kind, and their sizes are added up. Assumes nothing.
+use mathlib.Core.Bool.{beq}
+use mathlib.Core.Path.{ap}
 use native.Mathlib.Omega.{arith}
-use Rattle.bodies.proofs.Shapes.{told_equality}
-use Rattle.bodies.proofs.Standing.{next_at_lem}
-use Rattle.canonicalize.proofs.Walking.{other_kind, same_kind, walking_end, walking_here, walking_met, walking_next, walking_start}
+use Rattle.std.proofs.Common.{rules, tests}
+use Rattle.std.proofs.lemmas.Iterator.{YieldsList-from_map}
+use Rattle.std.proofs.lemmas.Iterator.Consumers.{YieldsList-at, YieldsList-from_first, fits_by_from_yields_list, sum_by_from_yields_List}
+use Rattle.std.proofs.lemmas.Iterator.Search.{YieldsList-from_take_while}
+use Rattle.octets.proofs.Words.{length_words}
+use Rattle.octets.specs.Words.{words}
+use Rattle.bodies.specs.Shapes.{seen, shapes}
+use Rattle.canonicalize.proofs.Walking.{run_far, sizes_fit}
 use Rattle.canonicalize.proofs.run.Goals as goal
 
-pub loop-i-init : goal.loop-i-init
-loop-i-init c = walking_start c.requires c.args.equalities
-
-pub good_atom_at-atom-requires : goal.good_atom_at-atom-requires
-good_atom_at-atom-requires c =
-    let next = walking_here c.requires c.args.equalities c.loop-i.invariant (omega arith) in
-    next.first.begins
-
--- ---- it is of the other kind
-
-pub returns-then-is_equality-equalities : goal.returns-then-is_equality-equalities
-returns-then-is_equality-equalities c =
-    let next = walking_here c.requires c.args.equalities c.loop-i.invariant (omega arith) in
-    let told = c.is_equality.ensures ∙ told_equality next.first.begins.first c.good_atom_at-atom.ensures in
-    walking_met c.requires c.args.equalities c.loop-i.invariant (omega arith)
-    (λ e. other_kind _ _ c.if-is_equality-equalities.true (told ∙ e))
-
--- ---- it is of the run
-
-pub loop-i-smaller : goal.loop-i-smaller
-loop-i-smaller c =
-    let next = walking_here c.requires c.args.equalities c.loop-i.invariant (omega arith) in
-    omega (arith, next_at_lem next.first.begins c.good_atom_at-atom.ensures, next.first.size, next.first.some)
-
-pub loop-i-preserved : goal.loop-i-preserved
-loop-i-preserved c =
-    let next = walking_here c.requires c.args.equalities c.loop-i.invariant (omega arith) in
-    let told = c.is_equality.ensures ∙ told_equality next.first.begins.first c.good_atom_at-atom.ensures in
-    walking_next c.requires c.args.equalities c.loop-i.invariant (omega arith)
-    (sym told ∙ same_kind _ _ c.if-is_equality-equalities.false)
-    (omega (arith, next_at_lem next.first.begins c.good_atom_at-atom.ensures))
+pub sum-requires-clause-fits : goal.sum-requires-clause-fits
+sum-requires-clause-fits c =
+    let a = c.args in
+    let ws = words a.body.now in
+    let here = ap (λ s. shapes (words s.left.now)) c.take_while.ensures.source in
+    let few = sizes_fit c.requires a.equalities in
+    fits_by_from_yields_list (λ x. x.1) _ c.map.result _
+    (YieldsList-from_map _ (λ x. x.1) (YieldsList-at c.map.ensures.source
+    (YieldsList-from_take_while _ (λ x. beq x.0 a.equalities) (YieldsList-from_first seen (λ s. shapes (words s.left.now)) (shapes ws) here)
+    c.take_while.ensures.closure c.take_while.ensures.done (λ x r q k. search (rules, tests))))
+    c.map.ensures.closure (λ x r q k. search (rules, tests)))
+    (omega (arith, few, length_words a.body.now, c.well_formed))
 
 pub returns : goal.returns
-returns c = walking_end c.requires c.args.equalities c.loop-i.invariant (omega arith)
+returns c =
+    let a = c.args in
+    let ws = words a.body.now in
+    let here = ap (λ s. shapes (words s.left.now)) c.take_while.ensures.source in
+    run_far c.requires a.equalities c.sum.result
+    (sum_by_from_yields_List (λ x. x.1) _ c.map.result _ c.sum.ensures.ran
+    (YieldsList-from_map _ (λ x. x.1) (YieldsList-at c.map.ensures.source
+    (YieldsList-from_take_while _ (λ x. beq x.0 a.equalities) (YieldsList-from_first seen (λ s. shapes (words s.left.now)) (shapes ws) here)
+    c.take_while.ensures.closure c.take_while.ensures.done (λ x r q k. search (rules, tests))))
+    c.map.ensures.closure (λ x r q k. search (rules, tests))))

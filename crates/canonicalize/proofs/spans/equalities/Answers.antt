@@ -20,7 +20,8 @@ count-requires-clause-fits c =
 pub returns : goal.returns
 returns c =
     let ws = words c.args.body.now in
+    let here = ap (λ s. shapes (words s.left.now)) c.filter.ensures.source in
     count_from_yields_List c.filter.result c.count.result c.count.ensures.ran
-    (YieldsList-from_filter _ (λ x. x.0) (YieldsList-from_first seen (λ s. shapes (words s.left.now)) (shapes ws) (cc)) c.filter.ensures.closure
+    (YieldsList-from_filter _ (λ x. x.0) (YieldsList-from_first seen (λ s. shapes (words s.left.now)) (shapes ws) here) c.filter.ensures.closure
     (λ x r q k. search rules))
     ∙ equations_shapes ws
