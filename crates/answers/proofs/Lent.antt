@@ -21,10 +21,3 @@ module _ {up_to : ℕ} {l : List ℕ} {cut : ℕ} (k : Lent up_to l cut) where
 
   pub lent_words : length (words (take cut l)) ≡ up_to / 4
   lent_words = length_words (take cut l) ∙ ap (λ (n : ℕ). n / 4) (lent_size ∙ k.is)
-
-  -- once they are back, with other bytes, all behind them is as it was
-  pub beyond_lent : (e : List ℕ) → length e ≡ length (take cut l) → Beyond up_to l (e ++ drop cut l)
-  beyond_lent e kept =
-      let size : up_to ≡ length e + 0 = omega (arith, k.is, kept, lent_size) in
-      let same : cut + 0 ≡ up_to = omega (arith, k.is) in
-      ap (λ (i : ℕ). drop i (e ++ drop cut l)) size ∙ drop-append-add e (drop cut l) 0 ∙ drop-drop 0 cut l ∙ ap (λ (i : ℕ). drop i l) same

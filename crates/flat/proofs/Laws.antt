@@ -28,7 +28,7 @@ use Rattle.meaning.proofs.Results.{ok_inj}
 use Rattle.flat.specs.Flat.{AtomNumbers, term_numbers, atom_numbers, numbers_from, is_term_at, term_at, first_at, read_behind}
 use Rattle.written.specs.Written.{with_heads, with_globals, ending_of, or_unfit}
 use Rattle.written.proofs.Walking.{stops, made, then_made, both, then_then}
-use Rattle.words.proofs.WordAt.{Here, There, NotKind}
+use Rattle.words.proofs.WordAt.{There, NotKind}
 use Rattle.written.proofs.Expected.{word_fits, word_unfit, heads_with, heads_most, head_with, head_other, head_high, head_fits_lem, head_count}
 use Rattle.written.proofs.Expected.{no_code_lem, as_code, change_code, NoneOf, last_code}
 use Rattle.words.specs.declared.Word.TheVariants as Said
@@ -97,12 +97,12 @@ module _ (H w : ℕ) where
 pub no_word : (s : Sig) (ws : List ℕ) (p : ℕ) → length ws ≤ p → or_unfit term_numbers None p ≡ term_at s ws p
 no_word s ws p l = rw (le-ltb p (length ws) l)
 
-module _ (H G : ℕ) {ws : List ℕ} {p w : ℕ} (k : Here ws p w) where
+module _ (H G : ℕ) (ws : List ℕ) (p : ℕ) {w : ℕ} (is : w ≡ get_or ws p 0) (inside : p < length ws) where
   pub term_fits : {t : Term} → is_term (with_heads H) w ≡ true → TermSays t G w → or_unfit term_numbers (Some t) p ≡ term_at (with_globals H G) ws p
-  term_fits fits says = rw (← k.is, lt-ltb p (length ws) k.inside, fits) (λ i. ok (record { number_is = says.number_is i; word_is = says.word_is i }))
+  term_fits fits says = rw (← is, lt-ltb p (length ws) inside, fits) (λ i. ok (record { number_is = says.number_is i; word_is = says.word_is i }))
 
   pub term_none : is_term (with_heads H) w ≡ false → or_unfit term_numbers None p ≡ term_at (with_globals H G) ws p
-  term_none none = rw (← k.is, lt-ltb p (length ws) k.inside, none)
+  term_none none = rw (← is, lt-ltb p (length ws) inside, none)
 
 -- and what that tells
 module _ (s : Sig) (ws : List ℕ) (p : ℕ) {x : Option Term} (read : or_unfit term_numbers x p ≡ term_at s ws p) where

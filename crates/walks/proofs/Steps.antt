@@ -312,25 +312,6 @@ module _ (k at to sp lg v : ℕ) (s cs s1 cs1 s2 cs2 : List ℕ)
 
 -- it is taken after a walk: K words were read in all, of which the walk read k. The place of the kind 3 word is q
 module _ (k K at1 at to sp lg h q : ℕ) (s cs s1 cs1 s2 cs2 : List ℕ) (a : Walk) where
-  -- its counter is used up
-  pub full_last : {n m : ℕ} {T T' : Walk → Piece → Type 0} {e : Stopped} (x : Res Piece) (g : Piece → Fresh → Piece) → k ≤ K
-      → Walked n T x k at1 to sp lg s cs s1 cs1 (Ok a)
-      → Taken (fresh q h cs1) a.log s1 cs1 s2 cs2 (Err e)
-      → Walked m T' (◌>>=◌ x (λ p. ◌>>=◌ (fresh q h p.next) (λ f. ok (g p f)))) K at to sp lg s cs s2 cs2 (Err e)
-  full_last (refuse i p) g le w u = absurd w.ended
-  full_last {n} {m} {T} {T'} {e} (ok p) g le w u =
-      go (fresh q h p.next) (subst (λ (l : List ℕ). Taken (fresh q h l) a.log s1 cs1 s2 cs2 (Err e)) w.ended.0.counters u)
-    where
-      go : (y : Res Fresh) → Taken y a.log s1 cs1 s2 cs2 (Err e) → Walked m T' (◌>>=◌ y (λ f. ok (g p f))) K at to sp lg s cs s2 cs2 (Err e)
-      go (ok f) u = absurd u
-      go (refuse i j) u =
-          record {
-            kept =
-                rw (u.counters, u.scratch, u.log)
-                (kept_wide to (to + 4 * K) sp (sp + K) (lg + K) w.kept (omega arith) (omega arith) (omega arith) (omega arith) (omega arith));
-            ended = u.refuses;
-          }
-
   -- the words ys are written behind what the walk wrote
   module _ (v n m : ℕ) (T : Walk → Piece → Type 0) (s3 ys : List ℕ) (e t : ℕ) (wordsRoom : to + 4 * K ≤ sp) (stackRoom : sp + K ≤ lg)
       (logRoom : lg + K ≤ length s)

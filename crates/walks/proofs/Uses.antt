@@ -7,7 +7,7 @@ use native.Mathlib.Omega.{arith}
 use lib.ListN.{length, length-append}
 use Rattle.octets.specs.Regions.{splice, part}
 use Rattle.octets.proofs.Splice.{length_part}
-use Rattle.std.specs.Prelude.{Result, Ok, Err}
+use Rattle.std.specs.Prelude.{Result, Ok}
 use Rattle.rules.specs.Words.{head_of}
 use Rattle.rules.specs.Refusals.{Res, ok, ◌>>=◌}
 use Rattle.rules.specs.ToQuery.{Fresh, fresh}
@@ -15,7 +15,7 @@ use Rattle.walks.specs.Log.{Taken}
 use Rattle.walks.specs.Steps.{Piece, reached_at, Walked, OnStack, Termed, UseFits}
 use Rattle.walks.specs.declared.Walk.{Walk}
 use Rattle.walks.specs.declared.Stopped.{Stopped}
-use Rattle.walks.proofs.Steps.{Own, full_last, last_done}
+use Rattle.walks.proofs.Steps.{Own, last_done}
 
 -- a fresh variable of the head of w was asked for at the place q, which answers v and leaves s2 and cs2
 pub record Used (own w n sp q : ℕ) (s1 cs1 : List ℕ) (a : Walk) (s2 cs2 : List ℕ) (v : Result ℕ Stopped) : Type 0 where
@@ -36,11 +36,6 @@ and_use q h x g = ◌>>=◌ x (λ p. ◌>>=◌ (fresh q h p.next) (λ f. ok (g p
 
 module _ {own w n sp q : ℕ} {s1 cs1 : List ℕ} {a : Walk} {s2 cs2 : List ℕ} {front at to size lg : ℕ} {x : Res Piece} {s cs : List ℕ}
     (t : Termed front at to size n sp lg x s cs s1 cs1 a) where
-  -- none is left
-  pub used_none : {m : ℕ} {T : Walk → Piece → Type 0} {e : Stopped} (o : Used own w n sp q s1 cs1 a s2 cs2 (Err e)) (g : Piece → Fresh → Piece)
-      → Walked m T (and_use q (head_of w) x g) size at to sp lg s cs s2 cs2 (Err e)
-  used_none o g = full_last t.behind size (at + front) at to sp lg (head_of w) q s cs s1 cs1 s2 cs2 a x g (omega (arith, t.whole)) t.walk o.taken
-
   -- the own words xs and the terms are written, up to e, which leaves s3
   pub used_done : {v : ℕ} (o : Used own w n sp q s1 cs1 a s2 cs2 (Ok v)) (m : ℕ) (T : Walk → Piece → Type 0) (s3 xs : List ℕ) (e u : ℕ)
       (g : Piece → Fresh → Piece)

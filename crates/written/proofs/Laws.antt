@@ -8,7 +8,7 @@ use native.Mathlib.Omega.{arith}
 use lib.ListN.{length, get_or}
 use lib.Dec.{ltb, eqb}
 use lib.Count.{count_leading_zeros}
-use borrow.Author.Tests.{ltb-true, ltb-false, lt-ltb, le-ltb, ne_eqb, eq-eqb, eqb-true}
+use borrow.Author.Tests.{ltb-true, ltb-false, lt-ltb, le-ltb, ne_eqb, eq-eqb}
 use Rattle.rules.specs.Words.{limit12, limit16, max_depth, name_base, literal_base, head_base, equality_word, action_word, is_name_word, is_literal_word, is_head_word}
 use Rattle.rules.specs.Words.{is_equality_word, count_of, Code, a_let, a_set, a_panic, code_of}
 use Rattle.rules.specs.Refusals.{Res, ok, refuse, ◌>>=◌, unfit, too_deep}
@@ -19,7 +19,6 @@ use Rattle.words.specs.Word.{kind}
 use Rattle.words.specs.declared.Word.TheVariants.{Name, Literal, Head, Equality, Action}
 use Rattle.words.proofs.Ranges.{kind_from, kind_below, true_within, false_below, false_above, heads_below}
 use Rattle.words.proofs.WordLaws.{word_of, name_kind, literal_kind, equality_kind, said}
-use Rattle.meaning.proofs.Lists.{and_left, and_right}
 use Rattle.std.specs.Prelude.{Option, Some, None}
 use Rattle.written.specs.Written.{with_heads, ending_of, or_unfit, leaf_end, taken, taken_at, Starts}
 use Rattle.written.proofs.Walking.{made, then_made, moved, just_one, last_one, left_start, left_stops, left_next, left_on, none_left}
@@ -30,12 +29,12 @@ use Rattle.written.proofs.Expected.{no_code_lem, as_code, change_code, NoneOf, l
 
 -- ---- an expression, by how it begins
 
-pub starts : {s : Sig} {ws : List ℕ} {p n : ℕ} {x : Option ℕ} → or_unfit (λ n. n) x p ≡ taken_at s ws p → x ≡ Some n → Starts s ws p n
-starts {s} {ws} {p} {n} read is =
-    let h : taken_at s ws p ≡ ok n = sym read ∙ ap (λ (y : Option ℕ). or_unfit (λ n. n) y p) is in
+pub starts : (H : ℕ) {ws : List ℕ} {p n : ℕ} {x : Option ℕ} → or_unfit (λ n. n) x p ≡ taken_at (with_heads H) ws p → x ≡ Some n → Starts (with_heads H) ws p n
+starts H {ws} {p} {n} read is =
+    let h : taken_at (with_heads H) ws p ≡ ok n = sym read ∙ ap (λ (y : Option ℕ). or_unfit (λ n. n) y p) is in
     record { takes = h; inside = go (ltb p (length ws)) refl h }
   where
-    go : (b : Bool) → ltb p (length ws) ≡ b → taken (cond b (shape s (get_or ws p 0)) is_bad) (get_or ws p 0) p ≡ ok n → p < length ws
+    go : (b : Bool) → ltb p (length ws) ≡ b → taken (cond b (shape (with_heads H) (get_or ws p 0)) is_bad) (get_or ws p 0) p ≡ ok n → p < length ws
     go true e h = ltb-true p (length ws) e
     go false e h = let z : ◌≡◌ {A = ℕ} 0 1 = cc in absurd (omega arith)
 
@@ -77,6 +76,10 @@ module _ {s : Sig} {ws : List ℕ} {p n : ℕ} (b : Starts s ws p n) where
       go is_call h = let same : n ≡ count_of (get_or ws p 0) = cc in rw same (sym (made (read_many (read_expr s ws d) (count_of (get_or ws p 0)) (suc p)) _))
       go is_bad h = cc
 
+  -- a name or a literal ends behind its word
+  pub leaf_read : (d : ℕ) → n ≡ 0 → ¬ (d ≡ 0) → ok (p + 1) ≡ ending_of (read_expr s ws d p)
+  leaf_read d none z = none_left (exprs s ws (d - 1)) n (p + 1) none ∙ one_deeper d z
+
 -- ---- several expressions
 
 -- what is left of them, `left` from `next` on, each up to `deep` deep: it answers as the whole does, and begins no lower and no deeper
@@ -87,12 +90,6 @@ pub record Rest (s : Sig) (ws : List ℕ) (depth count at deep left next : ℕ) 
 
 pub rest_start : {s : Sig} {ws : List ℕ} {depth count at : ℕ} → Rest s ws depth count at depth count at
 rest_start = record { same = refl; on = omega arith; down = omega arith }
-
--- what the code asks before it reads the arguments of the last one in its place: none is left behind it, and it may have arguments
-pub last_told : (left n deep : ℕ) → (eqb left 0 && ltb 0 n) && ltb 0 deep ≡ true → (left ≡ 0) × (0 < deep)
-last_told left n deep h =
-    let both = and_left (eqb left 0 && ltb 0 n) (ltb 0 deep) h in
-    (eqb-true left 0 (and_left (eqb left 0) (ltb 0 n) both), ltb-true 0 deep (and_right (eqb left 0 && ltb 0 n) (ltb 0 deep) h))
 
 module _ {s : Sig} {ws : List ℕ} {depth count at deep left next : ℕ} (r : Rest s ws depth count at deep left next) where
   pub rest_end : left ≡ 0 → ok next ≡ ending_of (read_many (read_expr s ws depth) count at)

@@ -91,8 +91,8 @@ impl Record<'_> {
         self.arguments(next, count, depth - 1)
     }
 
-    // `count` expressions, one after the other, each of which may hold expressions `depth` deep. Each is taken by its first word, or refused there. Behind the
-    // arguments of the last one nothing is left to read, so that they are read in its place, without a call.
+    // `count` expressions, one after the other, each of which may hold expressions `depth` deep. Each is taken by its first word, or refused there; a name or a
+    // literal is that word alone. Behind the arguments of the last one nothing is left to read, so that they are read in its place, without a call.
     // What is left is set anew there, so no `for` counts it: it would need a loop in a loop.
     #[cycle(arguments_expression)]
     fn arguments(&self, at: usize, count: u32, depth: u32) -> Result<usize, Refusal>
@@ -106,7 +106,9 @@ impl Record<'_> {
                 return Err(Reason::Unfit.at(next));
             };
             left -= 1;
-            if (left == 0) & (0 < some) & (0 < deep) {
+            if 0 < deep && some == 0 {
+                next += 1;
+            } else if 0 < deep && left == 0 {
                 next += 1;
                 left = some;
                 deep -= 1;

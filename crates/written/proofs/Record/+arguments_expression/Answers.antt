@@ -1,16 +1,13 @@
 -- The number of words left and the depth left fall together, and `arguments`, which calls `expression` at its own place, has one more: the one proof of
 -- their cycle. Each expression is taken by how it begins, and what is left of a row answers as the whole does: its next one is read, or, where that is the
 -- last, its arguments stand for it. Assumes nothing.
-use mathlib.Core.Path.{◌≡◌, ◌∙◌}
-use Prim.Native.Nat.{◌+◌, ◌-◌, ◌<◌}
+use mathlib.Core.Path.{◌∙◌}
 use native.Mathlib.Omega.{arith}
 use Rattle.refusals.proofs.Passing.{passed_on}
 use Rattle.octets.specs.Words.{words}
 use Rattle.octets.proofs.Words.{length_words}
-use Rattle.written.specs.Written.{with_heads, Starts}
-use Rattle.written.proofs.Walking.{none_left}
-use Rattle.written.proofs.Ends.{exprs}
-use Rattle.written.proofs.Laws.{starts, no_expression, too_deep_lem, one_deeper, rest_start, last_told, rest_end, rest_stops, rest_on, rest_next, rest_last}
+use Rattle.written.specs.Written.{with_heads}
+use Rattle.written.proofs.Laws.{starts, no_expression, too_deep_lem, one_deeper, rest_start, leaf_read, rest_end, rest_stops, rest_on, rest_next, rest_last}
 use Rattle.written.proofs.Record.+arguments_expression.Goals as goal
 
 pub arguments-loop-left-init : goal.arguments-loop-left-init
@@ -24,40 +21,28 @@ arguments-returns-in_default t c =
     let none = no_expression (with_heads a.self.now.heads) (words a.self.now.rule.now) c.loop-left.deep c.loop-left.next c.start_at.ensures c.in_default.is in
     rw (at.0, at.1) (rest_stops c.loop-left.invariant (omega arith) none)
 
+-- it is a name or a literal
 pub arguments-overflow_add-next : goal.arguments-overflow_add-next
-arguments-overflow_add-next t c =
-    let at_some : (let a = c.args in Starts (with_heads a.self.now.heads) (words a.self.now.rule.now) c.loop-left.next c.in-Some.some) =
-    starts c.start_at.ensures c.in-Some.is in
-    omega (arith, at_some.inside, length_words c.args.self.now.rule.now)
+arguments-overflow_add-next t c = omega (arith, (starts c.args.self.now.heads c.start_at.ensures c.in-Some.is).inside, length_words c.args.self.now.rule.now)
 
-pub arguments-overflow_sub-deep : goal.arguments-overflow_sub-deep
-arguments-overflow_sub-deep t c =
-    let at_last : (let l = c.loop-left in (l.left - 1 ≡ 0) × (0 < l.deep)) =
-    let l = c.loop-left in
-    last_told (l.left - 1) c.in-Some.some l.deep c.if-left-some.true in
-    at_last.1
+pub arguments-loop-left-preserved-then-some-eq0 : goal.arguments-loop-left-preserved-then-some-eq0
+arguments-loop-left-preserved-then-some-eq0 t c =
+    let begins = starts c.args.self.now.heads c.start_at.ensures c.in-Some.is in
+    rest_next c.loop-left.invariant (leaf_read begins c.loop-left.deep c.if-some-eq0.true (λ z. omega arith)) (omega arith)
 
-pub arguments-loop-left-smaller-then-left-some : goal.arguments-loop-left-smaller-then-left-some
-arguments-loop-left-smaller-then-left-some t c =
-    let at_some : (let a = c.args in Starts (with_heads a.self.now.heads) (words a.self.now.rule.now) c.loop-left.next c.in-Some.some) =
-    starts c.start_at.ensures c.in-Some.is in
-    omega (arith, at_some.inside)
+-- it is the last one
+pub arguments-overflow_add-next-then-left-eq0 : goal.arguments-overflow_add-next-then-left-eq0
+arguments-overflow_add-next-then-left-eq0 t c =
+    omega (arith, (starts c.args.self.now.heads c.start_at.ensures c.in-Some.is).inside, length_words c.args.self.now.rule.now)
 
-pub arguments-loop-left-preserved-then-left-some : goal.arguments-loop-left-preserved-then-left-some
-arguments-loop-left-preserved-then-left-some t c =
-    let at_some : (let a = c.args in Starts (with_heads a.self.now.heads) (words a.self.now.rule.now) c.loop-left.next c.in-Some.some) =
-    starts c.start_at.ensures c.in-Some.is in
-    let at_last : (let l = c.loop-left in (l.left - 1 ≡ 0) × (0 < l.deep)) =
-    let l = c.loop-left in
-    last_told (l.left - 1) c.in-Some.some l.deep c.if-left-some.true in
-    rest_last c.loop-left.invariant at_some (omega arith) at_last.0 at_last.1
+pub arguments-loop-left-preserved-then-left-eq0 : goal.arguments-loop-left-preserved-then-left-eq0
+arguments-loop-left-preserved-then-left-eq0 t c =
+    rest_last c.loop-left.invariant (starts c.args.self.now.heads c.start_at.ensures c.in-Some.is) (omega arith) c.if-left-eq0.true (omega arith)
 
 -- it is read by itself
 pub arguments-expression-requires : goal.arguments-expression-requires
 arguments-expression-requires t c =
-    let at_some : (let a = c.args in Starts (with_heads a.self.now.heads) (words a.self.now.rule.now) c.loop-left.next c.in-Some.some) =
-    starts c.start_at.ensures c.in-Some.is in
-    (omega (arith, c.decreases, c.loop-left.invariant.on, c.loop-left.invariant.down), at_some)
+    (omega (arith, c.decreases, c.loop-left.invariant.on, c.loop-left.invariant.down), starts c.args.self.now.heads c.start_at.ensures c.in-Some.is)
 
 pub arguments-returns-in_err-next : goal.arguments-returns-in_err-next
 arguments-returns-in_err-next t c =
@@ -66,9 +51,7 @@ arguments-returns-in_err-next t c =
 -- what was read ends behind its first word
 pub arguments-loop-left-smaller : goal.arguments-loop-left-smaller
 arguments-loop-left-smaller t c =
-    let at_some : (let a = c.args in Starts (with_heads a.self.now.heads) (words a.self.now.rule.now) c.loop-left.next c.in-Some.some) =
-    starts c.start_at.ensures c.in-Some.is in
-    omega (arith, at_some.inside, rest_on c.loop-left.invariant c.in_ok-next.ensures)
+    omega (arith, (starts c.args.self.now.heads c.start_at.ensures c.in-Some.is).inside, rest_on c.loop-left.invariant c.in_ok-next.ensures)
 
 pub arguments-loop-left-preserved : goal.arguments-loop-left-preserved
 arguments-loop-left-preserved t c = rest_next c.loop-left.invariant c.in_ok-next.ensures (omega arith)
@@ -84,8 +67,7 @@ expression-overflow_add-next t c = omega (arith, c.requires.inside, length_words
 
 pub expression-returns-then-count-eq0 : goal.expression-returns-then-count-eq0
 expression-returns-then-count-eq0 t c =
-    let a = c.args in
-    none_left (exprs (with_heads a.self.now.heads) (words a.self.now.rule.now) (a.depth - 1)) _ (a.at + 1) c.if-count-eq0.true ∙ one_deeper c.requires a.depth c.if-depth-eq0.false
+    leaf_read c.requires c.args.depth c.if-count-eq0.true c.if-depth-eq0.false
 
 pub expression-arguments-requires : goal.expression-arguments-requires
 expression-arguments-requires t c = (omega (arith, c.requires.inside, c.decreases), tt)

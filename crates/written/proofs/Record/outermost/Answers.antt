@@ -1,14 +1,11 @@
 -- It is taken by how it begins, and its arguments stand one deeper; where it has none, it ends behind its word. Assumes nothing.
 use mathlib.Core.Path.{◌∙◌}
-use Prim.Native.Nat.{◌+◌, ◌-◌}
 use native.Mathlib.Omega.{arith}
 use Rattle.octets.specs.Words.{words}
 use Rattle.octets.proofs.Words.{length_words}
 use Rattle.rules.specs.Words.{max_depth}
-use Rattle.written.specs.Written.{with_heads, Starts}
-use Rattle.written.proofs.Walking.{none_left}
-use Rattle.written.proofs.Ends.{exprs}
-use Rattle.written.proofs.Laws.{starts, no_expression, one_deeper}
+use Rattle.written.specs.Written.{with_heads}
+use Rattle.written.proofs.Laws.{starts, no_expression, leaf_read, one_deeper}
 use Rattle.written.proofs.Record.outermost.Goals as goal
 
 -- none begins here
@@ -18,17 +15,10 @@ returns-in_default c =
     rw (c.at.ensures.0, c.at.ensures.1) (no_expression (with_heads a.self.now.heads) (words a.self.now.rule.now) max_depth a.at c.start_at.ensures c.in_default.is)
 
 pub overflow_add-next : goal.overflow_add-next
-overflow_add-next c =
-    let at_some : (let a = c.args in Starts (with_heads a.self.now.heads) (words a.self.now.rule.now) a.at c.in-Some.some) = starts c.start_at.ensures c.in-Some.is in
-    omega (arith, at_some.inside, length_words c.args.self.now.rule.now)
+overflow_add-next c = omega (arith, (starts c.args.self.now.heads c.start_at.ensures c.in-Some.is).inside, length_words c.args.self.now.rule.now)
 
 pub returns-then-some-eq0 : goal.returns-then-some-eq0
-returns-then-some-eq0 c =
-    let at_some : (let a = c.args in Starts (with_heads a.self.now.heads) (words a.self.now.rule.now) a.at c.in-Some.some) = starts c.start_at.ensures c.in-Some.is in
-    let a = c.args in
-    none_left (exprs (with_heads a.self.now.heads) (words a.self.now.rule.now) (max_depth - 1)) _ (a.at + 1) c.if-some-eq0.true ∙ one_deeper at_some max_depth (λ z. omega arith)
+returns-then-some-eq0 c = leaf_read (starts c.args.self.now.heads c.start_at.ensures c.in-Some.is) max_depth c.if-some-eq0.true (λ z. omega arith)
 
 pub returns : goal.returns
-returns c =
-    let at_some : (let a = c.args in Starts (with_heads a.self.now.heads) (words a.self.now.rule.now) a.at c.in-Some.some) = starts c.start_at.ensures c.in-Some.is in
-    c.arguments.ensures ∙ one_deeper at_some max_depth (λ z. omega arith)
+returns c = c.arguments.ensures ∙ one_deeper (starts c.args.self.now.heads c.start_at.ensures c.in-Some.is) max_depth (λ z. omega arith)
