@@ -51,7 +51,8 @@ fn put_called(
 }
 
 impl Reading<'_> {
-    // Lowers the expression at `at`, which is at most `depth` deep. A call without arguments sets up no walk over them.
+    // Lowers the expression at `at`, which is at most `depth` deep. A call without arguments sets up no walk over them, and ends by
+    // itself: with one end for both, a deep head takes a hundredth more instructions.
     #[cycle(lower_lower_all)]
     pub fn lower(
         &self,
