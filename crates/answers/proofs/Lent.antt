@@ -1,13 +1,11 @@
--- The scratch that is lent on: a front of it, as many bytes for each word of the rule, and what lies behind stays. Assumes nothing.
-use Prim.Native.Nat.{ℕ, ◌+◌, ◌/◌, ◌^◌, ◌≤◌, ◌<◌}
-use native.Mathlib.Omega.{arith}
+-- The scratch that is lent on: a front of it, as many bytes for each word of the rule. Assumes nothing.
+use Prim.Native.Nat.{ℕ, ◌/◌, ◌^◌, ◌≤◌, ◌<◌}
 use mathlib.Core.Path.{◌≡◌, ◌∙◌, ap}
-use mathlib.Core.List.{List, ◌++◌}
-use lib.ListN.{length, take, drop}
-use lib.Seq.{length-take-le, drop-append-add, drop-drop}
+use mathlib.Core.List.{List}
+use lib.ListN.{length, take}
+use lib.Seq.{length-take-le}
 use Rattle.octets.specs.Words.{words}
 use Rattle.octets.proofs.Words.{length_words}
-use Rattle.answers.specs.Answers.{Beyond}
 
 -- the first `cut` bytes of the scratch l are lent, which are `up_to` by the contract
 pub record Lent (up_to : ℕ) (l : List ℕ) (cut : ℕ) : Type 0 where
@@ -21,10 +19,3 @@ module _ {up_to : ℕ} {l : List ℕ} {cut : ℕ} (k : Lent up_to l cut) where
 
   pub lent_words : length (words (take cut l)) ≡ up_to / 4
   lent_words = length_words (take cut l) ∙ ap (λ (n : ℕ). n / 4) (lent_size ∙ k.is)
-
-  -- once they are back, with other bytes, all behind them is as it was
-  pub beyond_lent : (e : List ℕ) → length e ≡ length (take cut l) → Beyond up_to l (e ++ drop cut l)
-  beyond_lent e kept =
-      let size : up_to ≡ length e + 0 = omega (arith, k.is, kept, lent_size) in
-      let same : cut + 0 ≡ up_to = omega (arith, k.is) in
-      ap (λ (i : ℕ). drop i (e ++ drop cut l)) size ∙ drop-append-add e (drop cut l) 0 ∙ drop-drop 0 cut l ∙ ap (λ (i : ℕ). drop i l) same
