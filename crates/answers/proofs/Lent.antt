@@ -1,13 +1,11 @@
--- The scratch that is lent on: a front of it, as many bytes for each word of the rule, and what lies behind stays. Assumes nothing.
-use Prim.Native.Nat.{ℕ, ◌+◌, ◌/◌, ◌^◌, ◌≤◌, ◌<◌}
-use native.Mathlib.Omega.{arith}
+-- The scratch that is lent on: a front of it, as many bytes for each word of the rule. Assumes nothing.
+use Prim.Native.Nat.{ℕ, ◌/◌, ◌^◌, ◌≤◌, ◌<◌}
 use mathlib.Core.Path.{◌≡◌, ◌∙◌, ap}
-use mathlib.Core.List.{List, ◌++◌}
-use lib.ListN.{length, take, drop}
-use lib.Seq.{length-take-le, drop-append-add, drop-drop}
+use mathlib.Core.List.{List}
+use lib.ListN.{length, take}
+use lib.Seq.{length-take-le}
 use Rattle.octets.specs.Words.{words}
 use Rattle.octets.proofs.Words.{length_words}
-use Rattle.answers.specs.Answers.{Beyond}
 
 -- the first `cut` bytes of the scratch l are lent, which are `up_to` by the contract
 pub record Lent (up_to : ℕ) (l : List ℕ) (cut : ℕ) : Type 0 where

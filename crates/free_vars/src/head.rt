@@ -32,7 +32,7 @@ impl Head<'_> {
         count(self.rule) - self.from
     }
 
-    // Its word i.
+    // Its word i. That an index is in bounds is asked at each access, as by a slice, since it is about the index and not the head.
     pub(crate) fn word(&self, i: usize) -> u32
         requires { self.now.from + i < length (words self.now.rule.now) }
         ensures { Got (words self.now.rule.now) (self.now.from + i) result }

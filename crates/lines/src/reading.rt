@@ -1,8 +1,7 @@
 // Standard input as words. A line is eight lowercase hexadecimal digits and a line feed; the first line that is none is refused, and so is
 // one beyond the last that is read. What lies behind it is not looked at.
-ghost use Rattle.std.specs.Prelude.{◌≡◌, ℕ, ◌+◌, ◌<◌, ◌≤◌, length, MatchOption};
+ghost use Rattle.std.specs.Prelude.{◌≡◌, ℕ, ◌<◌, ◌≤◌, length, MatchOption};
 ghost use Rattle.octets.specs.Words.{words};
-ghost use Rattle.octets.specs.Regions.{part};
 ghost use Rattle.rules.specs.Words.{max_lines};
 ghost use Rattle.rules.specs.Program.{signature_length, line_at};
 ghost use Rattle.rules.specs.Program.{digit as Program·digit};
