@@ -1,4 +1,5 @@
-// The tests in front of the work, in the order of 01, "Turned back". They give the signature, or the first refusal.
+// The tests in front of the work, in the order of 01, "Turned back". They give the signature, or the first refusal. There are two rows of them: lowering tests
+// the counters too, and reads another record, so that one row for both would be told by a switch which tests to make.
 ghost use Rattle.std.specs.Prelude.{◌≡◌};
 ghost use Rattle.octets.specs.Words.{words};
 ghost use Rattle.refusals.specs.Numbers.{said, told};

@@ -1,5 +1,6 @@
 // The calls of the key service, over byte slices: four bytes a word, the lowest first. Each runs its tests in the order of 01, "Turned back", and leaves
-// output and counters as they were on a refusal. Each is proved in a crate of its own, and only named here; `tulgarent_c` exports them.
+// output and counters as they were on a refusal. Each is proved in a crate of its own, and named here with the contract that callers read; `tulgarent_c`
+// exports them.
 #![tactic(auto)]
 
 ghost use Rattle.std.specs.Prelude.{length};

@@ -23,7 +23,7 @@ pub struct Tops {
 }
 
 // The answer of a walk: the places behind what was read, behind what was written and behind what was logged, and the term of an expression. Of a row it
-// is 0: in an `Option` each walk over an expression would take out what it knows to be there.
+// is 0: one type serves both, so that what a walk leaves is one definition (`Walked`), and no walk over an expression takes its term out of an `Option`.
 #[derive(Clone, Copy)]
 pub struct Walk {
     pub next: usize,
