@@ -7,7 +7,7 @@ use Prim.Native.Nat.{◌%◌, ◌+◌, ◌-◌, ◌<◌, ◌≤◌, ℕ}
 use native.Mathlib.Omega.{arith}
 use lib.Dec.{eqb}
 use lib.ListN.{get_or, length, take}
-use lib.Seq.{get_or-drop, take-length}
+use lib.Seq.{get_or-drop}
 use borrow.Author.Tests.{eq-eqb}
 use Rattle.octets.proofs.Splice.{length_part, take_more}
 use Rattle.octets.specs.Regions.{part}
@@ -64,25 +64,17 @@ module _ {l : List ℕ} {p q : ℕ} (a : TabAt l p) (b : TabAt l q) where
           let m : get_or l p 0 % limit16 ≡ get_or l q 0 % limit16 = omega (arith, a.some, b.some, ca, cb, n) in
           absurd (k (whole_word (get_or l p 0) a.low a.high ∙ ap₂ head_word (alike_head (tab_at l p) (tab_at l q) e) m ∙ sym (whole_word (get_or l q 0) b.low b.high)))
 
-  -- with one first word: where their inputs stand, which decide
-  pub record Inputs (x y : Atom) : Type 0 where
-    pub left : x.terms + (x.count - 1) ≤ length l
-    pub right : y.terms + (x.count - 1) ≤ length l
-    pub decide : same_terms (part l x.terms (x.count - 1)) (part l y.terms (x.count - 1)) ≡ alike (tab_at l p) (tab_at l q)
-
-  pub inputs : {x y : Atom} → AtomSays x (get_or l p 0) p → AtomSays y (get_or l q 0) q → get_or l p 0 ≡ get_or l q 0 → Inputs x y
+  -- with one first word their inputs decide
+  pub heads_same : {x y : Atom} → AtomSays x (get_or l p 0) p → AtomSays y (get_or l q 0) q → get_or l p 0 ≡ get_or l q 0
+      → same_terms (part l x.terms (x.count - 1)) (part l y.terms (x.count - 1)) ≡ alike (tab_at l p) (tab_at l q)
   unfolding tab_at
-  inputs {x} {y} sx sy e =
+  heads_same {x} {y} sx sy e =
       let rx : Read l p x = read a sx in
       let ry : Read l q y = read b sy in
       let n₁ : x.count - 1 ≡ count_of (get_or l p 0) - 1 = ap (λ (k : ℕ). k - 1) rx.count in
       let n₂ : x.count - 1 ≡ count_of (get_or l q 0) - 1 = n₁ ∙ ap (λ (w : ℕ). count_of w - 1) e in
       let h : true ≡ eqb (head_of (get_or l p 0)) (head_of (get_or l q 0)) = sym (eq-eqb _ _ (ap head_of e)) in
-      record {
-        left = omega (arith, rx);
-        right = omega (arith, rx, ry, e);
-        decide = λ i. h i && same_terms (part l (rx.terms i) (n₁ i)) (part l (ry.terms i) (n₂ i));
-      }
+      λ i. h i && same_terms (part l (rx.terms i) (n₁ i)) (part l (ry.terms i) (n₂ i))
 
 -- ---- the output
 
@@ -118,10 +110,3 @@ module _ {xs ys : List ℕ} {i : ℕ} (g : Agreeing xs ys i) {a b : ℕ} (ea : a
       go : (c : Bool) → same_terms xs ys ≡ c → false ≡ c
       go true k = sym e ∙ ap₂ same_term ea eb ∙ terms_at_lem xs ys k i
       go false k = refl
-
--- all are compared
-pub agreeing_end : {xs ys : List ℕ} {i : ℕ} → Agreeing xs ys i → length xs ≡ length ys → length xs ≤ i → true ≡ same_terms xs ys
-agreeing_end {xs} {ys} {i} g long h =
-    let all : i ≡ length xs = omega (arith, g.most) in
-    let too : i ≡ length ys = all ∙ long in
-    sym g.same ∙ ap₂ same_terms (ap (λ (k : ℕ). take k xs) all ∙ take-length xs) (ap (λ (k : ℕ). take k ys) too ∙ take-length ys)

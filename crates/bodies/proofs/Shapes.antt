@@ -1,8 +1,7 @@
 -- Walking over a body: its first atom is read as it is, and what is left of the words is a body again. Assumes nothing.
 use mathlib.Core.List.{List, [], ◌∷◌, map}
-use mathlib.Core.Bool.{Bool, true, false}
-use mathlib.Core.Path.{◌∙◌, ◌≡◌, ap, refl, subst, sym}
-use Prim.Native.Nat.{◌+◌, ◌-◌, ◌<◌, ◌≤◌, suc, ℕ}
+use mathlib.Core.Path.{◌∙◌, ◌≡◌, ap, refl, sym}
+use Prim.Native.Nat.{◌-◌, ◌<◌, ◌≤◌, suc, ℕ}
 use native.Mathlib.Omega.{arith}
 use lib.Dec.{eqb}
 use lib.ListN.{get_or, length, length-append}
@@ -13,7 +12,7 @@ use Rattle.rules.specs.Flat.{Atom, atom_words, eqn, tab, words_of}
 use Rattle.rules.specs.Words.{equality_word, head_word}
 use Rattle.meaning.proofs.WordLaws.{two_atom}
 use Rattle.words.proofs.AtomLaws.{head_other, sign_word}
-use Rattle.words.specs.Atom.{AtomSays, BeginsGood, FirstWord}
+use Rattle.words.specs.Atom.{AtomSays, FirstWord}
 use Rattle.words.specs.declared.Atom as word
 use Rattle.words.specs.declared.HeadOrEq.{HeadOrEq}
 use Rattle.words.specs.declared.HeadOrEq.TheVariants.{Eq, Head}
@@ -62,9 +61,6 @@ module _ {ws : List ℕ} (b : Body ws) where
 
       pub next_inside : a.next ≤ length ws
       next_inside = omega (arith, next_size, first_here.inside)
-
-      pub next_some : 0 < a.next
-      next_some = omega (arith, next_size, first_here.some)
 
       left_atoms : (m : ℕ) → m ≡ length ws - a.next → AtomsAt first_here.rest ws a.next m
       left_atoms m e = first_here.after a.next m (omega (arith, next_size)) (omega (arith, next_size))

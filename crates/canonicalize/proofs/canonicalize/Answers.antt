@@ -12,7 +12,7 @@ use Rattle.bodies.proofs.Standing.{lent_body}
 use Rattle.canonicalize.specs.Canonicalize.{CanonicalizeAsks, Leads}
 use Rattle.canonicalize.specs.Spans.{Built}
 use Rattle.canonicalize.proofs.Walking.{lent_runs}
-use Rattle.canonicalize.proofs.Canonicalizing.{Led, canonical, leads_asks, led, replace_asks, resolve_asks, resolved_room, tabled, untabled}
+use Rattle.canonicalize.proofs.Canonicalizing.{Led, canonical, leads_asks, led, replace_asks, resolve_asks, tabled, untabled}
 use Rattle.canonicalize.proofs.canonicalize.Goals as goal
 
 -- how far the equalities in front go is told by the words that are lent
@@ -46,13 +46,6 @@ resolve-requires c =
     let at_leading = told c.requires b.ensures.place b.ensures.built c.part.ensures c.run-e.ensures (length_words_kept _ _ b.auto.s)
     (omega (arith, length_words c.args.s.now, c.well_formed)) in
     resolve_asks at_leading c.canonicalize_front-t.ensures c.replace_all-binds.ensures
-
-pub overflow_add-words : goal.overflow_add-words
-overflow_add-words c =
-    let b = c.build-spans in
-    let at_leading = told c.requires b.ensures.place b.ensures.built c.part.ensures c.run-e.ensures (length_words_kept _ _ b.auto.s)
-    (omega (arith, length_words c.args.s.now, c.well_formed)) in
-    omega (arith, at_leading.fits, resolved_room at_leading c.canonicalize_front-t.ensures c.replace_all-binds.ensures c.resolve.ensures)
 
 pub returns : goal.returns
 returns c =

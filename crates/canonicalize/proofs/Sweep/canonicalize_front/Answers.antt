@@ -3,7 +3,7 @@
 use mathlib.Core.Path.{◌∙◌, refl}
 use native.Mathlib.Omega.{arith}
 use Rattle.octets.proofs.Words.{length_words}
-use Rattle.canonicalize.proofs.Fronting.{front_one_asks, fronting_end, fronting_next, fronting_start}
+use Rattle.canonicalize.proofs.Fronting.{front_one_asks, fronting_next, fronting_start}
 use Rattle.canonicalize.proofs.Sweep.canonicalize_front.Goals as goal
 
 pub loop-i-init : goal.loop-i-init
@@ -17,13 +17,7 @@ overflow_add-t c =
     let next = fronting_next c.requires c.loop-i.invariant.1 c.loop-i-test.true c.args.self.sign.known_equals c.front_one-one.ensures refl in
     omega (arith, next.tabs.within, next.only.size, length_words, c.well_formed)
 
-pub past_equality-requires : goal.past_equality-requires
-past_equality-requires c = omega (arith, c.loop-i-test.true, c.requires.eqs.within, length_words, c.well_formed)
-
 pub loop-i-preserved : goal.loop-i-preserved
 loop-i-preserved c =
     let next = fronting_next c.requires c.loop-i.invariant.1 c.loop-i-test.true c.args.self.sign.known_equals c.front_one-one.ensures in
     (c.front_one-one.auto.s ∙ c.loop-i.invariant.0, next (omega (arith, c.past_equality.ensures)))
-
-pub returns : goal.returns
-returns c = fronting_end c.loop-i.invariant.1 c.loop-i-test.false

@@ -1,7 +1,6 @@
 -- Making all replacements: no atom that was passed asks again, so one sweep, in which each atom is tried where it stands, makes those of `replace_all`.
 -- Assumes nothing.
 use mathlib.Core.Path.{◌∙◌, refl}
-use native.Mathlib.Omega.{arith}
 use Rattle.canonicalize.proofs.Replacing.{next_atom, replacing_end, replacing_next, replacing_start}
 use Rattle.canonicalize.proofs.Sweep.replace_all.Goals as goal
 
@@ -17,12 +16,6 @@ pub replace_step-requires : goal.replace_step-requires
 replace_step-requires c =
     let at_next = next_atom c.loop-p.invariant.1 c.loop-p-test.true in
     at_next.asks
-
-pub loop-p-smaller : goal.loop-p-smaller
-loop-p-smaller c =
-    let at_next = next_atom c.loop-p.invariant.1 c.loop-p-test.true in
-    let at_place = at_next.next c.good_atom_at-atom.ensures in
-    omega (arith, at_next.inside, at_next.some, at_place)
 
 pub loop-p-preserved : goal.loop-p-preserved
 loop-p-preserved c =

@@ -1,45 +1,21 @@
 -- Trying the atom at p: if it is an equality whose terms ask for a replacement, that is made and bound; in each other case nothing is asked, so nothing may
 -- change. Assumes nothing.
-use mathlib.Core.Path.{◌∙◌, ◌≡◌, sym}
-use native.Mathlib.Omega.{arith}
-use lib.ListN.{length}
+use mathlib.Core.Path.{◌∙◌, sym}
 use Rattle.octets.proofs.Words.{length_words_kept}
-use Rattle.octets.specs.Words.{words}
 use Rattle.words.proofs.AtomLaws.{head_other}
 use Rattle.bodies.specs.Terms.{sig}
 use Rattle.canonicalize.proofs.Replacing.{asks_terms, met, step_none, step_other, step_some}
 use Rattle.canonicalize.proofs.Sweep.replace_step.Goals as goal
 
-pub good_atom_at-atom-requires : goal.good_atom_at-atom-requires
-good_atom_at-atom-requires c = c.requires.begins
-
 pub returns-in_default : goal.returns-in_default
 returns-in_default c =
     step_other (sig c.args.self.sign) c.requires (head_other c.requires.begins.first c.good_atom_at-atom.ensures c.in_default.is)
-
-pub get-a-requires : goal.get-a-requires
-get-a-requires c =
-    let at_equality = met c.requires c.good_atom_at-atom.ensures c.in-Eq.is in
-    omega (arith, at_equality, c.requires.whole at_equality.word)
-
-pub get-b-requires : goal.get-b-requires
-get-b-requires c =
-    let at_equality = met c.requires c.good_atom_at-atom.ensures c.in-Eq.is in
-    omega (arith, at_equality, c.requires.whole at_equality.word)
 
 pub returns-in_default-replacement_of : goal.returns-in_default-replacement_of
 returns-in_default-replacement_of c =
     let at_equality = met c.requires c.good_atom_at-atom.ensures c.in-Eq.is in
     let asked = asks_terms (sig c.args.self.sign) at_equality c.get-a.ensures.is c.get-b.ensures.is c.replacement_of.ensures in
     step_none (sig c.args.self.sign) c.requires (sym c.in_default-replacement_of.is ∙ asked)
-
-pub replace-requires : goal.replace-requires
-replace-requires c = c.requires.spanned
-
-pub put_all-requires : goal.put_all-requires
-put_all-requires c =
-    let size_kept : length (words c.replace.new.s) ≡ length (words c.args.s.now) = length_words_kept _ _ c.replace.auto.s in
-    omega (arith, c.requires.room, c.requires.top, size_kept)
 
 pub returns : goal.returns
 returns c =

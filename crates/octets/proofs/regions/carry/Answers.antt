@@ -6,7 +6,7 @@ use lib.ListN.{length}
 use Rattle.octets.specs.Words.{words}
 use Rattle.octets.proofs.Words.{length_words}
 use Rattle.octets.proofs.Splice.{part_more}
-use Rattle.octets.proofs.Filling.{filled_start, filled_next, filled_end, filled_count, filled_clear}
+use Rattle.octets.proofs.Filling.{filled_start, filled_next, filled_count, filled_clear}
 use Rattle.octets.proofs.regions.carry.Goals as goal
 
 pub loop-i-init : goal.loop-i-init
@@ -30,6 +30,3 @@ loop-i-preserved c =
     let room : c.args.from + i.i < length (words c.args.buf.now) = omega arith in
     let unread = filled_clear c.args.from i.invariant (omega arith) (omega arith) c.requires.clear in
     filled_next i.invariant (omega arith) (omega arith) c.put.auto.s c.put.ensures (c.get-w.ensures.is ∙ unread) (part_more _ _ _ room)
-
-pub returns : goal.returns
-returns c = filled_end c.loop-i.invariant (omega arith)

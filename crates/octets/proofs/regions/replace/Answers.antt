@@ -6,7 +6,7 @@ use lib.ListN.{length}
 use Rattle.octets.specs.Regions.{swap, below}
 use Rattle.octets.specs.Words.{words}
 use Rattle.octets.proofs.Words.{length_words}
-use Rattle.octets.proofs.Filling.{filled_start, filled_next, filled_end, filled_count, filled_clear, map_part_more}
+use Rattle.octets.proofs.Filling.{filled_start, filled_next, filled_count, filled_clear, map_part_more}
 use Rattle.octets.proofs.regions.replace.Goals as goal
 
 pub loop-i-init : goal.loop-i-init
@@ -29,6 +29,3 @@ loop-i-preserved c =
     let unread = filled_clear a.from i.invariant (omega arith) (omega arith) (below (omega arith)) in
     let new = c.swapped.ensures ∙ ap (swap a.x a.y) (c.get-w.ensures.is ∙ unread) in
     filled_next i.invariant (omega arith) (omega arith) c.put.auto.s c.put.ensures new (map_part_more _ _ _ _ room)
-
-pub returns : goal.returns
-returns c = filled_end c.loop-i.invariant (omega arith)

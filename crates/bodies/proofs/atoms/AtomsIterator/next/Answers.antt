@@ -3,7 +3,7 @@ use native.Mathlib.Omega.{arith}
 use Rattle.std.proofs.Common.{rules}
 use mathlib.Core.Path.{ap}
 use lib.ListN.{length}
-use Rattle.bodies.proofs.Shapes.{first_here, left_body, next_inside, next_some, no_shapes, shapes_next}
+use Rattle.bodies.proofs.Shapes.{first_here, left_body, next_inside, no_shapes, shapes_next}
 use Rattle.bodies.proofs.atoms.AtomsIterator.next.Goals as goal
 
 pub returns-then-n-eq0-clause-steps : goal.returns-then-n-eq0-clause-steps

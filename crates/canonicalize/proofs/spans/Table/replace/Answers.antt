@@ -1,7 +1,7 @@
 -- Replacing x by y over the span of x: every x stands in its span, so that run is as good as one over all words; and y may then stand wherever x did, so its
 -- span takes in that of x. With one bucket the span is the whole body. Assumes nothing.
 use native.Mathlib.Omega.{arith}
-use Rattle.octets.proofs.Words.{length_words, length_words_kept}
+use Rattle.octets.proofs.Words.{length_words}
 use Rattle.canonicalize.proofs.SpansUsed.{buckets_found, passed, replaced, replaced_whole, seen}
 use Rattle.canonicalize.proofs.spans.Table.replace.Goals as goal
 
@@ -14,34 +14,6 @@ replace_between-requires c =
     let at_buckets = buckets_found c.requires c.bucket.ensures.0 c.bucket-2.ensures (omega (arith, length_words c.args.s.now, c.well_formed)) in
     let at_span = seen at_buckets c.get-low.ensures.is c.get-high.ensures.is in
     at_span.inside
-
-pub get-first-requires : goal.get-first-requires
-get-first-requires c =
-    let at_buckets = buckets_found c.requires c.bucket.ensures.0 c.bucket-2.ensures (omega (arith, length_words c.args.s.now, c.well_formed)) in
-    let at_span = seen at_buckets c.get-low.ensures.is c.get-high.ensures.is in
-    let at_between = passed at_span c.max.ensures c.replace_between.ensures in
-    omega (arith, at_between)
-
-pub get-end-requires : goal.get-end-requires
-get-end-requires c =
-    let at_buckets = buckets_found c.requires c.bucket.ensures.0 c.bucket-2.ensures (omega (arith, length_words c.args.s.now, c.well_formed)) in
-    let at_span = seen at_buckets c.get-low.ensures.is c.get-high.ensures.is in
-    let at_between = passed at_span c.max.ensures c.replace_between.ensures in
-    omega (arith, at_between)
-
-pub put-requires : goal.put-requires
-put-requires c =
-    let at_buckets = buckets_found c.requires c.bucket.ensures.0 c.bucket-2.ensures (omega (arith, length_words c.args.s.now, c.well_formed)) in
-    let at_span = seen at_buckets c.get-low.ensures.is c.get-high.ensures.is in
-    let at_between = passed at_span c.max.ensures c.replace_between.ensures in
-    omega (arith, at_between)
-
-pub put-requires-2 : goal.put-requires-2
-put-requires-2 c =
-    let at_buckets = buckets_found c.requires c.bucket.ensures.0 c.bucket-2.ensures (omega (arith, length_words c.args.s.now, c.well_formed)) in
-    let at_span = seen at_buckets c.get-low.ensures.is c.get-high.ensures.is in
-    let at_between = passed at_span c.max.ensures c.replace_between.ensures in
-    omega (arith, at_between, length_words_kept c.put.new.s c.replace_between.new.s c.put.auto.s)
 
 pub returns : goal.returns
 returns c =

@@ -1,13 +1,8 @@
 -- Widening the span of the bucket of a word: both words of that span are put as `widened` has them, and nothing else is. Assumes nothing.
 use native.Mathlib.Omega.{arith}
-use Rattle.octets.proofs.Words.{length_words, length_words_kept}
+use Rattle.octets.proofs.Words.{length_words}
 use Rattle.canonicalize.proofs.SpansBuilt.{fallen, widen_is}
 use Rattle.canonicalize.proofs.spans.Table.widen.Goals as goal
-
-pub put-requires-2 : goal.put-requires-2
-put-requires-2 c =
-    let at_bucket = fallen c.requires (omega (arith, length_words c.args.s.now, c.well_formed)) c.get.ensures.is c.bucket.ensures in
-    omega (arith, at_bucket, length_words_kept c.put.new.s c.args.s.now c.put.auto.s)
 
 pub returns : goal.returns
 returns c =
