@@ -127,11 +127,6 @@ module _ {l : List ℕ} {at n to d table buckets e : ℕ} (g : Led l at n to d t
           → TabsAt (canonicalize s f.rest []).tabs m₃ (to + t.words) w
       rest_written {m₃} {w} y = subst (λ (us : List Atom). TabsAt (resolve s us) m₃ (to + t.words) w) is y.tabs
 
-      -- the written words end before the bindings
-      pub resolved_room : {m₃ : List ℕ} {w : ℕ} → Resolved s m₂ m₃ (at + e) (n - e) (to + t.words) w → to + t.words + w ≤ length l
-      resolved_room {m₃} {w} y =
-          omega (arith, ends, (rest_written y).size, count, f.count, c.top)
-
       pub canonical : {m₃ : List ℕ} {w : ℕ} → Resolved s m₂ m₃ (at + e) (n - e) (to + t.words) w
           → CanonicalAt s (atoms_in l at n) l m₃ at to d (record { words = t.words + w; binds = r })
       canonical {m₃} {w} y =

@@ -26,7 +26,7 @@ use Rattle.bodies.specs.Standing.{AtomsAt, TabsAt, atoms_in}
 use Rattle.bodies.proofs.Standing.{atoms_before, atoms_join, equality_begins, no_tabs, tabs_before, tabs_join}
 use Rattle.canonicalize.specs.declared.Canonical.{Canonical}
 use Rattle.std.specs.Prelude as prelude
-use Rattle.canonicalize.specs.Canonicalize.{FrontAsks, FrontOne, FrontOneAsks, FrontStep, Fronted, ResolveOneAsks, StepAsks, Stepped}
+use Rattle.canonicalize.specs.Canonicalize.{FrontAsks, FrontOne, FrontOneAsks, FrontStep, ResolveOneAsks, StepAsks, Stepped}
 use Rattle.canonicalize.specs.Canonicalize.{ask_at, binding_size, binding_words, place_of, resolve_at}
 use Rattle.canonicalize.specs.Spans.{Spanned}
 use Rattle.canonicalize.proofs.Fronts.{asked_same_terms, canonicalize_asked, canonicalize_still}
@@ -73,15 +73,6 @@ tried {s} {l} {p} {n} {to} {d} {table} {buckets} c {m} {e} {x} q place stepped =
 
 module _ {s : Sig} {l : List ℕ} {p n to d table buckets : ℕ} {c : FrontOneAsks s l p n to d table buckets} {m : List ℕ} {e : prelude.Option ℕ}
     (t : Tried c m e) where
-  -- something was asked
-  pub front_asked : {b : ℕ} → e ≡ prelude.Some b → FrontOne s l m p n to d table buckets (record { words = 0; binds = b })
-  front_asked {b} k = record { step = go (ask_at s l p) (sym k ∙ t.place) t.stepped }
-    where
-      go : (o : Option Replacement) → prelude.Some b ≡ place_of o d → Stepped o l m (p + equality_size) (n - equality_size) d table buckets
-          → FrontStep o s l m p n to d table buckets (record { words = 0; binds = b })
-      go none x y = cc
-      go (some r) x y = (refl, cc, y)
-
   -- nothing was asked, so that nothing changed
   still_same : e ≡ prelude.None → (ask_at s l p ≡ none) × (m ≡ l)
   still_same k = go (ask_at s l p) refl (sym k ∙ t.place) t.stepped
@@ -93,15 +84,6 @@ module _ {s : Sig} {l : List ℕ} {p n to d table buckets : ℕ} {c : FrontOneAs
 
   pub resolve_asks : e ≡ prelude.None → ResolveOneAsks s m p to
   resolve_asks k = subst (λ (x : List ℕ). ResolveOneAsks s x p to) (sym (still_same k).1) (record { equality = c.equality; whole = equality_within c; room = c.room })
-
-  pub front_still : {m₂ : List ℕ} {w : ℕ} → e ≡ prelude.None → w ≡ length (resolve_at s m p) → m₂ ≡ splice m to (resolve_at s m p)
-      → FrontOne s l m₂ p n to d table buckets (record { words = w; binds = d })
-  front_still {m₂} {w} k ew em =
-      let same = still_same k in
-      record {
-        step = subst (λ (o : Option Replacement). FrontStep o s l m₂ p n to d table buckets (record { words = w; binds = d })) (sym same.0)
-            (subst (λ (x : List ℕ). (w ≡ length (resolve_at s x p)) × (d ≡ d) × (m₂ ≡ splice x to (resolve_at s x p))) same.1 (ew, refl, em));
-      }
 
 -- ---- the loop on its way: i words of equalities are passed
 
@@ -358,32 +340,3 @@ module _ {l : List ℕ} {at e k to d₀ table buckets : ℕ} (c : FrontAsks l at
             → Fronting s l m₂ at e k to d₀ table buckets (i + equality_size) (after r)
         go none n q = still r n v q
         go (some u) n q = asked r u n q
-
-pub fronting_end : {s : Sig} {l m : List ℕ} {at e k to d₀ table buckets i : ℕ} {t : Canonical} → Fronting s l m at e k to d₀ table buckets i t → e ≤ i
-    → Fronted s (atoms_in l at e) (atoms_in l (at + e) k) l m at e k to d₀ table buckets t
-fronting_end {s} {l} {m} {at} {e} {k} {to} {d₀} {table} {buckets} {i} {t} w h = go w.eqs refl
-  where
-    left_over : (e k : ℕ) → e - e + k ≡ k
-    left_over e k = omega arith
-
-    go : (es : List Atom) → w.eqs ≡ es → Fronted s (atoms_in l at e) (atoms_in l (at + e) k) l m at e k to d₀ table buckets t
-    go (z ∷ es) q = absurd (omega (arith, w.left, ap length q))
-    go [] q =
-        let gone : w.eqs ++ w.others ≡ w.others = ap (λ (us : List Atom). us ++ w.others) q in
-        let ie : i ≡ e = omega (arith, w.left, ap length q) in
-        record {
-          written = w.written;
-          rs = w.rs;
-          rest = w.others;
-          tabs = w.tabs;
-          others = subst (λ (us : List Atom). AtomsAt us m (at + e) k) gone
-              (subst (λ (u : ℕ). AtomsAt (w.eqs ++ w.others) m (at + e) u) (left_over e k)
-              (subst (λ (u : ℕ). AtomsAt (w.eqs ++ w.others) m (at + u) (e - u + k)) ie w.stand));
-          spanned = spanned_tail (at + e) k w.spanned (omega arith) (omega arith);
-          binds = w.binds;
-          count = w.count;
-          room = subst (λ (us : List Atom). to + t.words + weight us + binding_size * length us + binding_size ≤ t.binds) gone w.room;
-          all_tabs = w.all_tabs ∙ ap (λ (us : List Atom). w.written ++ (canonicalize s us []).tabs) gone;
-          all_repls = w.all_repls ∙ ap (λ (us : List Atom). (canonicalize s us []).repls ++ w.rs) gone;
-          only = w.only;
-        }

@@ -107,9 +107,6 @@ met asks says is = equality_read (sign_word asks.begins.first says is) says
 abbrev pub Asks : Sign → (a b : ℕ) → prelude.Option code.Replacement → Type 0
 Asks q a b r = r ≡ asked_of (replacement_of (same_term a b) (is_var (sig q) a) (is_var (sig q) b) a b)
 
-pub asks_same : (q : Sign) (a b : ℕ) → true ≡ same_term a b → Asks q a b prelude.None
-asks_same q a b e = ap (λ (x : Bool). asked_of (replacement_of x (is_var (sig q) a) (is_var (sig q) b) a b)) e
-
 -- what is no `Var` is no variable
 pub no_var : (t : Term) → ((v : ℕ) → t ≡ Var v → ⊥) → is_var_term t ≡ false
 no_var (Var v) other = absurd (other v refl)
