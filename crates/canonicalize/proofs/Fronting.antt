@@ -26,7 +26,7 @@ use Rattle.bodies.specs.Standing.{AtomsAt, TabsAt, atoms_in}
 use Rattle.bodies.proofs.Standing.{atoms_before, atoms_join, equality_begins, no_tabs, tabs_before, tabs_join}
 use Rattle.canonicalize.specs.declared.Canonical.{Canonical}
 use Rattle.std.specs.Prelude as prelude
-use Rattle.canonicalize.specs.Canonicalize.{FrontAsks, FrontOne, FrontOneAsks, FrontStep, ResolveOneAsks, StepAsks, Stepped}
+use Rattle.canonicalize.specs.Canonicalize.{FrontAsks, FrontOne, FrontOneAsks, FrontStep, Fronted, ResolveOneAsks, StepAsks, Stepped}
 use Rattle.canonicalize.specs.Canonicalize.{ask_at, binding_size, binding_words, place_of, resolve_at}
 use Rattle.canonicalize.specs.Spans.{Spanned}
 use Rattle.canonicalize.proofs.Fronts.{asked_same_terms, canonicalize_asked, canonicalize_still}
@@ -340,3 +340,32 @@ module _ {l : List ℕ} {at e k to d₀ table buckets : ℕ} (c : FrontAsks l at
             → Fronting s l m₂ at e k to d₀ table buckets (i + equality_size) (after r)
         go none n q = still r n v q
         go (some u) n q = asked r u n q
+
+pub fronting_end : {s : Sig} {l m : List ℕ} {at e k to d₀ table buckets i : ℕ} {t : Canonical} → Fronting s l m at e k to d₀ table buckets i t → e ≤ i
+    → Fronted s (atoms_in l at e) (atoms_in l (at + e) k) l m at e k to d₀ table buckets t
+fronting_end {s} {l} {m} {at} {e} {k} {to} {d₀} {table} {buckets} {i} {t} w h = go w.eqs refl
+  where
+    left_over : (e k : ℕ) → e - e + k ≡ k
+    left_over e k = omega arith
+
+    go : (es : List Atom) → w.eqs ≡ es → Fronted s (atoms_in l at e) (atoms_in l (at + e) k) l m at e k to d₀ table buckets t
+    go (z ∷ es) q = absurd (omega (arith, w.left, ap length q))
+    go [] q =
+        let gone : w.eqs ++ w.others ≡ w.others = ap (λ (us : List Atom). us ++ w.others) q in
+        let ie : i ≡ e = omega (arith, w.left, ap length q) in
+        record {
+          written = w.written;
+          rs = w.rs;
+          rest = w.others;
+          tabs = w.tabs;
+          others = subst (λ (us : List Atom). AtomsAt us m (at + e) k) gone
+              (subst (λ (u : ℕ). AtomsAt (w.eqs ++ w.others) m (at + e) u) (left_over e k)
+              (subst (λ (u : ℕ). AtomsAt (w.eqs ++ w.others) m (at + u) (e - u + k)) ie w.stand));
+          spanned = spanned_tail (at + e) k w.spanned (omega arith) (omega arith);
+          binds = w.binds;
+          count = w.count;
+          room = subst (λ (us : List Atom). to + t.words + weight us + binding_size * length us + binding_size ≤ t.binds) gone w.room;
+          all_tabs = w.all_tabs ∙ ap (λ (us : List Atom). w.written ++ (canonicalize s us []).tabs) gone;
+          all_repls = w.all_repls ∙ ap (λ (us : List Atom). (canonicalize s us []).repls ++ w.rs) gone;
+          only = w.only;
+        }

@@ -111,6 +111,9 @@ fn resolve(s: &mut [u8], from: usize, n: usize, to: usize, q: Sign) -> usize
     k
 }
 
+// The words of an equality: its own, and its two terms.
+const EQUALITY_WORDS: usize = 3;
+
 // What canonicalize leaves: how many words the atoms have, and where the bindings begin.
 #[derive(Clone, Copy)]
 pub struct Canonical {
@@ -195,16 +198,13 @@ impl Sweep {
         ensures { Fronted (sig self.sign) (atoms_in (words s.old) at e) (atoms_in (words s.old) (at + e) k)
             (words s.old) (words s.new) at e k to d self.spans.at self.spans.count result }
     {
-        let mut i = 0;
         let mut t = Canonical { words: 0, binds: d };
-        // No iterator over the atoms, which would hold the words that are written, and no closure: a step changes the scratch that tells where it ends.
-        while i < e {
+        for i in (0..e).step_by(EQUALITY_WORDS) {
             let one = self.front_one(s, at + i, e - i + k, to + t.words, t.binds);
             t = Canonical {
                 words: t.words + one.words,
                 ..one
             };
-            i = past_equality(at + i) - at;
         }
         t
     }

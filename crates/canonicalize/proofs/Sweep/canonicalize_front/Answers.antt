@@ -3,7 +3,7 @@
 use mathlib.Core.Path.{◌∙◌, refl}
 use native.Mathlib.Omega.{arith}
 use Rattle.octets.proofs.Words.{length_words}
-use Rattle.canonicalize.proofs.Fronting.{front_one_asks, fronting_next, fronting_start}
+use Rattle.canonicalize.proofs.Fronting.{front_one_asks, fronting_end, fronting_next, fronting_start}
 use Rattle.canonicalize.proofs.Sweep.canonicalize_front.Goals as goal
 
 pub loop-i-init : goal.loop-i-init
@@ -20,4 +20,13 @@ overflow_add-t c =
 pub loop-i-preserved : goal.loop-i-preserved
 loop-i-preserved c =
     let next = fronting_next c.requires c.loop-i.invariant.1 c.loop-i-test.true c.args.self.sign.known_equals c.front_one-one.ensures in
-    (c.front_one-one.auto.s ∙ c.loop-i.invariant.0, next (omega (arith, c.past_equality.ensures)))
+    (c.front_one-one.auto.s ∙ c.loop-i.invariant.0, next refl)
+
+-- behind the last one, and where there is none
+pub returns-2 : goal.returns-2
+returns-2 c =
+    let next = fronting_next c.requires c.loop-i.invariant.1 c.loop-i-test.true c.args.self.sign.known_equals c.front_one-one.ensures refl in
+    fronting_end next (omega arith)
+
+pub returns : goal.returns
+returns c = fronting_end c.loop-i.invariant.1 c.loop-i-test.false
