@@ -7,18 +7,6 @@ use Rattle.merging.proofs.member.Goals as goal
 pub returns-then-not-alike : goal.returns-then-not-alike
 returns-then-not-alike c = member_unlike _ _ (sym c.alike.ensures ∙ c.if-not-alike.true)
 
-pub output-a-requires : goal.output-a-requires
-output-a-requires c =
-    let at_put : (let a = c.args in Alike (words a.s.now) (words c.put.new.s) a.p a.q a.mark a.to) =
-    is_alike c.requires (sym c.alike.ensures ∙ c.if-not-alike.false) c.put.ensures in
-    at_put.first
-
-pub output-b-requires : goal.output-b-requires
-output-b-requires c =
-    let at_put : (let a = c.args in Alike (words a.s.now) (words c.put.new.s) a.p a.q a.mark a.to) =
-    is_alike c.requires (sym c.alike.ensures ∙ c.if-not-alike.false) c.put.ensures in
-    at_put.later
-
 pub returns-then-same_term : goal.returns-then-same_term
 returns-then-same_term c =
     let at_put : (let a = c.args in Alike (words a.s.now) (words c.put.new.s) a.p a.q a.mark a.to) =
@@ -26,12 +14,6 @@ returns-then-same_term c =
     member_same at_put c.output-a.ensures c.output-b.ensures (sym c.same_term.ensures ∙ c.if-same_term.true)
 
 -- ---- their outputs differ, and that of the later one is written
-
-pub put-requires-2 : goal.put-requires-2
-put-requires-2 c =
-    let at_put : (let a = c.args in Alike (words a.s.now) (words c.put.new.s) a.p a.q a.mark a.to) =
-    is_alike c.requires (sym c.alike.ensures ∙ c.if-not-alike.false) c.put.ensures in
-    at_put.room
 
 pub returns : goal.returns
 returns c =

@@ -3,7 +3,7 @@ use mathlib.Core.Path.{◌∙◌, ap, sym}
 use Prim.Native.Nat.{ℕ, ◌+◌, ◌-◌}
 use native.Mathlib.Omega.{arith}
 use Rattle.octets.proofs.Splice.{splice_itself}
-use Rattle.octets.specs.Regions.{below, part, splice}
+use Rattle.octets.specs.Regions.{part, splice}
 use Rattle.octets.specs.Words.{words}
 use Rattle.merging.proofs.Merging.end_run.Goals as goal
 
@@ -14,6 +14,3 @@ returns-then-self c =
     let run = a.end - a.self.start in
     let place = ap (λ (x : ℕ). splice l (a.from + x) (part l (a.from + a.self.start) run)) (sym c.if-self.true) in
     (omega arith, sym (splice_itself l (a.from + a.self.start) run (omega arith)) ∙ place)
-
-pub carry-requires : goal.carry-requires
-carry-requires c = record { n_in_bounds = (omega arith, omega arith); clear = below (omega arith) }

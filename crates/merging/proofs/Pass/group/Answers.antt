@@ -7,11 +7,6 @@ use Rattle.merging.proofs.Following.{begun, follow_start, met, stepped, follow_f
 use Rattle.merging.proofs.Following.{followed, follow_none, follow_some}
 use Rattle.merging.proofs.Pass.group.Goals as goal
 
-pub linked-next-requires : goal.linked-next-requires
-linked-next-requires c =
-    let at_start = begun c.requires (omega (arith, length_words c.args.s.now, c.well_formed)) in
-    at_start.link
-
 pub loop-next-init : goal.loop-next-init
 loop-next-init c =
     let at_start = begun c.requires (omega (arith, length_words c.args.s.now, c.well_formed)) in
@@ -36,12 +31,6 @@ pub member-k-requires : goal.member-k-requires
 member-k-requires c =
     let at_in = met c.loop-next.invariant.1 (ap link_of c.in-Some.is) in
     at_in.asks
-
-pub overflow_add-k : goal.overflow_add-k
-overflow_add-k c =
-    let at_in = met c.loop-next.invariant.1 (ap link_of c.in-Some.is) in
-    let at_member = stepped at_in c.member-k.ensures in
-    omega (arith, at_member)
 
 pub linked-next-requires-in-Some : goal.linked-next-requires-in-Some
 linked-next-requires-in-Some c =
@@ -73,14 +62,6 @@ output-left-requires c =
 
 pub overflow_cast-k : goal.overflow_cast-k
 overflow_cast-k c = let at_end = followed c.loop-next.invariant.1 (ap link_of c.in_default.is) in omega (arith, at_end)
-
-pub overflow_add-result : goal.overflow_add-result
-overflow_add-result c = let at_end = followed c.loop-next.invariant.1 (ap link_of c.in_default.is) in omega (arith, at_end)
-
-pub put_all-requires : goal.put_all-requires
-put_all-requires c =
-    let at_end = followed c.loop-next.invariant.1 (ap link_of c.in_default.is) in
-    (omega arith, at_end.room)
 
 pub returns : goal.returns
 returns c =

@@ -4,9 +4,6 @@ use native.Mathlib.Omega.{arith}
 use Rattle.merging.proofs.Linking.{linking_asks, linking_end, linking_next, linking_size, linking_start}
 use Rattle.merging.proofs.Pass.link.Goals as goal
 
-pub fill-requires : goal.fill-requires
-fill-requires c = c.requires.room
-
 pub loop-i-init : goal.loop-i-init
 loop-i-init c = (refl, linking_start c.requires c.fill.ensures)
 

@@ -1,11 +1,8 @@
 -- Each store lies behind the one before it, so none undoes another, and together they are what the contract says. Assumes nothing.
 use native.Mathlib.Omega.{arith}
 use Rattle.octets.specs.Words.{words}
-use Rattle.merging.proofs.Linking.{Told, told, linked_one, pair_in, place_still}
+use Rattle.merging.proofs.Linking.{Told, told, linked_one}
 use Rattle.merging.proofs.Pass.link_one.Goals as goal
-
-pub size-z-requires : goal.size-z-requires
-size-z-requires c = c.requires.begins
 
 -- ---- the last one leads to it
 
@@ -14,18 +11,6 @@ put-requires c =
     let at_get : (let a = c.args in Told (words a.s.now) a.self.from a.i a.self.links a.self.table a.count c.bucket.result c.get-last.result) =
     told c.requires c.size-z.ensures c.part.ensures c.key-key.ensures c.bucket.ensures.0 c.get-last.ensures.is in
     omega (arith, at_get)
-
-pub put_all-requires : goal.put_all-requires
-put_all-requires c =
-    let at_get : (let a = c.args in Told (words a.s.now) a.self.from a.i a.self.links a.self.table a.count c.bucket.result c.get-last.result) =
-    told c.requires c.size-z.ensures c.part.ensures c.key-key.ensures c.bucket.ensures.0 c.get-last.ensures.is in
-    (omega arith, pair_in at_get c.put.ensures)
-
-pub put-requires-2 : goal.put-requires-2
-put-requires-2 c =
-    let at_get : (let a = c.args in Told (words a.s.now) a.self.from a.i a.self.links a.self.table a.count c.bucket.result c.get-last.result) =
-    told c.requires c.size-z.ensures c.part.ensures c.key-key.ensures c.bucket.ensures.0 c.get-last.ensures.is in
-    place_still at_get c.put.ensures c.put_all.ensures.1
 
 pub returns : goal.returns
 returns c =

@@ -1,9 +1,6 @@
 -- The loop finds each group along the links that are set before it, so both together are a pass.
-use Rattle.merging.proofs.MergingAll.{link_asks, linked_asks, pass_ends}
+use Rattle.merging.proofs.MergingAll.{linked_asks, pass_ends}
 use Rattle.merging.proofs.Pass.merge.Goals as goal
-
-pub link-requires : goal.link-requires
-link-requires c = link_asks c.requires
 
 pub merge_all-requires : goal.merge_all-requires
 merge_all-requires c = linked_asks c.requires c.link.ensures

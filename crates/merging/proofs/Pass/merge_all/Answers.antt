@@ -35,11 +35,6 @@ loop-i-preserved c =
     let p = c.loop-i in
     (c.merge_one-t.auto.s ∙ p.invariant.0, merging_next at_in (ap (λ (x : ℕ). p.i + x) c.size-z.ensures) c.merge_one-t.ensures)
 
-pub end_run-kept-requires : goal.end_run-kept-requires
-end_run-kept-requires c =
-    let at_end = at_last c.loop-i.invariant.1 c.loop-i-test.false in
-    let e = at_end in (e.down, e.up, omega (arith, e.up, e.within))
-
 pub returns : goal.returns
 returns c =
     let at_end = at_last c.loop-i.invariant.1 c.loop-i-test.false in

@@ -4,22 +4,7 @@ use Rattle.octets.proofs.Words.{length_words}
 use Rattle.merging.proofs.MergingOne.{begun, one_dropped, unmarked, one_kept}
 use Rattle.merging.proofs.Pass.merge_one.Goals as goal
 
-pub get-requires : goal.get-requires
-get-requires c =
-    let at_start = begun c.requires (omega (arith, length_words c.args.s.now, c.well_formed)) in
-    at_start.mark
-
 -- ---- it is marked
-
-pub size-z-requires : goal.size-z-requires
-size-z-requires c =
-    let at_start = begun c.requires (omega (arith, length_words c.args.s.now, c.well_formed)) in
-    at_start.first.begins
-
-pub end_run-kept-requires : goal.end_run-kept-requires
-end_run-kept-requires c =
-    let at_start = begun c.requires (omega (arith, length_words c.args.s.now, c.well_formed)) in
-    let b = at_start in (b.asks.down, b.asks.run, omega (arith, b.first.top, b.asks.inside))
 
 pub overflow_add-result : goal.overflow_add-result
 overflow_add-result c =

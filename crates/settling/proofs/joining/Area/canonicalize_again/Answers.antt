@@ -1,10 +1,7 @@
 -- Once the groups are joined, what is written of them and the atoms are the answer: where nothing is written the atoms stand as they should, else they are
 -- carried behind it and all of it back. The bindings lie beyond both. Assumes nothing.
-use mathlib.Core.Path.{◌≡◌}
 use native.Mathlib.Omega.{arith}
-use lib.ListN.{length}
-use Rattle.octets.proofs.Words.{length_words, length_words_kept}
-use Rattle.octets.specs.Regions.{below, beyond}
+use Rattle.octets.proofs.Words.{length_words}
 use Rattle.octets.specs.Words.{words}
 use Rattle.bodies.specs.Terms.{sig}
 use Rattle.settling.proofs.JoinAgain.{AllJoined, again_bare, again_moved, all_joined}
@@ -15,21 +12,6 @@ returns-then-v-eq0 c =
     let at_joined : (let a = c.args in AllJoined (sig a.self.sign) (words a.s.now) (words c.join_all-t.new.s) a.at a.e a.self c.join_all-t.result) =
     all_joined c.requires (omega (arith, length_words c.args.s.now, c.well_formed)) c.join_all-t.ensures in
     again_bare at_joined c.if-v-eq0.true
-
-pub carry-requires : goal.carry-requires
-carry-requires c =
-    let at_joined : (let a = c.args in AllJoined (sig a.self.sign) (words a.s.now) (words c.join_all-t.new.s) a.at a.e a.self c.join_all-t.result) =
-    all_joined c.requires (omega (arith, length_words c.args.s.now, c.well_formed)) c.join_all-t.ensures in
-    let a = at_joined in
-    record { n_in_bounds = (omega (arith, a), omega (arith, a)); clear = below (omega (arith, a)) }
-
-pub carry-requires-2 : goal.carry-requires-2
-carry-requires-2 c =
-    let at_joined : (let a = c.args in AllJoined (sig a.self.sign) (words a.s.now) (words c.join_all-t.new.s) a.at a.e a.self c.join_all-t.result) =
-    all_joined c.requires (omega (arith, length_words c.args.s.now, c.well_formed)) c.join_all-t.ensures in
-    let carry_long : length (words c.carry.new.buf) ≡ length (words c.join_all-t.new.s) = length_words_kept _ _ c.carry.auto.buf in
-    let a = at_joined in
-    record { n_in_bounds = (omega (arith, a, carry_long), omega (arith, a, carry_long)); clear = beyond (omega (arith, a)) }
 
 pub returns : goal.returns
 returns c =

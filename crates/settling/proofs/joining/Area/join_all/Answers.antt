@@ -9,16 +9,6 @@ use Rattle.settling.proofs.joining.Area.join_all.Goals as goal
 pub loop-i-init : goal.loop-i-init
 loop-i-init c = (refl, joining_start c.requires)
 
-pub get-left-requires : goal.get-left-requires
-get-left-requires c =
-    let at_turn = all_turn c.loop-i.invariant.1 c.loop-i-test.true (omega (arith, length_words c.args.s.now, c.well_formed)) in
-    omega (arith, at_turn)
-
-pub get-m-requires : goal.get-m-requires
-get-m-requires c =
-    let at_turn = all_turn c.loop-i.invariant.1 c.loop-i-test.true (omega (arith, length_words c.args.s.now, c.well_formed)) in
-    omega (arith, at_turn)
-
 pub overflow_sub-e-in-loop-i : goal.overflow_sub-e-in-loop-i
 overflow_sub-e-in-loop-i c =
     let at_turn = all_turn c.loop-i.invariant.1 c.loop-i-test.true (omega (arith, length_words c.args.s.now, c.well_formed)) in
