@@ -21,12 +21,12 @@ use Rattle.meaning.proofs.Sweep.{asked_var}
 use Rattle.meaning.specs.Meaning.{All}
 use Rattle.meaning.proofs.Sweep.{asks}
 use Rattle.meaning.specs.Weight.{heads_weight, live, unlike, weight}
-use Rattle.words.specs.Atom.{BeginsGood, equality_size}
+use Rattle.words.specs.Atom.{equality_size}
 use Rattle.bodies.specs.Standing.{AtomsAt, TabsAt, atoms_in}
-use Rattle.bodies.proofs.Standing.{atoms_before, atoms_join, equality_begins, no_tabs, tabs_before, tabs_join}
+use Rattle.bodies.proofs.Standing.{atoms_before, atoms_join, no_tabs, tabs_before, tabs_join}
 use Rattle.canonicalize.specs.declared.Canonical.{Canonical}
 use Rattle.std.specs.Prelude as prelude
-use Rattle.canonicalize.specs.Canonicalize.{FrontAsks, FrontOne, FrontOneAsks, FrontStep, Fronted, ResolveOneAsks, StepAsks, Stepped}
+use Rattle.canonicalize.specs.Canonicalize.{FrontAsks, FrontOne, FrontOneAsks, FrontStep, Fronted, ResolveOneAsks, Stepped}
 use Rattle.canonicalize.specs.Canonicalize.{ask_at, binding_size, binding_words, place_of, resolve_at}
 use Rattle.canonicalize.specs.Spans.{Spanned}
 use Rattle.canonicalize.proofs.Fronts.{asked_same_terms, canonicalize_asked, canonicalize_still}
@@ -40,19 +40,6 @@ use Rattle.rules.specs.Canonicalize as canon
 module _ {s : Sig} {l : List ℕ} {p n to d table buckets : ℕ} (c : FrontOneAsks s l p n to d table buckets) where
   pub equality_within : p + equality_size ≤ length l
   equality_within = omega (arith, c.spanned.beyond, c.binds, c.top)
-
-  pub front_begins : BeginsGood l p
-  front_begins = equality_begins (omega (arith, equality_within)) c.equality
-
-  pub step_asks : {x : ℕ} → x ≡ p + equality_size → StepAsks l x (n - (x - p)) p d table buckets
-  step_asks {x} q =
-      record {
-        begins = front_begins;
-        whole = λ e. equality_within;
-        spanned = spanned_tail x (n - (x - p)) c.spanned (omega arith) (omega (arith, c.whole));
-        room = c.binds;
-        top = c.top;
-      }
 
 -- that leaves m, and its binding stands at e, if anything was asked
 pub record Tried {s : Sig} {l : List ℕ} {p n to d table buckets : ℕ} (c : FrontOneAsks s l p n to d table buckets) (m : List ℕ)

@@ -9,7 +9,7 @@ use lib.ListN.{get_or, get_or-replicate, length, length-append, length-replicate
 use lib.Seq.{get_or-set_other, get_or-set_same}
 use borrow.Author.Tests.{eqb-false, eqb-true}
 use Rattle.octets.proofs.Places.{at_left, only_same, only_splice, only_then, only_wide}
-use Rattle.octets.proofs.Splice.{get_or_splice_before, get_or_splice_inside, length_splice, part_same, splice_one, splice_snoc}
+use Rattle.octets.proofs.Splice.{get_or_splice_before, get_or_splice_inside, part_same, splice_one, splice_snoc}
 use Rattle.octets.specs.Regions.{At, Only, part, splice}
 use Rattle.rules.specs.Flat.{Tab, tab_words, words_of}
 use Rattle.rules.specs.Words.{head_word}
@@ -135,9 +135,6 @@ module _ {l : List ℕ} {from i links table count b old : ℕ} (t : Told l from 
 
     -- its own link and mark are 0, which leaves l₂
     module _ {l₂ : List ℕ} (e₂ : l₂ ≡ splice l₁ (links + i + 1) (0 ∷ 0 ∷ [])) where
-      pub place_still : table + b < length l₂
-      place_still = omega (arith, ap length e₂, length_splice l₁ (links + i + 1) (0 ∷ 0 ∷ []) pair_in, first_size, t.table_in)
-
       -- and it is the last one now
       pub linked_one : {m : List ℕ} → m ≡ set l₂ (table + b) (i + 1) → LinkedOne l m from i links table count
       linked_one {m} e₃ =

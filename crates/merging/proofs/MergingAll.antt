@@ -16,7 +16,7 @@ use Rattle.bodies.specs.Standing.{TabsAt, size_at, tab_at, tabs_in}
 use Rattle.bodies.proofs.Standing.{FirstTab, first_tab, no_tab_left, no_tabs, none_passed, tab_is, tabs_after, tabs_is, tabs_join, tabs_read}
 use Rattle.merging.specs.declared.Merged.{Merged}
 use Rattle.merging.specs.declared.Merging.{Merging}
-use Rattle.merging.specs.Chains.{LinkAsks, Linked, LinksAt, MarksAt}
+use Rattle.merging.specs.Chains.{Linked, LinksAt, MarksAt}
 use Rattle.merging.specs.RemoveDupVars.{DroppedOne, Group, KeptOne, LinksKept, MarkedBy, MergeAsks, MergeOneAsks, MergedAll, MergedOne, OneStep}
 use Rattle.merging.specs.RemoveDupVars.{PassAsks, Passed, behind, group_of, group_words, groups_of}
 use Rattle.merging.proofs.Links.{links_after, links_below}
@@ -363,18 +363,6 @@ merging_end {l} {m} {m₂} {from} {n} {eqs} {links} {i} {q} {t} {w} e em =
 -- ---- a pass with its links
 
 module _ {l : List ℕ} {from n eqs links table : ℕ} (c : PassAsks l from n eqs links table) where
-  pub link_asks : LinkAsks l from n links table (n + 1)
-  link_asks =
-      record {
-        tabs = c.tabs;
-        some = omega arith;
-        few = omega (arith, c.small);
-        small = c.small;
-        below = c.below;
-        beyond = c.beyond;
-        room = omega (arith, c.room);
-      }
-
   module _ {m : List ℕ} (k : Linked l m from n links table (n + 1)) where
     is : tabs_in m from n ≡ tabs_in l from n
     is = tabs_is m from n (tabs_in l from n) k.tabs
