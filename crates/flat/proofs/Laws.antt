@@ -3,12 +3,11 @@ use mathlib.Core.Path.{◌≡◌, refl, sym, ap, ◌∙◌}
 use mathlib.Core.Bool.{Bool, true, false, ◌&&◌, ◌||◌, cond}
 use mathlib.Core.List.{List, ◌∷◌}
 use Prim.Native.Nat.{ℕ, zero, suc, ◌+◌, ◌*◌, ◌-◌, ◌/◌, ◌≤◌, ◌<◌, min}
-use native.Mathlib.Nat.{min-le_left, min-le_right, le-min}
 use native.Mathlib.Numerals.{add-one}
 use native.Mathlib.Omega.{arith}
 use lib.ListN.{length, get_or}
 use lib.Dec.{ltb, leb}
-use borrow.Author.Tests.{lt-ltb, le-ltb, le-leb, lt-leb, eq-eqb, ne_eqb, ltb-true, ltb-false, leb-true, leb-false}
+use borrow.Author.Tests.{lt-ltb, le-ltb, le-leb, lt-leb, eq-eqb, ne_eqb, ltb-true, leb-true, leb-false}
 use Rattle.rules.specs.Words.{limit12, limit16, fresh_base, name_base, equality_base, head_base, literal_base, equality_word, is_fresh_word, is_name_word, is_literal_word}
 use Rattle.rules.specs.Words.{is_head_word, is_equality_word, head_of, count_of, action_word, Code, a_let, a_set, a_call, code_of}
 use Rattle.rules.specs.Refusals.{Res, ok, refuse, ◌>>=◌, demand, unfit, no_terms, not_two}
@@ -76,22 +75,20 @@ module _ (H w : ℕ) where
   none_fits low n l = sym (leaf_term low) ∙ simp (n, l)
 
   -- a fresh variable is one by its head
-  pub fresh_term : fresh_base ≤ w → ltb ((w - fresh_base) / limit16) H && ltb ((w - fresh_base) / limit16) limit12 ≡ is_term (with_heads H) w
+  fresh_term : fresh_base ≤ w → ltb ((w - fresh_base) / limit16) (min H limit12) ≡ is_term (with_heads H) w
   fresh_term high =
       rw (heads_below fresh_base (heads (with_heads H)) w high, heads_with H, false_above name_base limit12 w (omega arith), false_above literal_base limit16 w (omega arith))
-      (below_both ((w - fresh_base) / limit16) ∙ nothing_else (ltb ((w - fresh_base) / limit16) (min H limit12)))
+      (nothing_else (ltb ((w - fresh_base) / limit16) (min H limit12)))
     where
       nothing_else : (b : Bool) → b ≡ (b || false) || false
       nothing_else true = refl
       nothing_else false = refl
 
-      below_both : (h : ℕ) → ltb h H && ltb h limit12 ≡ ltb h (min H limit12)
-      below_both h = go (ltb h H) refl (ltb h limit12) refl
-        where
-          go : (a : Bool) → ltb h H ≡ a → (b : Bool) → ltb h limit12 ≡ b → a && b ≡ ltb h (min H limit12)
-          go true ea true eb = sym (lt-ltb h (min H limit12) (le-min (ltb-true h H ea) (ltb-true h limit12 eb)))
-          go true ea false eb = let l = ltb-false h limit12 eb in sym (le-ltb h (min H limit12) (omega (arith, min-le_right H limit12)))
-          go false ea b eb = let l = ltb-false h H ea in sym (le-ltb h (min H limit12) (omega (arith, min-le_left H limit12)))
+  pub fresh_fits : fresh_base ≤ w → (w - fresh_base) / limit16 < min H limit12 → is_term (with_heads H) w ≡ true
+  fresh_fits high low = sym (fresh_term high) ∙ lt-ltb ((w - fresh_base) / limit16) (min H limit12) low
+
+  pub fresh_unfit : fresh_base ≤ w → min H limit12 ≤ (w - fresh_base) / limit16 → is_term (with_heads H) w ≡ false
+  fresh_unfit high above = sym (fresh_term high) ∙ le-ltb ((w - fresh_base) / limit16) (min H limit12) above
 
 -- what is taken for it
 pub no_word : (s : Sig) (ws : List ℕ) (p : ℕ) → length ws ≤ p → or_unfit term_numbers None p ≡ term_at s ws p

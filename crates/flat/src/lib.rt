@@ -1,5 +1,5 @@
 // Reads what flat rules hold, atoms and actions: whether their words fit, which is refusal 5, and whether each atom has the terms it needs, which are
-// refusals 11 and 12.
+// refusals 11 and 12. Each expected word is taken by `let .. else`, the form that document 01 names.
 #![tactic(auto)]
 
 ghost use Rattle.std.specs.Prelude.{◌≡◌};
@@ -64,7 +64,7 @@ impl Record<'_> {
     }
 
     // The term at an index: a fresh variable of a head below H, which is at most 4,096, a name, which is a global's below G, or a literal. The count of
-    // leading zeros tells which.
+    // leading zeros tells which: a `Term` holds the word itself, and `word_at` would give its parts, from which the word would have to be made again.
     fn term_at(&self, at: usize) -> Option<Term>
         ensures { or_unfit term_numbers result at ≡ term_at (with_globals self.now.heads self.now.globals) (words self.now.rule.now) at }
     {
@@ -72,11 +72,11 @@ impl Record<'_> {
             return None;
         }
         let w = octets::get(self.rule, at);
-        let kind = u32::leading_zeros(w);
+        let kind = w.leading_zeros();
         match kind {
             0 => {
                 let head = (w - FRESH_BASE) / LIMIT_16;
-                if (head < self.heads) & (head < LIMIT_12) {
+                if head < self.heads.min(LIMIT_12) {
                     Some(Term::Var(w))
                 } else {
                     None
@@ -130,7 +130,7 @@ impl Record<'_> {
             return None;
         }
         let w = octets::get(self.rule, at);
-        let kind = u32::leading_zeros(w);
+        let kind = w.leading_zeros();
         match kind {
             3..=4 => Some(words::atom_of(w, at)),
             _ => None,
@@ -207,7 +207,7 @@ impl Record<'_> {
     }
 
     // An action: its code, and what the code asks for. Action 8 is not flat.
-    // A `match` on the number: flat rules have the codes 1 to 7 as they are written, and any other is unfit.
+    // A `match` on the number, the form that document 01 names for codes: flat rules have 1 to 7, and any other is unfit.
     pub fn action(&self, at: usize) -> Result<usize, Refusal>
         ensures { said result ≡ ending_of (read_core_action (with_heads self.now.heads) (words self.now.rule.now) at) }
     {

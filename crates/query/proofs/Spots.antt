@@ -3,7 +3,7 @@ use mathlib.Core.List.{List}
 use Prim.Native.Nat.{ℕ}
 use Rattle.std.specs.Prelude.{Result}
 use Rattle.rules.specs.Refusals.{Res}
-use Rattle.walks.specs.Steps.{Piece, tops_at, Walked, InAnswer, NoTerms}
+use Rattle.walks.specs.Steps.{Piece, tops_at, Walked, InAnswer, OnStack, NoTerms}
 use Rattle.walks.specs.declared.Walk.{Walk}
 use Rattle.walks.specs.declared.Stopped.{Stopped}
 use Rattle.walks.specs.declared.Tops.{Tops}
@@ -53,6 +53,10 @@ ExprAnswers p d s' cs' r = FlattensExpr p.ws d p.at p.tops p.s p.cs s' cs' r
 
 abbrev pub ExprsAnswers : Spot → ℕ → ℕ → List ℕ → List ℕ → Result Walk Stopped → Type 0
 ExprsAnswers p d n s' cs' r = FlattensExprs p.ws d n p.at p.tops p.s p.cs s' cs' r
+
+-- n expressions of k words were walked with this result, and their terms are on the stack
+abbrev pub ExprsWalked : Spot → ℕ → Res Piece → ℕ → List ℕ → List ℕ → Result Walk Stopped → Type 0
+ExprsWalked p n x k s' cs' r = Walked n (OnStack p.tops.sp n p.tops.log s') x k p.at p.tops.to p.tops.sp p.tops.log p.s p.cs s' cs' r
 
 abbrev pub FactAnswers : Spot → List ℕ → List ℕ → Result Walk Stopped → Type 0
 FactAnswers p s' cs' r = FlattensFact p.ws p.at p.tops p.s p.cs s' cs' r

@@ -1,4 +1,5 @@
-// Reading the records of 01: whether each is good, and else the refusal. What rules hold is read in crates of their own.
+// Reading the records of 01: whether each is good, and else the refusal. What rules hold is read in crates of their own. The header is taken by `let .. else`,
+// the form that document 01 names for each expected word.
 #![tactic(auto)]
 
 ghost use Rattle.std.specs.Prelude.{ℕ, ◌≡◌};

@@ -41,7 +41,7 @@ impl Reason {
         }
     }
 
-    // The number that a caller is given.
+    // The number that a caller is given. A method, since its name says which number: a conversion would not.
     pub fn number(self) -> u64
         ensures { result ≡ number_of self }
     {

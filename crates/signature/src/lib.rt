@@ -1,4 +1,4 @@
-// The signature, read in place: its kinds stay in the bytes.
+// The signature, read in place: its kinds stay in the bytes. Each expected word is taken by `let .. else`, the form that document 01 names.
 #![tactic(auto)]
 
 ghost use Rattle.std.specs.Prelude.{◌≡◌, ◌+◌, ◌-◌, ◌≤◌, length};
@@ -23,7 +23,7 @@ pub enum Kind {
 }
 
 impl Kind {
-    // The word that says it.
+    // The word that says it. A method, since `u32::from` of a kind would not tell its word from its number.
     pub fn word(self) -> u32
         ensures { result ≡ kind_word self }
     {
@@ -59,7 +59,7 @@ fn payload_at(signature: &[u8], low: u32, size: u32, at: usize) -> Result<u32, R
 fn is_kind(w: u32) -> bool
     ensures { result ≡ within signature_base 3 w }
 {
-    Kind::Function.word() <= w && w <= Kind::Primitive.word()
+    (Kind::Function.word()..=Kind::Primitive.word()).contains(&w)
 }
 
 // All of these words are kinds. No branch depends on a word, so that the loop runs on many words at once.

@@ -74,7 +74,7 @@ fn low_word_of(w: u32) -> Option<Word>
     requires { w < head_base }
     ensures { numbers result ≡ numbers_of w }
 {
-    let kind = u32::leading_zeros(w);
+    let kind = w.leading_zeros();
     match kind {
         4 => Some(Word::Equality(w - EQUALITY_BASE)),
         5 => {
@@ -102,7 +102,7 @@ fn low_word_of(w: u32) -> Option<Word>
 fn word_of(w: u32) -> Option<Word>
     ensures { numbers result ≡ numbers_of w }
 {
-    let kind = u32::leading_zeros(w);
+    let kind = w.leading_zeros();
     match kind {
         0 => {
             let p = w - FRESH_BASE;
@@ -147,7 +147,7 @@ pub fn word_at(rule: &[u8], at: usize) -> Option<Word>
 pub fn is_leaf(w: u32) -> bool
     ensures { result ≡ leb literal_base w }
 {
-    u32::leading_zeros(w) < 3
+    w.leading_zeros() < 3
 }
 
 // A word of kind 3, taken apart: its head, and how many words or expressions stand under it.
@@ -202,7 +202,7 @@ pub enum Term {
 pub fn term_of(w: u32, globals: u32) -> Term
     ensures { TermSays result globals w }
 {
-    let kind = u32::leading_zeros(w);
+    let kind = w.leading_zeros();
     match kind {
         0 => Term::Var(w),
         1 => {
@@ -224,7 +224,7 @@ pub fn good_term_of(w: u32, globals: u32) -> Term
     if NAME_BASE + globals <= w {
         return Term::Var(w);
     }
-    let kind = u32::leading_zeros(w);
+    let kind = w.leading_zeros();
     match kind {
         1 => Term::Global(w),
         _ => Term::Literal(w),
@@ -267,7 +267,7 @@ fn head_of(w: u32) -> HeadOrEq
     requires { w < literal_base }
     ensures { HeadSays result w }
 {
-    let kind = u32::leading_zeros(w);
+    let kind = w.leading_zeros();
     if kind < 4 {
         return HeadOrEq::Head((w - HEAD_BASE) / LIMIT_16);
     }
@@ -279,7 +279,7 @@ pub fn atom_of(w: u32, at: usize) -> Atom
     requires { (equality_base ≤ w) × (w < literal_base) × (at < 2 ^ 62) }
     ensures { AtomSays result w at }
 {
-    let kind = u32::leading_zeros(w);
+    let kind = w.leading_zeros();
     match kind {
         3 => {
             let p = w - HEAD_BASE;

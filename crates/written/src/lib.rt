@@ -1,4 +1,5 @@
-// Reads what written rules hold, facts and actions: whether their words fit, which is refusal 5, and how deep their expressions are, which is refusal 6.
+// Reads what written rules hold, facts and actions: whether their words fit, which is refusal 5, and how deep their expressions are, which is refusal 6. Each
+// expected word is taken by `let .. else`, the form that document 01 names.
 #![tactic(auto)]
 
 ghost use Rattle.std.specs.Prelude.{ℕ, ◌≡◌, ◌≤◌};
@@ -58,7 +59,7 @@ impl Record<'_> {
             return None;
         }
         let w = octets::get(self.rule, at);
-        let kind = u32::leading_zeros(w);
+        let kind = w.leading_zeros();
         if kind < 3 {
             if w < leaf_end(kind) {
                 return Some(0);
@@ -191,7 +192,7 @@ impl Record<'_> {
     }
 
     // An action: its code, and what the code asks for. Action 7 is not written.
-    // A `match` on the number: written rules have the codes 1 to 6 and 8 as they are written, and any other is unfit.
+    // A `match` on the number, the form that document 01 names for codes: written rules have 1 to 6 and 8, and any other is unfit.
     pub fn action(&self, at: usize) -> Result<usize, Refusal>
         ensures { said result ≡ ending_of (read_action (with_heads self.now.heads) (words self.now.rule.now) at) }
     {

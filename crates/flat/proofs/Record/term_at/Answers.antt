@@ -1,13 +1,13 @@
 -- The count of leading zeros is a range of numbers: a fresh variable, a name or a literal is there, whose payload fits or not, or no term. Which term it is,
 -- the kind tells, and of a name `term_of`. Assumes nothing.
-use mathlib.Core.Path.{refl, sym, ◌∙◌}
+use mathlib.Core.Path.{refl}
 use native.Mathlib.Omega.{arith}
 use Rattle.octets.specs.Words.{words}
 use Rattle.rules.specs.Words.{limit12, limit16, name_base, literal_base}
 use Rattle.words.proofs.Ranges.{kind_range, kind_from, false_below, false_above}
 use Rattle.written.specs.Written.{with_globals}
 use Rattle.words.proofs.AtomLaws.{term_fresh, term_literal}
-use Rattle.flat.proofs.Laws.{no_word, term_fits, term_none, fresh_term, name_fits, literal_fits, none_fits}
+use Rattle.flat.proofs.Laws.{no_word, term_fits, term_none, fresh_fits, fresh_unfit, name_fits, literal_fits, none_fits}
 use Rattle.flat.proofs.Record.term_at.Goals as goal
 
 pub returns-then-count-at : goal.returns-then-count-at
@@ -18,21 +18,21 @@ returns-then-count-at c = let a = c.args in no_word (with_globals a.self.now.hea
 pub overflow_sub-head : goal.overflow_sub-head
 overflow_sub-head c = (kind_range 0 31 c.get-w.result refl c.get-w.ensures.fits c.in-0.is).0
 
-pub returns-then-head-self : goal.returns-then-head-self
-returns-then-head-self c =
+pub returns-then-head-min : goal.returns-then-head-min
+returns-then-head-min c =
     let s = c.args.self.now in
     let w = c.get-w in
     let r = kind_range 0 31 w.result refl w.ensures.fits c.in-0.is in
     term_fits s.heads s.globals (words s.rule.now) c.args.at w.ensures.is (omega arith)
-    (sym (fresh_term s.heads w.result r.0) ∙ c.if-head-self.true) (term_fresh s.globals w.result r.0)
+    (fresh_fits s.heads w.result r.0 (omega (arith, c.min.ensures))) (term_fresh s.globals w.result r.0)
 
-pub returns-else-head-self : goal.returns-else-head-self
-returns-else-head-self c =
+pub returns-else-head-min : goal.returns-else-head-min
+returns-else-head-min c =
     let s = c.args.self.now in
     let w = c.get-w in
     let r = kind_range 0 31 w.result refl w.ensures.fits c.in-0.is in
     term_none s.heads s.globals (words s.rule.now) c.args.at w.ensures.is (omega arith)
-    (sym (fresh_term s.heads w.result r.0) ∙ c.if-head-self.false)
+    (fresh_unfit s.heads w.result r.0 (omega (arith, c.min.ensures)))
 
 -- ---- a name
 
