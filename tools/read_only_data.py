@@ -24,7 +24,7 @@ MOST = [
     ("crates/line_reader/out/line_reader.o", OWN, 0),
     ("target/bin/line_reader", DATA, 624),
     ("target/bin/line_reader", CODE, 1724),
-    ("target/bin/lower", DATA, 968),
+    ("target/bin/lower", DATA, 952),
     ("target/staticlib/libtulgarent.a", DATA, 196),
 ]
 

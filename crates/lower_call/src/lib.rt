@@ -32,7 +32,7 @@ fn lower_good(
 {
     let n = octets::count(rule);
     let core = lowering::to_core_rule(signature, rule, counters, scratch)?;
-    // No `From`, which could ask for nothing: that both numbers are in bounds is known of a signature that was read, not of the type.
+    // No `From`, which could ask for nothing: a `Signature` is what `sign_of` makes of any signature, good or not, so its type can't keep the bounds.
     let terms = Sign {
         globals: sign.globals,
         equals: sign.equals,
