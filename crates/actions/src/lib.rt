@@ -63,7 +63,7 @@ pub fn lower_let(
 }
 
 // The end of an action with a head: behind the n terms that the walk `terms` left on the stack, one count of the head of its kind 3 word w is used,
-// and the action `code` is written. Where no count is left, it is refused at `place`.
+// and the action `code` is written. Where no count is left, it is refused at `place`. Walk, place, code, word and count are what its two callers differ in.
 fn put_change(
     terms: Walk,
     place: usize,
