@@ -143,9 +143,7 @@ impl Sweep {
         };
         let a = octets::get(s, atom.terms);
         let b = octets::get(s, atom.terms + 1);
-        let Some(asked) = replacement_of(self.sign, a, b) else {
-            return None;
-        };
+        let asked = replacement_of(self.sign, a, b)?;
         self.spans.replace(s, at, n, asked);
         octets::rows::put_all(s, d - 3, &[LET, asked.old, asked.new]);
         Some(d - 3)
