@@ -93,7 +93,7 @@ fn resolve(s: &mut [u8], from: usize, n: usize, to: usize, q: Sign) -> usize
 {
     let mut i = 0;
     let mut k = 0;
-    // No iterator over the atoms, which would hold the words that are written, and no closure: a step changes the scratch that tells where it ends.
+    // No iterator over the atoms: those that are no equalities are carried in runs, so that the walk goes by runs and not by atoms.
     while i < n {
         let start = from + i;
         let r = run(octets::part(s, start, n - i), false);
