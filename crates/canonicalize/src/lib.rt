@@ -121,8 +121,8 @@ pub struct Canonical {
     pub binds: usize,
 }
 
-// What a sweep over a body goes by: where terms may stand in it, and the signature. Its steps take places and counts, since body, table and bindings are
-// parts of one scratch, and two parts of a slice can't be lent for writing at once.
+// What a sweep over a body goes by: where terms may stand in it, and the signature. Its steps take one scratch, and places and counts in it: cut by
+// `split_at_mut` it would be four slices, of the body, its table, what becomes of it and the bindings, each with a place in it: no plainer.
 #[derive(Clone, Copy)]
 struct Sweep {
     spans: Table,
