@@ -1,4 +1,5 @@
--- What a walk over a body tells of each atom: whether it is an equality, and how many words it has. Assumes nothing: these are definitions.
+-- What a walk over a body tells of each atom: whether it is an equality, and how many words it has. Assumes nothing. The lower part is no definition but a
+-- proof, `body_prop`, which stands here since the type of the walk names it: its ghost field says that its words are a body, and may say so in one way alone.
 use Rattle.std.specs.Prelude.{Bool, false, true, List, [], ◌∷◌, ℕ, map, length}
 use mathlib.Core.HLevel.{×_prop, Unit-prop}
 use denote.Struct.Props.{props}

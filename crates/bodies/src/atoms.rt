@@ -29,7 +29,7 @@ pub fn output(s: &[u8], p: usize) -> u32
     octets::get(s, atom.next - 1)
 }
 
-// Whether the terms `a` and as many terms `b` are equal, each to each.
+// Whether the terms `a` and as many terms `b` are equal, each to each. No `a == b`: `same_term` is the one place that says when two terms are equal.
 fn same_terms(a: &[u8], b: &[u8]) -> bool
     requires { length (words a.now) ≡ length (words b.now) }
     ensures { result ≡ same_terms (words a.now) (words b.now) }

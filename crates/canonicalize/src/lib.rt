@@ -93,7 +93,7 @@ fn resolve(s: &mut [u8], from: usize, n: usize, to: usize, q: Sign) -> usize
 {
     let mut i = 0;
     let mut k = 0;
-    // No iterator over the atoms, which would hold the words that are written, and no closure: a step changes the scratch that tells where it ends.
+    // No iterator over the atoms: those that are no equalities are carried in runs, so that the walk goes by runs and not by atoms.
     while i < n {
         let start = from + i;
         let r = run(octets::part(s, start, n - i), false);
@@ -121,8 +121,8 @@ pub struct Canonical {
     pub binds: usize,
 }
 
-// What a sweep over a body goes by: where terms may stand in it, and the signature. Its steps take places and counts, since body, table and bindings are
-// parts of one scratch, and two parts of a slice can't be lent for writing at once.
+// What a sweep over a body goes by: where terms may stand in it, and the signature. Its steps take one scratch, and places and counts in it: cut by
+// `split_at_mut` it would be four slices, of the body, its table, what becomes of it and the bindings, each with a place in it: no plainer.
 #[derive(Clone, Copy)]
 struct Sweep {
     spans: Table,
@@ -143,9 +143,7 @@ impl Sweep {
         };
         let a = octets::get(s, atom.terms);
         let b = octets::get(s, atom.terms + 1);
-        let Some(asked) = replacement_of(self.sign, a, b) else {
-            return None;
-        };
+        let asked = replacement_of(self.sign, a, b)?;
         self.spans.replace(s, at, n, asked);
         octets::rows::put_all(s, d - 3, &[LET, asked.old, asked.new]);
         Some(d - 3)

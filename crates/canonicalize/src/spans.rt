@@ -28,7 +28,8 @@ fn equalities(body: &[u8]) -> usize
         .count()
 }
 
-// Where a table of spans stands, and how many buckets it has. A place, since the body and the table are parts of one scratch, and both are written by turns.
+// Where a table of spans stands, and how many buckets it has. A place in the scratch that the body stands in too: cut by `split_at_mut` it would be two
+// slices, each with a place in it, and both handed to every step: no plainer.
 #[derive(Clone, Copy)]
 pub struct Table {
     pub at: usize,

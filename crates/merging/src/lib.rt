@@ -35,7 +35,8 @@ fn member(s: &mut [u8], p: usize, q: usize, mark: usize, to: usize) -> usize
 }
 
 // Where a pass works: over the atoms in the n words at `from`. Their groups are written from `eqs` on, their links at `links`, and the table of buckets at
-// `table`. These are places, since all of them are parts of one scratch, and two parts of a slice can't be lent for writing at once.
+// `table`. These are places in one scratch: cut by `split_at_mut` it would be four slices with a place in each, cut anew for each pass, since the regions
+// change their use (settling/src/lib.rt says which): no plainer.
 #[derive(Clone, Copy)]
 pub struct Pass {
     pub from: usize,

@@ -1,5 +1,5 @@
 -- Regions of a list of words: what stands where, what a write makes of the list, and what a step leaves as it was. A region is a place
--- and a count, or a place and an end, since two parts of one slice can't be lent for writing at once. Assumes nothing.
+-- and a count, or a place and an end: regions of one list may overlap, and what stands around them is told too. Assumes nothing.
 use Rattle.std.specs.Prelude.{◌≡◌, List, [], ◌∷◌, ◌++◌, Bool, false, cond, ◌||◌, ℕ, ◌+◌, ◌≤◌, eqb, length, take, drop}
 
 -- l with the words from p on overwritten by xs. It stays shut: proofs use its laws

@@ -15,7 +15,8 @@ use canonicalize::{Canonical, Replacement, replacement_of, resolve_terms};
 use words::LET;
 
 // Where joining works, apart from the groups, and by which signature: the k words of atoms stand at `body`, what becomes of equalities is written at `to`,
-// and a replacement is bound before d. These are places, since two parts of one scratch can't be lent for writing at once.
+// and a replacement is bound before d. These are places in one scratch, as the groups have too: cut by `split_at_mut` it would be four slices with a place
+// in each, cut anew for each pass, since the regions change their use (src/lib.rt says which): no plainer.
 #[derive(Clone, Copy)]
 pub struct Area {
     pub body: usize,

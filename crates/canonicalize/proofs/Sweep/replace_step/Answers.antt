@@ -11,14 +11,14 @@ pub returns-in_default : goal.returns-in_default
 returns-in_default c =
     step_other (sig c.args.self.sign) c.requires (head_other c.requires.begins.first c.good_atom_at-atom.ensures c.in_default.is)
 
-pub returns-in_default-replacement_of : goal.returns-in_default-replacement_of
-returns-in_default-replacement_of c =
+pub returns-in_err-asked : goal.returns-in_err-asked
+returns-in_err-asked c =
     let at_equality = met c.requires c.good_atom_at-atom.ensures c.in-Eq.is in
     let asked = asks_terms (sig c.args.self.sign) at_equality c.get-a.ensures.is c.get-b.ensures.is c.replacement_of.ensures in
-    step_none (sig c.args.self.sign) c.requires (sym c.in_default-replacement_of.is ∙ asked)
+    rw c.from_residual.ensures (step_none (sig c.args.self.sign) c.requires (sym c.in_err-asked.was ∙ asked))
 
 pub returns : goal.returns
 returns c =
     let at_equality = met c.requires c.good_atom_at-atom.ensures c.in-Eq.is in
     let asked = asks_terms (sig c.args.self.sign) at_equality c.get-a.ensures.is c.get-b.ensures.is c.replacement_of.ensures in
-    step_some (sig c.args.self.sign) c.requires (sym c.in-Some.is ∙ asked) c.replace.ensures (length_words_kept _ _ c.replace.auto.s) c.put_all.ensures.1
+    step_some (sig c.args.self.sign) c.requires (sym c.in_ok-asked.was ∙ asked) c.replace.ensures (length_words_kept _ _ c.replace.auto.s) c.put_all.ensures.1
