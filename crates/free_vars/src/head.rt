@@ -41,7 +41,7 @@ impl Head<'_> {
     }
 
     // Whether word i is a target: the word before it is that of one of the two actions that bind, a let or a call.
-    pub fn is_target(&self, i: usize) -> bool
+    pub(crate) fn is_target(&self, i: usize) -> bool
         requires { self.now.from + i < length (words self.now.rule.now) }
         ensures { result ≡ binds (get_or (words self.now.rule.now) (self.now.from + i - 1) 0) }
     {
