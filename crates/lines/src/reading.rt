@@ -17,9 +17,10 @@ const MAX_LINES: usize = 4612;
 fn digit(b: u8) -> Option<u32>
     ensures { MatchOption result (Program·digit b ≡ 16) (λ d. (Program·digit b ≡ d) × (d < 16)) }
 {
+    let d = u32::from(b);
     match b {
-        b'0'..=b'9' => Some(u32::from(b - b'0')),
-        b'a'..=b'f' => Some(u32::from(b - b'a') + 10),
+        b'0'..=b'9' => Some(d - u32::from(b'0')),
+        b'a'..=b'f' => Some(d - u32::from(b'a') + 10),
         _ => None,
     }
 }
