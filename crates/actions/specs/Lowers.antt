@@ -27,6 +27,7 @@ module _ (k : Site) where
   abbrev pub third : ℕ
   third = get_or k.ws (k.at + 2) 0
 
+  -- let: the name behind the action's word is bound to the term of the expression behind it; where it is bound already, that is refused
   abbrev pub LowersLet : List ℕ → List ℕ → Result Acted Stopped → Type 0
   LowersLet s' cs' r =
       Every k (λ sig. LetAt sig k.ws k.at)
@@ -40,9 +41,11 @@ module _ (k : Site) where
       (λ sig x bound. WalkedAt k 0 (Gave r) (changed sig bound code more (k.at + 1) (head_of second) x.exprs.value k.cs) (2 + x.exprs.size) k.at
       s' cs' (walk_of r))
 
+  -- a panic, with the literal behind the action's word: it is lowered to itself, and uses no counter
   abbrev pub LowersPanic : List ℕ → List ℕ → Result Acted Stopped → Type 0
   LowersPanic s' cs' r = (sig : Sig) (bound : List ℕ) → Scoped sig bound k.s k.scope → Does sig bound (lower_action sig bound (panic' second) k.cs) 2 s' cs' r
 
+  -- an expression by itself: only its calls are left
   abbrev pub LowersExpression : List ℕ → List ℕ → Result Acted Stopped → Type 0
   LowersExpression s' cs' r =
       Every k (λ sig. ExprAt sig k.ws max_depth (k.at + 1)) (λ sig x bound. Does sig bound (lower_action sig bound (expr' x.value) k.cs) (1 + x.size) s' cs' r)

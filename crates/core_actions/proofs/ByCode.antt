@@ -1,7 +1,9 @@
 -- An action by its code: what the function for it asks, and what it leaves, from what is known where the action's word is read. Assumes nothing.
 use mathlib.Core.Path.{◌≡◌, refl, sym, ◌∙◌, subst}
+use mathlib.Core.Logic.{⊎_elim}
 use mathlib.Core.List.{List, ◌∷◌}
 use Prim.Native.Nat.{ℕ, ◌+◌, ◌-◌, ◌≤◌, ◌<◌}
+use native.Mathlib.Nat.{eq-or-lt_of_le}
 use native.Mathlib.Omega.{arith}
 use lib.ListN.{length, get_or}
 use Rattle.rules.specs.Words.{max_depth, action_base, action_word, head_word, head_of}
@@ -61,6 +63,11 @@ module _ {gs : List ℕ} {k : Site} {w : ℕ} (g : Coded gs k w) where
 
   -- ---- set, delete and subsume: the row that is walked is the action's
 
+  -- the codes 3 and 4 are read by one arm
+  by_either : {A : Type 0} → 3 ≤ w - action_base → w - action_base < 5 → (w - action_base ≡ 3 → A) → (w - action_base ≡ 4 → A) → A
+  by_either low high three four =
+      ⊎_elim (λ (same : 3 ≡ w - action_base). three (sym same)) (λ (more : 3 < w - action_base). four (omega arith)) (eq-or-lt_of_le low)
+
   -- the kind 3 word's head
   abbrev head : ℕ
   head = head_of (second k)
@@ -94,24 +101,30 @@ module _ {gs : List ℕ} {k : Site} {w : ℕ} (g : Coded gs k w) where
         (same_change sig bound C (k.at + 1) head y.exprs.value k.cs) (g.is ∙ e)
         (done_change sig bound C code is (k.at + 1) head y.exprs.value k.cs) (does.1 sig y bound n sc)
 
-    pub delete_done : w - action_base ≡ 3 → LowersChange k w 0 s' cs' r → LowersAction gs k s' cs' r
+    delete_done : w - action_base ≡ 3 → LowersChange k w 0 s' cs' r → LowersAction gs k s' cs' r
     delete_done e does sig x bound n sc sg =
         delete_cases sig k.ws k.at x (Ends k sig bound s' cs' r) (word 3 e)
         (λ y. change_does Delete (action_word 3) (λ h ts. refl) (word 3 e) does sig y bound n sc)
 
-    pub subsume_done : w - action_base ≡ 4 → LowersChange k w 0 s' cs' r → LowersAction gs k s' cs' r
+    subsume_done : w - action_base ≡ 4 → LowersChange k w 0 s' cs' r → LowersAction gs k s' cs' r
     subsume_done e does sig x bound n sc sg =
         subsume_cases sig k.ws k.at x (Ends k sig bound s' cs' r) (word 4 e)
         (λ y. change_does Subsume (action_word 4) (λ h ts. refl) (word 4 e) does sig y bound n sc)
 
+    pub change_done : 3 ≤ w - action_base → w - action_base < 5 → LowersChange k w 0 s' cs' r → LowersAction gs k s' cs' r
+    change_done low high does = by_either low high (λ e. delete_done e does) (λ e. subsume_done e does)
+
   pub set_asks : w - action_base ≡ 2 → Known k (λ sig. ChangeAt sig k.ws 1 k.at)
   set_asks e = asks (λ sig x. set_cases sig k.ws k.at x (λ y n. ChangeAt sig k.ws 1 k.at) (word 2 e) (λ y es v row. y))
 
-  pub delete_asks : w - action_base ≡ 3 → Known k (λ sig. ChangeAt sig k.ws 0 k.at)
+  delete_asks : w - action_base ≡ 3 → Known k (λ sig. ChangeAt sig k.ws 0 k.at)
   delete_asks e = asks (λ sig x. delete_cases sig k.ws k.at x (λ y n. ChangeAt sig k.ws 0 k.at) (word 3 e) (λ y. y))
 
-  pub subsume_asks : w - action_base ≡ 4 → Known k (λ sig. ChangeAt sig k.ws 0 k.at)
+  subsume_asks : w - action_base ≡ 4 → Known k (λ sig. ChangeAt sig k.ws 0 k.at)
   subsume_asks e = asks (λ sig x. subsume_cases sig k.ws k.at x (λ y n. ChangeAt sig k.ws 0 k.at) (word 4 e) (λ y. y))
+
+  pub change_asks : 3 ≤ w - action_base → w - action_base < 5 → Known k (λ sig. ChangeAt sig k.ws 0 k.at)
+  change_asks low high = by_either low high delete_asks subsume_asks
 
   -- ---- union
 

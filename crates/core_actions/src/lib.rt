@@ -20,7 +20,7 @@ use refusals::Reason;
 use walks::{Stopped, Tops};
 
 // Lowers the action at `at`, by its code.
-// A `match` on the number: lowering decides over the codes 1 to 8 as they are written, and refuses any other.
+// A `match` on the number: 01 names this form of a decision, over the codes 1 to 8, and the codes outside them are refused.
 fn lower_action(
     signature: &[u8],
     reading: &Reading<'_>,
@@ -41,8 +41,7 @@ fn lower_action(
     match code {
         1 => lower_let(reading, at, counters, scratch, tops),
         2 => lower_change(reading, at, w, 1, counters, scratch, tops),
-        3 => lower_change(reading, at, w, 0, counters, scratch, tops),
-        4 => lower_change(reading, at, w, 0, counters, scratch, tops),
+        3..=4 => lower_change(reading, at, w, 0, counters, scratch, tops),
         5 => lower_union(signature, reading, at, counters, scratch, tops),
         6 => lower_panic(reading, at, counters, scratch, tops),
         8 => lower_expression(reading, at, counters, scratch, tops),

@@ -1,6 +1,6 @@
 -- An expression on its way through lowering: its word is read, and a call goes on from the walk of its arguments to each of its ends. What is known at a
 -- step is a record over the expression and the words that the step leaves. Assumes nothing.
-use mathlib.Core.Path.{◌≡◌, refl, sym, subst}
+use mathlib.Core.Path.{◌≡◌, refl, subst}
 use mathlib.Core.Bool.{Bool, true, false}
 use mathlib.Core.List.{List}
 use Prim.Native.Nat.{ℕ, ◌+◌, ◌-◌, ◌^◌, ◌≤◌, ◌<◌}
@@ -154,7 +154,7 @@ module _ {k : Place} {B : Sig → List ℕ → Type 0} {s1 cs1 : List ℕ} where
 
 module _ {k : Place} {B : Sig → List ℕ → Type 0} {s1 cs1 : List ℕ} {a : Walk} (m : Argued k B s1 cs1 (Ok a)) where
   -- room for its end
-  end_fits : UseFits 3 k.w (count_of k.w) k.sp a s1 cs1
+  pub end_fits : UseFits 3 k.w (count_of k.w) k.sp a s1 cs1
   end_fits =
       let h = m.called in
       let g = h.begun in
@@ -176,17 +176,10 @@ module _ {k : Place} {B : Sig → List ℕ → Type 0} {s1 cs1 : List ℕ} {a : 
         stack = omega (arith, r.stack, r.log);
       }
 
-  -- what its end asks, by the count n of its word
-  pub end_asks : {n : ℕ} → n ≡ count_of k.w → UseFits 3 k.w n k.sp a s1 cs1 × (n ≡ count_of k.w)
-  end_asks count = (subst (λ (j : ℕ). UseFits 3 k.w j k.sp a s1 cs1) (sym count) end_fits, count)
-
-  -- and with it the call is lowered
-  pub call_answer : {n : ℕ} {s2 cs2 : List ℕ} {r : Result Walk Stopped} → n ≡ count_of k.w → Binds k.w n k.at k.sp s1 cs1 s2 cs2 a r → Answers k B s2 cs2 r
-  call_answer {n} {s2} {cs2} {r} count binds = by_args m.called done
+  -- and with its end the call is lowered
+  pub call_answer : {s2 cs2 : List ℕ} {r : Result Walk Stopped} → Binds k.w k.at k.sp s1 cs1 s2 cs2 a r → Answers k B s2 cs2 r
+  call_answer {s2} {cs2} {r} end = by_args m.called done
     where
-      end : Binds k.w (count_of k.w) k.at k.sp s1 cs1 s2 cs2 a r
-      end = subst (λ (j : ℕ). Binds k.w j k.at k.sp s1 cs1 s2 cs2 a r) count binds
-
       done : (sig : Sig) (es : Args k sig) (bound : List ℕ) → Counted sig k.cs → B sig bound
           → Ends k (and_call k.at (head_of k.w) (lowered_all sig bound es.value k.cs)) (1 + es.size) s2 cs2 r
       done sig es bound n i =

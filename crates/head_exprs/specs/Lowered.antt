@@ -1,7 +1,7 @@
 -- 01, "Lowering the head": what the definitions give of its expressions, as pieces that a walk makes.
 -- Assumes nothing: these are definitions.
 use Rattle.std.specs.Prelude.{List, [], ◌∷◌, ◌++◌, ℕ, ◌+◌, length, Result}
-use Rattle.rules.specs.Words.{head_word, head_of, action_word}
+use Rattle.rules.specs.Words.{head_word, head_of, count_of, action_word}
 use Rattle.rules.specs.Refusals.{Res, ok, refuse, ◌>>=◌}
 use Rattle.rules.specs.Signature.{Sig}
 use Rattle.rules.specs.Written.{Expr, Exprs}
@@ -44,9 +44,9 @@ and_call p h x = do
 -- ---- what is said of an answer r that leaves s' and cs'
 
 -- behind the walk a, which left s1 and cs1, the call of the kind 3 word w is bound: so it is of whatever arguments a has walked
-abbrev pub Binds : (w n place sp : ℕ) (s1 cs1 s' cs' : List ℕ) → Walk → Result Walk Stopped → Type 0
-Binds w n place sp s1 cs1 s' cs' a r =
-    (at to size lg : ℕ) (x : Res Piece) (s cs : List ℕ) → Termed 1 at to size n sp lg x s cs s1 cs1 a
+abbrev pub Binds : (w place sp : ℕ) (s1 cs1 s' cs' : List ℕ) → Walk → Result Walk Stopped → Type 0
+Binds w place sp s1 cs1 s' cs' a r =
+    (at to size lg : ℕ) (x : Res Piece) (s cs : List ℕ) → Termed 1 at to size (count_of w) sp lg x s cs s1 cs1 a
     → Walked 1 (InAnswer lg) (and_call place (head_of w) x) size at to sp lg s cs s' cs' r
 
 -- an expression is lowered, whichever a signature reads there, and whatever is bound: its term is in the answer

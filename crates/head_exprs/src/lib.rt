@@ -25,22 +25,22 @@ pub struct Reading<'a> {
     pub scope: Scope,
 }
 
-// The end of a call: behind the walk `args` over its n arguments, whose terms are on the stack, the fresh variable of the head of its kind 3 word w is
+// The end of a call: behind the walk `args` over its arguments, whose terms are on the stack, the fresh variable of the head of its kind 3 word w is
 // taken, and its action written. Where no count is left, it is refused at `place`.
 fn put_called(
     args: Walk,
     place: usize,
     w: u32,
-    n: usize,
     counters: &mut [u8],
     scratch: &mut [u8],
     sp: usize,
 ) -> Result<Walk, Stopped>
-    requires { UseFits 3 w n sp args (words scratch.old) (words counters.old) × (n ≡ count_of w) }
-    ensures { Binds w n place sp (words scratch.old) (words counters.old) (words scratch.new) (words counters.new) args result }
+    requires { UseFits 3 w (count_of w) sp args (words scratch.old) (words counters.old) }
+    ensures { Binds w place sp (words scratch.old) (words counters.old) (words scratch.new) (words counters.new) args result }
 {
-    let h = words::head_word(w).head;
-    let v = walks::take(counters, scratch, args.log, h, place)?;
+    let head = words::head_word(w);
+    let v = walks::take(counters, scratch, args.log, head.head, place)?;
+    let n = head.count as usize;
     let end = octets::rows::put_row(scratch, args.to, &[words::CALL, v, w], sp, n);
     Ok(Walk {
         next: args.next,
@@ -85,11 +85,11 @@ impl Reading<'_> {
         }
         let n = words::head_word(w).count as usize;
         if n == 0 {
-            return put_called(here, at, w, n, counters, scratch, tops.sp);
+            return put_called(here, at, w, counters, scratch, tops.sp);
         }
         let less = depth - 1;
         let args = self.lower_all(here.next, n, less, counters, scratch, tops)?;
-        put_called(args, at, w, n, counters, scratch, tops.sp)
+        put_called(args, at, w, counters, scratch, tops.sp)
     }
 
     // Lowers the n expressions from `at` on; their terms go onto the stack.

@@ -16,7 +16,11 @@ fn byte_of(d: u32) -> u8
     requires { d < 16 }
     ensures { result ≡ byte_of d }
 {
-    if d < 10 { 48 + d as u8 } else { 87 + d as u8 }
+    if d < 10 {
+        b'0' + d as u8
+    } else {
+        b'a' + (d - 10) as u8
+    }
 }
 
 // The bytes as they are. They are stored one by one: by `copy_from_slice` the names that are printed would stand in the program's read-only data, which

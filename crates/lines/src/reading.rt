@@ -19,8 +19,8 @@ fn digit(b: u8) -> Option<u32>
 {
     let d = u32::from(b);
     match b {
-        b'0'..=b'9' => Some(d - 48),
-        b'a'..=b'f' => Some(d - 87),
+        b'0'..=b'9' => Some(d - u32::from(b'0')),
+        b'a'..=b'f' => Some(d - u32::from(b'a') + 10),
         _ => None,
     }
 }
@@ -52,9 +52,7 @@ pub fn read_lines(input: &[u8], out: &mut [u8]) -> Result<usize, Refusal>
     ensures { LinesRead input.now (words out.old) (words out.new) result }
 {
     for (line, text) in input.chunks(9).enumerate() {
-        let Some(w) = line_at(text, line) else {
-            return Err(Reason::BadLine.at(line + 1));
-        };
+        let w = line_at(text, line).ok_or(Reason::BadLine.at(line + 1))?;
         octets::put(out, line, w);
     }
     Ok(input.len() / 9)

@@ -79,12 +79,10 @@ pub fn to_core_rule(
         → Lowers (to_core_rule sig rl (words counters.old)) (length (words rule.now))
         (words counters.old) (words scratch.new) (words counters.new) result }
 {
-    match lower_both(signature, rule, counters, scratch) {
-        Ok(lowering) => Ok(lowering),
-        Err(stopped) => {
-            let log = LOG_AT * octets::count(rule);
-            walks::restore(counters, octets::part(scratch, log, stopped.log - log));
-            Err(stopped.refusal)
-        }
+    let both = lower_both(signature, rule, counters, scratch);
+    if let Err(stopped) = both {
+        let log = LOG_AT * octets::count(rule);
+        walks::restore(counters, octets::part(scratch, log, stopped.log - log));
     }
+    both.map_err(|stopped| stopped.refusal)
 }

@@ -1,7 +1,7 @@
 -- 01, "Turned back": what becomes of a record that is read by itself. A rule's length (4) is tested before its words.
 -- The readings themselves are those of `rules`.
 -- Assumes nothing: these are definitions.
-use Rattle.std.specs.Prelude.{ℕ, ◌≡◌, List}
+use Rattle.std.specs.Prelude.{ℕ, ⊤, ◌≡◌, cond, eqb, List, Result, Ok, Err}
 use Rattle.rules.specs.Words.{max_written, max_flat}
 use Rattle.rules.specs.Refusals.{Res, ok, refuse, ◌>>=◌}
 use Rattle.rules.specs.Signature.{Sig, heads, read_signature}
@@ -13,6 +13,12 @@ use Rattle.written.specs.Written.{with_heads, whole_of}
 use Rattle.reads.specs.declared.Answer.{Answer}
 use Rattle.reads.specs.declared.Reader.{Reader}
 use Rattle.reads.specs.declared.Reader.TheVariants.{Signature, Written, Flat}
+
+-- ---- a line's letter, by its byte
+
+-- s names the reader of signatures, w that of written rules, f that of flat ones, and no other letter names one
+abbrev pub reader_of : (letter : ℕ) → Result Reader ⊤
+reader_of letter = cond (eqb letter 115) (Ok Signature) (cond (eqb letter 119) (Ok Written) (cond (eqb letter 102) (Ok Flat) (Err tt)))
 
 -- ---- rules by themselves, under a signature of H heads
 

@@ -11,7 +11,7 @@ ghost use Rattle.octets.specs.Words.{words};
 ghost use Rattle.refusals.specs.Numbers.{said};
 ghost use Rattle.rules.specs.Signature.{read_signature};
 ghost use Rattle.written.specs.Written.{whole_of};
-ghost use Rattle.reads.specs.Answers.{Says, heads_behind, written_alone, flat_alone, Answers};
+ghost use Rattle.reads.specs.Answers.{reader_of, Says, heads_behind, written_alone, flat_alone, Answers};
 
 use refusals::Refusal;
 use std::io::{Stdout, Write};
@@ -29,6 +29,8 @@ enum Reader {
 
 impl TryFrom<u8> for Reader {
     type Error = ();
+
+    ghost try_from_gives = { λ letter reader. reader ≡ reader_of letter };
 
     fn try_from(letter: u8) -> Result<Reader, ()> {
         match letter {
@@ -174,7 +176,7 @@ fn main(rt: HostRuntime) {
     let mut out = rt.stdout();
     let mut input = streams::filled::<65536>(0);
     let n = streams::read_full(&mut rt.stdin(), &mut input);
-    if n == 65536 {
+    if n == input.len() {
         let _ = streams::write_all(&mut out, b"too long\n");
         return;
     }

@@ -49,15 +49,14 @@ fn answers(case: &Case, found: Answer, expected: Answer) -> u64
 pub fn compare(
     case: &Case,
     found: Answer,
-    expected: Answer,
     output: &[u8],
     wanted: &[u8],
     counters: &[u8],
     after: &[u8],
 ) -> u64
-    ensures { result ≡ calls_differ found expected output.now wanted.now counters.now after.now }
+    ensures { result ≡ calls_differ found case.now.front.expected output.now wanted.now counters.now after.now }
 {
-    let numbers = answers(case, found, expected);
+    let numbers = answers(case, found, case.front.expected);
     let same = alike(output, wanted);
     let bytes = differ(
         case,

@@ -76,15 +76,7 @@ fn compare_case(
     let mut after = streams::filled::<65536>(0);
     read_padded(list, &mut wanted, 4 * case.front.written);
     read_padded(list, &mut after, case.front.counters);
-    differences::compare(
-        case,
-        found,
-        case.front.expected,
-        output,
-        &wanted,
-        counters,
-        &after,
-    )
+    differences::compare(case, found, output, &wanted, counters, &after)
 }
 
 // Runs a case's call on what is read of it. Output and scratch are filled with a byte that goes with the case, so that in time they hold every byte, and

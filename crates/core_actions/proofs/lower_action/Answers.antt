@@ -4,7 +4,7 @@ use native.Mathlib.Omega.{arith}
 use Rattle.octets.specs.Words.{words}
 use Rattle.head_exprs.proofs.Sites.{site}
 use Rattle.core_actions.proofs.ReadActions.{action_inside}
-use Rattle.core_actions.proofs.ByCode.{Coded, coded, let_asks, let_done, set_asks, set_done, delete_asks, delete_done, subsume_asks, subsume_done}
+use Rattle.core_actions.proofs.ByCode.{Coded, coded, let_asks, let_done, set_asks, set_done, change_asks, change_done}
 use Rattle.core_actions.proofs.ByCode.{union_asks, union_done, panic_asks, panic_done, expression_asks, expression_done, no_code_lem}
 use Rattle.core_actions.proofs.lower_action.Goals.{After-get-w}
 use Rattle.core_actions.proofs.lower_action.Goals as goal
@@ -31,15 +31,10 @@ lower_change-requires c =
     let g = code (goal.at.lower_change-requires c).After-get-w in
     record { known = (set_asks g c.in-2.is, (g.room, g.scope_room)); few = omega arith }
 
-pub lower_change-requires-in-3 : goal.lower_change-requires-in-3
-lower_change-requires-in-3 c =
-    let g = code (goal.at.lower_change-requires-in-3 c).After-get-w in
-    record { known = (delete_asks g c.in-3.is, (g.room, g.scope_room)); few = omega arith }
-
-pub lower_change-requires-in-4 : goal.lower_change-requires-in-4
-lower_change-requires-in-4 c =
-    let g = code (goal.at.lower_change-requires-in-4 c).After-get-w in
-    record { known = (subsume_asks g c.in-4.is, (g.room, g.scope_room)); few = omega arith }
+pub lower_change-requires-in-3-to-4 : goal.lower_change-requires-in-3-to-4
+lower_change-requires-in-3-to-4 c =
+    let g = code (goal.at.lower_change-requires-in-3-to-4 c).After-get-w in
+    record { known = (change_asks g (omega arith) (omega arith), (g.room, g.scope_room)); few = omega arith }
 
 pub lower_union-requires : goal.lower_union-requires
 lower_union-requires c =
@@ -62,11 +57,8 @@ returns-in-1 c = let_done (code (goal.at.returns-in-1 c).After-get-w) c.in-1.is 
 pub returns-in-2 : goal.returns-in-2
 returns-in-2 c = set_done (code (goal.at.returns-in-2 c).After-get-w) c.in-2.is c.lower_change.ensures
 
-pub returns-in-3 : goal.returns-in-3
-returns-in-3 c = delete_done (code (goal.at.returns-in-3 c).After-get-w) c.in-3.is c.lower_change-in-3.ensures
-
-pub returns-in-4 : goal.returns-in-4
-returns-in-4 c = subsume_done (code (goal.at.returns-in-4 c).After-get-w) c.in-4.is c.lower_change-in-4.ensures
+pub returns-in-3-to-4 : goal.returns-in-3-to-4
+returns-in-3-to-4 c = change_done (code (goal.at.returns-in-3-to-4 c).After-get-w) (omega arith) (omega arith) c.lower_change-in-3-to-4.ensures
 
 pub returns-in-5 : goal.returns-in-5
 returns-in-5 c = union_done (code (goal.at.returns-in-5 c).After-get-w) c.in-5.is c.lower_union.ensures
@@ -80,4 +72,4 @@ returns-in-8 c = expression_done (code (goal.at.returns-in-8 c).After-get-w) c.i
 pub returns-in_default : goal.returns-in_default
 returns-in_default c =
     no_code_lem (code (goal.at.returns-in_default c).After-get-w)
-    (λ z. omega arith) (λ z. omega arith) (λ z. omega arith) (λ z. omega arith) (λ z. omega arith) (λ z. omega arith) (λ z. omega arith)
+    (λ e. omega arith) (λ e. omega arith) (λ e. omega arith) (λ e. omega arith) (λ e. omega arith) (λ e. omega arith) (λ e. omega arith)

@@ -3,16 +3,16 @@
 use native.Mathlib.Omega.{arith}
 use Rattle.octets.proofs.Words.{length_words, length_words_kept}
 use Rattle.walks.proofs.Uses.{head_used}
-use Rattle.walks.proofs.Words.{head_says}
+use Rattle.walks.proofs.Words.{head_says, count_says}
 use Rattle.head_exprs.proofs.Binding.{bound_done}
 use Rattle.head_exprs.proofs.put_called.Goals as goal
 
 pub overflow_add-result : goal.overflow_add-result
-overflow_add-result c = omega (arith, c.requires.0.log, length_words c.args.scratch.now, c.well_formed)
+overflow_add-result c = omega (arith, c.requires.log, length_words c.args.scratch.now, c.well_formed)
 
 pub returns : goal.returns
 returns c =
     let t = c.take in
     bound_done
-    (head_used c.requires.0 (head_says c.head_word-h.ensures) c.in_ok-v.ensures (length_words_kept _ _ t.auto.scratch) (length_words_kept _ _ t.auto.counters))
-    c.requires.1 c.put_row-end.ensures
+    (head_used c.requires (head_says c.head_word-head.ensures) c.in_ok-v.ensures (length_words_kept _ _ t.auto.scratch) (length_words_kept _ _ t.auto.counters))
+    (count_says c.head_word-head.ensures) c.put_row-end.ensures

@@ -12,7 +12,7 @@ pub overflow_mul-log : goal.overflow_mul-log
 overflow_mul-log c = omega (arith, c.requires.scratch, c.count-log.ensures, length_words c.args.scratch.now)
 
 -- where the log of the walk that was stopped lies
-lies : (c : In-Err) → (30 * length (words c.args.rule.now) ≤ c.in-Err.stopped.log) × (c.in-Err.stopped.log ≤ length (words c.lower_both.new.scratch))
+lies : (c : In-Err) → (30 * length (words c.args.rule.now) ≤ c.in-Err.stopped.log) × (c.in-Err.stopped.log ≤ length (words c.lower_both-both.new.scratch))
 lies c = let g = c.requires in log_lies _ _ _ _ _ _ (c.in-Err.ensures g.sig g.rule g.signed g.written)
 
 pub overflow_sub-stopped : goal.overflow_sub-stopped

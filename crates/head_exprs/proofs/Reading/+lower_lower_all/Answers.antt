@@ -22,7 +22,7 @@ use Rattle.head_exprs.proofs.Sites.{site, starts}
 use Rattle.head_exprs.proofs.Expressions.{scope_in}
 use Rattle.head_exprs.proofs.Arguments.{row_start, row_is, row_fits, row_done, on, top_inside, next_asks, row_stop, row_next}
 use Rattle.head_exprs.proofs.Calls.{Place, place, Begun, word_inside, args_room, leaf_read, leaf_unbound, Called, called, argued, bare}
-use Rattle.head_exprs.proofs.Calls.{args_refused, end_asks, call_answer}
+use Rattle.head_exprs.proofs.Calls.{args_refused, end_fits, call_answer}
 use Rattle.head_exprs.proofs.Reading.+lower_lower_all.Goals as goal
 
 -- ---- an expression: its place, whose word is w, and which names are bound there
@@ -82,16 +82,14 @@ lower-put_called-requires t c =
     let a = c.args in
     let low = call_low c.is_leaf.ensures c.if-is_leaf.false in
     let here = call a.self.now a.scratch.now a.counters.now c.requires (omega arith) (omega arith) c.get-w.ensures.is low in
-    let counted = count_says c.head_word-n.ensures in
-    end_asks (bare here (sym counted ∙ c.if-n-eq0.true)) counted
+    end_fits (bare here (sym (count_says c.head_word-n.ensures) ∙ c.if-n-eq0.true))
 
 pub lower-returns-then-n-eq0 : goal.lower-returns-then-n-eq0
 lower-returns-then-n-eq0 t c =
     let a = c.args in
     let low = call_low c.is_leaf.ensures c.if-is_leaf.false in
     let here = call a.self.now a.scratch.now a.counters.now c.requires (omega arith) (omega arith) c.get-w.ensures.is low in
-    let counted = count_says c.head_word-n.ensures in
-    call_answer (bare here (sym counted ∙ c.if-n-eq0.true)) counted c.put_called.ensures
+    call_answer (bare here (sym (count_says c.head_word-n.ensures) ∙ c.if-n-eq0.true)) c.put_called.ensures
 
 -- ---- a call with arguments
 
@@ -123,8 +121,7 @@ lower-put_called-requires-2 t c =
     let low = call_low c.is_leaf.ensures c.if-is_leaf.false in
     let here = call a.self.now a.scratch.now a.counters.now c.requires (omega arith) (omega arith) c.get-w.ensures.is low in
     let k = c.lower_all.auto in
-    let counted = count_says c.head_word-n.ensures in
-    end_asks (argued here counted c.in_ok-args.ensures (length_words_kept _ _ k.counters) (length_words_kept _ _ k.scratch)) counted
+    end_fits (argued here (count_says c.head_word-n.ensures) c.in_ok-args.ensures (length_words_kept _ _ k.counters) (length_words_kept _ _ k.scratch))
 
 pub lower-returns : goal.lower-returns
 lower-returns t c =
@@ -132,8 +129,8 @@ lower-returns t c =
     let low = call_low c.is_leaf.ensures c.if-is_leaf.false in
     let here = call a.self.now a.scratch.now a.counters.now c.requires (omega arith) (omega arith) c.get-w.ensures.is low in
     let k = c.lower_all.auto in
-    let counted = count_says c.head_word-n.ensures in
-    call_answer (argued here counted c.in_ok-args.ensures (length_words_kept _ _ k.counters) (length_words_kept _ _ k.scratch)) counted c.put_called-2.ensures
+    let args = argued here (count_says c.head_word-n.ensures) c.in_ok-args.ensures (length_words_kept _ _ k.counters) (length_words_kept _ _ k.scratch) in
+    call_answer args c.put_called-2.ensures
 
 -- ---- the row of arguments
 

@@ -4,10 +4,15 @@ use mathlib.Core.Path.{◌≡◌, sym, ap, ◌∙◌, subst}
 use mathlib.Core.List.{List, ◌++◌}
 use native.Mathlib.Omega.{arith}
 use lib.ListN.{length, set, drop, length-drop}
+use Rattle.std.specs.Prelude.{Result, Err, Option, Some, None}
+use Rattle.std.specs.Option.{ok_or}
+use Rattle.std.proofs.lemmas.Result.{err_from_is_err_and}
 use Rattle.octets.specs.Words.{words}
 use Rattle.octets.proofs.Filling.{filled_count}
 use Rattle.rules.specs.Program.{line_at}
 use Rattle.rules.specs.Refusals.{ok, refuse, bad_line}
+use Rattle.refusals.specs.declared.Refusal.{Refusal}
+use Rattle.lines.specs.Reading.{line_says}
 use Rattle.lines.proofs.AllLines.{ReadTo, HasWord, HasNone, read_start, read_good, read_next, read_refused, read_end}
 use Rattle.lines.proofs.Chunks.{Chunk, chunk_there, chunk_next, chunk_line}
 use Rattle.lines.proofs.reading.read_lines.Goals as goal
@@ -32,27 +37,37 @@ chunk : {input rest x rest' : List ℕ} {k size : ℕ} → rest ≡ drop (k * 9)
 chunk {rest = rest} begins nine cut len some = record { begins = begins; cut = cut; size = len ∙ ap (λ (n : ℕ). min n (length rest)) nine; some = some }
 
 -- what the chunk's answer says of the line
-word_there : {input rest x rest' : List ℕ} {k line w : ℕ} → Chunk input k rest x rest' → line ≡ k → ok w ≡ line_at x 0 line → HasWord input k w
-word_there {x = x} {w = w} here place is = subst (λ (j : ℕ). ok w ≡ line_at x 0 j) place is ∙ chunk_line here
+word_there : {input rest x rest' : List ℕ} {k line w : ℕ} {o : Option ℕ} → Chunk input k rest x rest' → line ≡ k
+    → line_says o line ≡ line_at x 0 line → o ≡ Some w → HasWord input k w
+word_there {x = x} {line = line} {w = w} here place says is =
+    subst (λ (j : ℕ). ok w ≡ line_at x 0 j) place (sym (ap (λ (y : Option ℕ). line_says y line) is) ∙ says) ∙ chunk_line here
 
-none_there : {input rest x rest' : List ℕ} {k line : ℕ} → Chunk input k rest x rest' → line ≡ k
-    → refuse bad_line (suc line) ≡ line_at x 0 line → HasNone input k
-none_there {x = x} here place is = subst (λ (j : ℕ). refuse bad_line (suc j) ≡ line_at x 0 j) place is ∙ chunk_line here
+none_there : {input rest x rest' : List ℕ} {k line : ℕ} {o : Option ℕ} → Chunk input k rest x rest' → line ≡ k
+    → line_says o line ≡ line_at x 0 line → o ≡ None → HasNone input k
+none_there {x = x} {line = line} here place says is =
+    subst (λ (j : ℕ). refuse bad_line (suc j) ≡ line_at x 0 j) place (sym (ap (λ (y : Option ℕ). line_says y line) is) ∙ says) ∙ chunk_line here
 
-pub returns-in_default : goal.returns-in_default
-returns-in_default c =
+-- and its refusal is the one that was set up
+refusal_is : {o : Option ℕ} {e r : Refusal} → Err e ≡ ok_or o r → o ≡ None → e ≡ r
+refusal_is {r = r} value is = let z : ◌≡◌ {A = Result ℕ Refusal} (Err _) (Err r) = value ∙ ap (λ (y : Option ℕ). ok_or y r) is in cc
+
+pub returns-in_err-w : goal.returns-in_err-w
+returns-in_err-w c =
     let s = c.loop-line.invariant in
     let turn = c.in-Some.ensures.steps in
     let here = chunk s.1 s.2 turn.0.1.0 turn.0.1.1 turn.0.1.2 in
-    read_refused s.0 (chunk_there here) (none_there here turn.1 c.in_default.ensures) c.at.result c.at.ensures.0
-    (c.at.ensures.1 ∙ ap (λ (k : ℕ). k + 1) turn.1)
+    let none = c.in_err-w.ensures.ok_part in
+    let p = err_from_is_err_and c.from_residual.result c.from_residual.ensures.1 in
+    let e = p.2 ∙ refusal_is c.in_err-w.ensures.value none in
+    rw (p.1) (read_refused s.0 (chunk_there here) (none_there here turn.1 c.line_at.ensures none) p.0
+    (ap (λ (x : Refusal). x.reason) e ∙ c.at.ensures.0) (ap (λ (x : Refusal). x.place) e ∙ c.at.ensures.1 ∙ ap (λ (k : ℕ). k + 1) turn.1))
 
 pub put-requires : goal.put-requires
 put-requires c =
     let s = c.loop-line.invariant in
     let turn = c.in-Some.ensures.steps in
     let here = chunk s.1 s.2 turn.0.1.0 turn.0.1.1 turn.0.1.2 in
-    let good = read_good s.0 c.in-Some-line_at.w (word_there here turn.1 c.in-Some-line_at.ensures) in
+    let good = read_good s.0 c.in_ok-w.w (word_there here turn.1 c.line_at.ensures c.in_ok-w.ensures.ok_part) in
     omega (arith, good.0, turn.1, filled_count s.0.filled, c.requires)
 
 pub loop-line-preserved : goal.loop-line-preserved
@@ -60,10 +75,10 @@ loop-line-preserved c =
     let s = c.loop-line.invariant in
     let turn = c.in-Some.ensures.steps in
     let here = chunk s.1 s.2 turn.0.1.0 turn.0.1.1 turn.0.1.2 in
-    let word = word_there here turn.1 c.in-Some-line_at.ensures in
-    let good = read_good s.0 c.in-Some-line_at.w word in
-    let put = c.put.ensures ∙ ap (λ (k : ℕ). set (words c.loop-line.out) k c.in-Some-line_at.w) turn.1 in
-    let read = read_next s.0 c.in-Some-line_at.w c.put.new.s c.requires word c.put.auto.s put in (
+    let word = word_there here turn.1 c.line_at.ensures c.in_ok-w.ensures.ok_part in
+    let good = read_good s.0 c.in_ok-w.w word in
+    let put = c.put.ensures ∙ ap (λ (k : ℕ). set (words c.loop-line.out) k c.in_ok-w.w) turn.1 in
+    let read = read_next s.0 c.in_ok-w.w c.put.new.s c.requires word c.put.auto.s put in (
       subst (ReadTo c.args.input.now c.args.out.now c.put.new.s) (sym turn.2) read,
       chunk_next here good.1 ∙ sym (ap (λ (k : ℕ). drop (k * 9) c.args.input.now) turn.2),
       turn.0.0 ∙ s.2,
