@@ -51,8 +51,8 @@ pub fn bucket(w: u32, count: usize) -> usize
     (mixed(w, 0) as u64 * count as u64 / 0x1_0000_0000) as usize
 }
 
-// Writes w into the n words at p. It takes a place and a count, as `octets::regions::replace` does: a part lent for writing can't be had by one call, and
-// cutting twice for it is no plainer (octets/src/regions.rt says what was tried).
+// Writes w into the n words at p. It takes a place and a count, as `octets::regions::replace` does: callers speak of words, and
+// would cut what they lend by bytes (octets/src/regions.rt says what was tried).
 pub fn fill(s: &mut [u8], p: usize, n: usize, w: u32)
     requires { p + n ≤ length (words s.old) }
     ensures { words s.new ≡ splice (words s.old) p (replicate n w) }

@@ -25,14 +25,33 @@ use Rattle.words.specs.Atom.{equality_size}
 use Rattle.bodies.specs.Standing.{AtomsAt, TabsAt, atoms_in}
 use Rattle.bodies.proofs.Standing.{atoms_before, atoms_join, no_tabs, tabs_before, tabs_join}
 use Rattle.canonicalize.specs.declared.Canonical.{Canonical}
-use Rattle.canonicalize.specs.Canonicalize.{FrontAsks, FrontOne, FrontOneAsks, FrontStep, Fronted}
-use Rattle.canonicalize.specs.Canonicalize.{binding_size, binding_words, resolve_at}
+use Rattle.std.specs.Prelude as prelude
+use Rattle.canonicalize.specs.Canonicalize.{FrontAsks, FrontOne, FrontOneAsks, FrontStep, Fronted, Stepped}
+use Rattle.canonicalize.specs.Canonicalize.{binding_size, binding_words, resolve_at, place_of, ask_at}
 use Rattle.canonicalize.specs.Spans.{Spanned}
 use Rattle.canonicalize.proofs.Fronts.{asked_same_terms, canonicalize_asked, canonicalize_still}
 use Rattle.canonicalize.proofs.Replacing.{ask_is, made}
 use Rattle.canonicalize.proofs.Resolving.{resolve_atom, resolved_there}
 use Rattle.canonicalize.proofs.SpanLaws.{spanned_before, spanned_tail}
 use Rattle.rules.specs.Canonicalize as canon
+
+-- ---- one equality: its replacement is tried, which leaves m, and its binding stands at e, if anything was asked
+
+pub record Tried {s : Sig} {l : List ℕ} {p n to d table buckets : ℕ} (c : FrontOneAsks s l p n to d table buckets) (m : List ℕ)
+    (e : prelude.Option ℕ) : Type 0 where
+  pub place : e ≡ place_of (ask_at s l p) d
+  pub stepped : Stepped (ask_at s l p) l m (p + equality_size) (n - equality_size) d table buckets
+
+-- by a step behind the equality, at x
+pub tried : {s : Sig} {l : List ℕ} {p n to d table buckets : ℕ} (c : FrontOneAsks s l p n to d table buckets) {m : List ℕ} {e : prelude.Option ℕ} {x : ℕ}
+    → x ≡ p + equality_size → e ≡ place_of (ask_at s l p) d → Stepped (ask_at s l p) l m x (n - (x - p)) d table buckets → Tried c m e
+tried {s} {l} {p} {n} {to} {d} {table} {buckets} c {m} {e} {x} q place stepped =
+    let size : n - (x - p) ≡ n - equality_size = omega arith in
+    record {
+      place = place;
+      stepped = subst (λ (y : ℕ). Stepped (ask_at s l p) l m (p + equality_size) y d table buckets) size
+          (subst (λ (y : ℕ). Stepped (ask_at s l p) l m y (n - (x - p)) d table buckets) q stepped);
+    }
 
 -- ---- the loop on its way: i words of equalities are passed
 

@@ -86,7 +86,7 @@ fn run(body: &[u8], equalities: bool) -> usize
 }
 
 // Resolves the atoms in the n words at `from`, writing at `to`, which lies beyond them. Those that are no equalities stay as they are, so they
-// are carried in runs. Returns how many words are written.
+// are carried in runs. Returns how many words are written. By places in one scratch, as the steps of a sweep below.
 fn resolve(s: &mut [u8], from: usize, n: usize, to: usize, q: Sign) -> usize
     requires { ResolveAsks (sig q) (words s.old) from n to }
     ensures { Resolved (sig q) (words s.old) (words s.new) from n to result }
@@ -110,9 +110,6 @@ fn resolve(s: &mut [u8], from: usize, n: usize, to: usize, q: Sign) -> usize
     }
     k
 }
-
-// The words of an equality: its own, and its two terms.
-const EQUALITY_WORDS: usize = 3;
 
 // What canonicalize leaves: how many words the atoms have, and where the bindings begin.
 #[derive(Clone, Copy)]
@@ -158,7 +155,7 @@ impl Sweep {
         let end = at + n;
         let mut p = at;
         let mut e = d;
-        // No iterator over the atoms, which would hold the words that are written, and no closure: a step changes the scratch that tells where it ends.
+        // No iterator over the atoms, which would hold the words that a replacement writes.
         while p < end {
             let atom = good_atom_at(s, p);
             e = self.replace_step(s, at, n, p, e).unwrap_or(e);
@@ -197,7 +194,7 @@ impl Sweep {
             (words s.old) (words s.new) at e k to d self.spans.at self.spans.count result }
     {
         let mut t = Canonical { words: 0, binds: d };
-        for i in (0..e).step_by(EQUALITY_WORDS) {
+        for i in (0..e).step_by(words::EQUALITY_WORDS) {
             let one = self.front_one(s, at + i, e - i + k, to + t.words, t.binds);
             t = Canonical {
                 words: t.words + one.words,

@@ -20,7 +20,7 @@ use refusals::Reason;
 use walks::{Stopped, Tops};
 
 // Lowers the action at `at`, by its code.
-// A `match` on the number: 01 names this form of a decision, over the codes 1 to 8, and the codes outside them are refused.
+// A `match` on the number, the form that document 01 names, over the codes 1 to 8. 7 is not written, and is refused with those outside.
 fn lower_action(
     signature: &[u8],
     reading: &Reading<'_>,

@@ -32,7 +32,7 @@ fn lower_good(
 {
     let n = octets::count(rule);
     let core = lowering::to_core_rule(signature, rule, counters, scratch)?;
-    // No `From`, which could ask for nothing: a `Signature` is what `sign_of` makes of any signature, good or not, so its type can't keep the bounds.
+    // No `From`, which could ask for nothing: were the bounds kept in `Signature`, its definition `sign_of` would need a proof of them for each `Sig`.
     let terms = Sign {
         globals: sign.globals,
         equals: sign.equals,

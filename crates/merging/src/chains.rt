@@ -44,7 +44,7 @@ impl Pass {
     {
         buckets::fill(s, self.table, count, 0);
         let mut i = 0;
-        // No iterator over the atoms: a step takes the atom's offset, which is the place of its link, so that offsets would be counted beside it.
+        // No iterator over the atoms, which would hold the scratch that a step writes; and a step takes the atom's offset, the place of its link.
         while i < self.n {
             i += self.link_one(s, i, count);
         }

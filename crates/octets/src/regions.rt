@@ -1,7 +1,7 @@
 // Regions of words: copy, carry, replace, search. What only reads takes the words themselves, as a slice. `carry` and `replace` take a place
-// and a count: the two regions of `carry` may overlap, so that they are no two slices. For `replace` a function was tried that lends n words for writing,
-// as `&mut s[a..b]` and as a part of `split_at_mut`: the clause of what the slice ends as (`Lends`) did not close, since that is proved of a field or of all
-// that a call lends, and of no part. Both parts of `split_at_mut` can be lent on, but then each caller would cut twice for one call: no plainer.
+// and a count: the two regions of `carry` may overlap, so that they are no two slices, and callers of `replace` speak of words, and would cut what they lend
+// by bytes. A function was tried that lends n words for writing: the clause of what the slice ends as (`Lends`) did not close, since that is proved of a
+// field or of all that a call lends, and of no part.
 ghost use Rattle.std.specs.Prelude.{◌≡◌, map, ◌+◌, ◌≤◌, length};
 ghost use Rattle.octets.specs.Words.{words};
 ghost use Rattle.octets.specs.Regions.{splice, part, Clear, swap, elem};

@@ -2,7 +2,7 @@
 //
 //     written  (= x (f (g y)))      flat  (g y @g.0) (f @g.0 @f.0) (= x @f.0)
 //
-// The walks work in one scratch: atoms go to `to`, terms of arguments onto the stack at `sp`, uses of counters to `log`.
+// The walks work in one scratch: atoms go to `tops.to`, terms of arguments onto the stack at `tops.sp`, uses of counters to `tops.log`.
 #![tactic(auto)]
 
 ghost use Rattle.std.specs.Prelude.{◌≡◌, ◌∷◌, [], ◌++◌, ◌+◌, ◌≤◌, ◌<◌, length, get_or};

@@ -31,7 +31,7 @@ fn settle_good(rule: &[u8], sign: Signature, output: &mut [u8], scratch: &mut [u
     let end = first_action(rule);
     let n = end - 1;
     octets::regions::copy(scratch, 0, octets::part(rule, 1, n));
-    // No `From`, which could ask for nothing: a `Signature` is what `sign_of` makes of any signature, good or not, so its type can't keep the bounds.
+    // No `From`, which could ask for nothing: were the bounds kept in `Signature`, its definition `sign_of` would need a proof of them for each `Sig`.
     let terms = Sign {
         globals: sign.globals,
         equals: sign.equals,

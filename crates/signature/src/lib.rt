@@ -1,4 +1,5 @@
-// The signature, read in place: its kinds stay in the bytes. Each expected word is taken by `let .. else`, the form that document 01 names.
+// The signature, read in place: its kinds stay in the bytes. H, G, the value-eq head and the flag are taken by `let .. else`, the
+// form that document 01 names for expected words.
 #![tactic(auto)]
 
 ghost use Rattle.std.specs.Prelude.{◌≡◌, ◌+◌, ◌-◌, ◌≤◌, length};

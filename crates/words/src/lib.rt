@@ -309,6 +309,9 @@ pub fn good_atom_at(s: &[u8], at: usize) -> Atom
     laid_out(head, w % LIMIT_16, at)
 }
 
+// The words of an equality of two terms: its own, and theirs.
+pub const EQUALITY_WORDS: usize = 3;
+
 // The place behind an equality of two terms that begins at `at`. It is known without a look at the words, so that a walk over equalities does not wait for them.
 pub fn past_equality(at: usize) -> usize
     requires { at < 2 ^ 62 }
