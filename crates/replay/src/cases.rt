@@ -1,5 +1,7 @@
 // A case of the list: its number, the words in front of its parts, and what they say.
-ghost use Rattle.std.specs.Prelude.{◌+◌, ◌*◌, ◌<◌, ◌≤◌, length};
+ghost use Rattle.std.specs.Prelude.{◌≡◌, ◌+◌, ◌*◌, ◌<◌, ◌≤◌, length, get_or};
+ghost use Rattle.octets.specs.Words.{words};
+ghost use Rattle.replay.specs.Cases.{call_of, expected_of};
 
 use answers::Answer;
 use std::io::Stdout;
@@ -15,6 +17,8 @@ pub enum Call {
 // The call by its number in the list. Behind the list's end all words are 0, which names none.
 impl TryFrom<usize> for Call {
     type Error = ();
+
+    ghost try_from_gives = { λ number call. call ≡ call_of number };
 
     fn try_from(number: usize) -> Result<Call, ()> {
         match number {
@@ -61,13 +65,15 @@ pub struct Case {
 // The word at an index, as a number to reckon with.
 pub fn number(bytes: &[u8], at: usize) -> usize
     requires { 4 * at + 4 ≤ length bytes.now }
-    ensures { result < 4294967296 }
+    ensures { (result ≡ get_or (words bytes.now) at 0) × (result < 4294967296) }
 {
     octets::get(bytes, at) as usize
 }
 
 // The answer that a case has, by the words in front of its parts.
-fn expected(front: &[u8; 48]) -> Answer {
+fn expected(front: &[u8; 48]) -> Answer
+    ensures { result ≡ expected_of (words front.now) }
+{
     Answer {
         number: number(front, 7) as u64,
         place: number(front, 8) as u64,
@@ -79,6 +85,10 @@ fn expected(front: &[u8; 48]) -> Answer {
 
 // The first word, how many follow, is passed over: the others say it.
 impl From<[u8; 48]> for Front {
+    ghost use Rattle.replay.specs.Fronts.{FrontOf};
+
+    ghost from_gives = { λ bytes front. FrontOf (words bytes) front };
+
     fn from(front: [u8; 48]) -> Front {
         Front {
             call: Call::try_from(number(&front, 1)).ok(),
