@@ -29,12 +29,12 @@ use Rattle.written.proofs.Expected.{no_code_lem, as_code, change_code, NoneOf, l
 
 -- ---- an expression, by how it begins
 
-pub starts : (H : ℕ) {ws : List ℕ} {p n : ℕ} {x : Option ℕ} → or_unfit (λ n. n) x p ≡ taken_at (with_heads H) ws p → x ≡ Some n → Starts (with_heads H) ws p n
-starts H {ws} {p} {n} read is =
-    let h : taken_at (with_heads H) ws p ≡ ok n = sym read ∙ ap (λ (y : Option ℕ). or_unfit (λ n. n) y p) is in
+pub starts : {s : Sig} {ws : List ℕ} {p n : ℕ} {x : Option ℕ} → or_unfit (λ n. n) x p ≡ taken_at s ws p → x ≡ Some n → Starts s ws p n
+starts {s} {ws} {p} {n} read is =
+    let h : taken_at s ws p ≡ ok n = sym read ∙ ap (λ (y : Option ℕ). or_unfit (λ n. n) y p) is in
     record { takes = h; inside = go (ltb p (length ws)) refl h }
   where
-    go : (b : Bool) → ltb p (length ws) ≡ b → taken (cond b (shape (with_heads H) (get_or ws p 0)) is_bad) (get_or ws p 0) p ≡ ok n → p < length ws
+    go : (b : Bool) → ltb p (length ws) ≡ b → taken (cond b (shape s (get_or ws p 0)) is_bad) (get_or ws p 0) p ≡ ok n → p < length ws
     go true e h = ltb-true p (length ws) e
     go false e h = let z : ◌≡◌ {A = ℕ} 0 1 = cc in absurd (omega arith)
 
