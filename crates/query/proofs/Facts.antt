@@ -11,7 +11,7 @@ use lib.ListN.{length, get_or}
 use borrow.Author.Tests.{lt-ltb, eqb-true, eq-eqb}
 use Rattle.std.specs.Prelude.{Result, Ok, Err}
 use Rattle.octets.specs.Regions.{splice}
-use Rattle.rules.specs.Words.{max_depth, equality_word}
+use Rattle.rules.specs.Words.{max_depth, equality_word, literal_base}
 use Rattle.rules.specs.Refusals.{Res, ok, ◌>>=◌}
 use Rattle.rules.specs.Signature.{Sig}
 use Rattle.rules.specs.Written.{Expr, Fact, holds, equal, Read, read_expr, read_equal, read_holds, read_fact}
@@ -27,6 +27,7 @@ use Rattle.walks.proofs.Read.{moved, expr_at}
 use Rattle.walks.proofs.Asks.{counted_kept, There, right_there}
 use Rattle.query.specs.Flattened.{flattened, flattened_fact, FactAt, AsksFact, FlattensExpr}
 use Rattle.query.proofs.Pieces.{silent, equated, flattened_holds, flattened_equal}
+use Rattle.query.proofs.Exprs.{leaf_answer}
 use Rattle.query.proofs.Spots.{Spot, spot_of, onward, FactAsked, ExprAsked, ExprAnswers, FactWalked, FactAnswers}
 
 -- ---- what the first word of a fact tells
@@ -200,6 +201,18 @@ module _ {p : Spot} {w : ℕ} (g : Begun p w) where
             let one : FactWalked p (and_then (flattened a.value p.cs) (flattened b.value)) size s1 cs1 (Err e) =
             stop size p.at (flattened a.value p.cs) (λ q. ◌>>=◌ (flattened b.value q.next) (λ u. ok (both q u))) (walk sig a c) (omega arith) in
             stop size p.at (and_then (flattened a.value p.cs) (flattened b.value)) (λ q. ok (equated q)) one (omega arith)
+
+-- ---- it is a name or a literal alone
+
+pub fact_begins : {p : Spot} → FactAsked p → p.at < length p.ws
+fact_begins {p} q = (begun q refl).inside
+
+-- such a fact has no atom
+pub leaf_fact : {p : Spot} {w : ℕ} → FactAsked p → w ≡ get_or p.ws p.at 0 → literal_base ≤ w
+    → FactAnswers p p.s p.cs (Ok (reached_at (p.at + 1) p.tops.to p.tops.log 0))
+leaf_fact {p} {w} q is high =
+    let ne : w ≡ equality_word → ⊥ = λ e. omega (arith, e, high) in
+    holds_answer (begun q is) ne (leaf_answer p max_depth w is high)
 
 -- ---- the left side of an equality is flattened: l, with s1 and cs1 left behind
 

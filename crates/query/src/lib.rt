@@ -165,7 +165,7 @@ fn flatten_fact(
     })
 }
 
-// Flattens the n facts from `at` on.
+// Flattens the n facts from `at` on. A name or a literal alone has no atom and is passed over here: as a walk its answer would stand in memory.
 pub fn to_query(
     rule: &[u8],
     at: usize,
@@ -184,6 +184,10 @@ pub fn to_query(
         term: 0,
     };
     for _ in 0..n {
+        if words::is_leaf(octets::get(rule, walk.next)) {
+            walk.next += 1;
+            continue;
+        }
         walk = flatten_fact(rule, walk.next, counters, scratch, walk.tops(tops.sp))?;
     }
     Ok(walk)
