@@ -229,6 +229,20 @@ fact_odd H {ws} {p} {n} t odd =
     let low = start_low H here (omega arith) in
     no_expression (with_heads H) ws max_depth p low refl ∙ sym (fact_by (with_heads H) ws p false (rw (lt-ltb p (length ws) t.inside, other)))
 
+-- a word that takes no arguments is no equality's, and a fact that it is alone ends behind it
+pub leaf_fact : (H : ℕ) {ws : List ℕ} {p n : ℕ} → Starts (with_heads H) ws p n → n ≡ 0 → ok (p + 1) ≡ ending_of (read_fact (with_heads H) ws p)
+leaf_fact H {ws} {p} {n} b none =
+    leaf_read b max_depth none (λ z. omega arith)
+    ∙ sym (fact_by (with_heads H) ws p false (rw (lt-ltb p (length ws) b.inside, ne_eqb (get_or ws p 0) equality_word other)))
+  where
+    other : get_or ws p 0 ≡ equality_word → ⊥
+    other e =
+        let here : Here ws p (get_or ws p 0) = record { inside = b.inside; is = refl } in
+        let low = start_low H here (omega arith) in
+        let takes = b.takes in
+        let z : ◌≡◌ {A = ℕ} 0 1 = cc in
+        omega arith
+
 -- ---- the kind 3 word of a set, a delete or a subsume
 
 module _ (H : ℕ) {ws : List ℕ} {p : ℕ} where

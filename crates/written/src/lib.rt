@@ -114,18 +114,21 @@ impl Record<'_> {
         if some == 0 {
             return Ok(next);
         }
-        self.arguments(next, some, MAX_DEPTH - 1)
+        // Taken out and given anew: were it handed through, the answer of a leaf would be made in memory too, and waited for there.
+        let end = self.arguments(next, some, MAX_DEPTH - 1)?;
+        Ok(end)
     }
 
-    // The two expressions of an equality or a union, which stand behind its word.
+    // The two expressions of an equality or a union, which stand behind its word. Taken out and given anew, as there.
     fn pair(&self, at: usize) -> Result<usize, Refusal>
         ensures { said result ≡ ending_of (read_many (read_expr (with_heads self.now.heads) (words self.now.rule.now) max_depth) 2 at) }
     {
-        self.arguments(at, 2, MAX_DEPTH)
+        let end = self.arguments(at, 2, MAX_DEPTH)?;
+        Ok(end)
     }
 
-    // A fact: an expression, or an equality of two.
-    pub fn fact(&self, at: usize) -> Result<usize, Refusal>
+    // A fact that may have arguments or be an equality of two, by its first word.
+    fn longer_fact(&self, at: usize) -> Result<usize, Refusal>
         ensures { said result ≡ ending_of (read_fact (with_heads self.now.heads) (words self.now.rule.now) at) }
     {
         let Some(Word::Equality(count)) = word_at(self.rule, at) else {
@@ -136,6 +139,17 @@ impl Record<'_> {
         } else {
             Err(Reason::Unfit.at(at))
         }
+    }
+
+    // A fact: an expression, or an equality of two. One word alone that takes no arguments is told before anything else, so that no answer in memory is made
+    // ready for it.
+    pub fn fact(&self, at: usize) -> Result<usize, Refusal>
+        ensures { said result ≡ ending_of (read_fact (with_heads self.now.heads) (words self.now.rule.now) at) }
+    {
+        if let Some(0) = self.start_at(at) {
+            return Ok(at + 1);
+        }
+        self.longer_fact(at)
     }
 
     // The kind 3 word of a set, a delete or a subsume, and its arguments. A set has one expression more, its value, which is read with them.
