@@ -18,7 +18,7 @@ use Rattle.walks.proofs.Rows.{Going, going_start, going_room, going_next}
 use Rattle.walks.proofs.Asks.{counted_kept}
 use Rattle.query.specs.Flattened.{flattened_fact, query, FactAt, FactsAt}
 use Rattle.query.proofs.Pieces.{query_none, query_more}
-use Rattle.query.proofs.Facts.{fact_on, fact_begins, leaf_fact}
+use Rattle.query.proofs.Facts.{Begun, begun, fact_on, fact_begins, leaf_fact}
 use Rattle.query.proofs.Spots.{Spot, onward, FactAsked, FactsAsked, FactWalked, FactAnswers, FactsAnswers}
 
 -- the walk of `size` words as the facts fs from the spot p on
@@ -84,6 +84,9 @@ module _ {p : Spot} {n done : ℕ} {s1 cs1 : List ℕ} {w : Walk} (row : Row p n
 
     pub row_inside : w.next < length p.ws
     row_inside = fact_begins row_asked
+
+    pub row_begun : {u : ℕ} → u ≡ get_or p.ws w.next 0 → Begun (onward p s1 cs1 p.tops.sp w) u
+    row_begun is = begun row_asked is
 
     -- a fact that is refused refuses the whole
     pub row_stop : {s2 cs2 : List ℕ} {e : Stopped} → FactAnswers (onward p s1 cs1 p.tops.sp w) s2 cs2 (Err e) → FactsAnswers p n s2 cs2 (Err e)
