@@ -313,7 +313,7 @@ left_inside asks eq = let q = (left_asked (begun asks refl) eq).under in expr_in
 -- ---- both sides are names or literals
 
 module _ {ws s cs : List ℕ} {at a : ℕ} {t : Tops} (asks : AsksFact ws at t s cs) (eq : get_or ws at 0 ≡ equality_word)
-  (is : a ≡ get_or ws (at + 1) 0) (high : literal_base ≤ a) where
+    (is : a ≡ get_or ws (at + 1) 0) (high : literal_base ≤ a) where
   -- the left one is its own term
   leaf_left : Lefted (spot_of ws s cs at t) (get_or ws at 0) s cs (reached_at (at + 1 + 1) t.to t.log a)
   leaf_left = lefted asks refl eq (leaf_answer (behind (spot_of ws s cs at t)) max_depth a is high) refl refl

@@ -1,7 +1,5 @@
 -- One word that takes no arguments is a fact by itself, and any other is told by its first word. Assumes nothing.
-use mathlib.Core.Path.{refl}
 use native.Mathlib.Omega.{arith}
-use Rattle.octets.specs.Words.{words}
 use Rattle.octets.proofs.Words.{length_words}
 use Rattle.written.specs.Written.{with_heads}
 use Rattle.written.proofs.Laws.{starts, leaf_fact}
