@@ -63,8 +63,9 @@ module _ {k : Site} {v : ℕ} (h : Letting k v) {b : Bool} (test : Test k v b) w
       (λ (u : ℕ). Does k sig bound (lower_let (elem u bound) sig bound k.at u x.expr.value k.cs) (2 + x.expr.size) s' cs' r) h.is
       (subst (λ (u : Bool). Ends k v u s' cs' r (tree sig x bound n sc)) (sym e ∙ there) (f (tree sig x bound n sc)))
 
-  pub let_twice : {q : Refusal} → b ≡ true → (q.reason ≡ AlreadyDefined) × (q.place ≡ k.at) → LowersLet k k.s k.cs (Err (record { refusal = q; log = k.lg }))
-  let_twice {q} e is = answers true e twice
+  pub let_twice : {q : Refusal} {log : ℕ} → b ≡ true → (q.reason ≡ AlreadyDefined) × (q.place ≡ k.at) → log ≡ k.lg
+      → LowersLet k k.s k.cs (Err (record { refusal = q; log = log }))
+  let_twice {q} e is unused = rw unused (answers true e twice)
     where
       twice : (t : Tree k (LetThere k)) → Ends k v true k.s k.cs (Err (record { refusal = q; log = k.lg })) t
       twice t =

@@ -168,12 +168,12 @@ module _ {R : Type 0} {k : Call R} {g : Signature} {y : Ready k g} {needed repla
   words_kept : count ≡ length (words k.output)
   words_kept = words_are ∙ length_words_kept _ _ d.size
 
-  too_short : count < needed → {r : Answer} {c : List ℕ} → r ≡ refused_with short_output needed → c ≡ k.counters → Answers k r m c
+  pub too_short : count < needed → {r : Answer} {c : List ℕ} → r ≡ refused_with short_output needed → c ≡ k.counters → Answers k r m c
   too_short l a c =
       let z = ends_short d.result needed k.output m d.wrote (omega (arith, words_kept)) in
       comes_to k (refuse short_output needed) (made_is y (ok d.result) d.is ∙ z.0) a z.1 c
 
-  all_written : needed ≤ count → {c : List ℕ} → c ≡ bytes_of d.result.counters
+  pub all_written : needed ≤ count → {c : List ℕ} → c ≡ bytes_of d.result.counters
       → Answers k (record { number = 0; place = 0; words = needed; replacements = replacements; passes = passes }) m c
   all_written l c =
       let z = ends_written d.result needed k.output m d.wrote (omega (arith, words_kept)) y.whole.output d.size d.before d.after in

@@ -194,7 +194,7 @@ impl Sweep {
             (words s.old) (words s.new) at e k to d self.spans.at self.spans.count result }
     {
         let mut t = Canonical { words: 0, binds: d };
-        for i in (0..e).step_by(words::EQUALITY_WORDS) {
+        for i in (0..e).step_by(past_equality(0)) {
             let one = self.front_one(s, at + i, e - i + k, to + t.words, t.binds);
             t = Canonical {
                 words: t.words + one.words,

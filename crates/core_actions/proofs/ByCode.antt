@@ -101,12 +101,12 @@ module _ {gs : List ℕ} {k : Site} {w : ℕ} (g : Coded gs k w) where
         (same_change sig bound C (k.at + 1) head y.exprs.value k.cs) (g.is ∙ e)
         (done_change sig bound C code is (k.at + 1) head y.exprs.value k.cs) (does.1 sig y bound n sc)
 
-    delete_done : w - action_base ≡ 3 → LowersChange k w 0 s' cs' r → LowersAction gs k s' cs' r
+    pub delete_done : w - action_base ≡ 3 → LowersChange k w 0 s' cs' r → LowersAction gs k s' cs' r
     delete_done e does sig x bound n sc sg =
         delete_cases sig k.ws k.at x (Ends k sig bound s' cs' r) (word 3 e)
         (λ y. change_does Delete (action_word 3) (λ h ts. refl) (word 3 e) does sig y bound n sc)
 
-    subsume_done : w - action_base ≡ 4 → LowersChange k w 0 s' cs' r → LowersAction gs k s' cs' r
+    pub subsume_done : w - action_base ≡ 4 → LowersChange k w 0 s' cs' r → LowersAction gs k s' cs' r
     subsume_done e does sig x bound n sc sg =
         subsume_cases sig k.ws k.at x (Ends k sig bound s' cs' r) (word 4 e)
         (λ y. change_does Subsume (action_word 4) (λ h ts. refl) (word 4 e) does sig y bound n sc)
@@ -117,10 +117,10 @@ module _ {gs : List ℕ} {k : Site} {w : ℕ} (g : Coded gs k w) where
   pub set_asks : w - action_base ≡ 2 → Known k (λ sig. ChangeAt sig k.ws 1 k.at)
   set_asks e = asks (λ sig x. set_cases sig k.ws k.at x (λ y n. ChangeAt sig k.ws 1 k.at) (word 2 e) (λ y es v row. y))
 
-  delete_asks : w - action_base ≡ 3 → Known k (λ sig. ChangeAt sig k.ws 0 k.at)
+  pub delete_asks : w - action_base ≡ 3 → Known k (λ sig. ChangeAt sig k.ws 0 k.at)
   delete_asks e = asks (λ sig x. delete_cases sig k.ws k.at x (λ y n. ChangeAt sig k.ws 0 k.at) (word 3 e) (λ y. y))
 
-  subsume_asks : w - action_base ≡ 4 → Known k (λ sig. ChangeAt sig k.ws 0 k.at)
+  pub subsume_asks : w - action_base ≡ 4 → Known k (λ sig. ChangeAt sig k.ws 0 k.at)
   subsume_asks e = asks (λ sig x. subsume_cases sig k.ws k.at x (λ y n. ChangeAt sig k.ws 0 k.at) (word 4 e) (λ y. y))
 
   pub change_asks : 3 ≤ w - action_base → w - action_base < 5 → Known k (λ sig. ChangeAt sig k.ws 0 k.at)

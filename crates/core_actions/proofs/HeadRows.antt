@@ -93,10 +93,10 @@ module _ {h : Head} {left : ℕ} {s1 cs1 : List ℕ} {r : Acted} (row : Row h le
         left_names sig bound h.ws h.n h.at h.to h.lg h.scope h.s h.cs x left r.names r.count s1 cs1 (come_to r) l z,
       )
 
-  turn_room : RoomAt (turn h s1 cs1 r) r.next
+  pub turn_room : RoomAt (turn h s1 cs1 r) r.next
   turn_room = going_room (length h.ws) (length s1) row.room row.scratch row.going
 
-  turn_scope : ScopeRoomAt (turn h s1 cs1 r) r.next
+  pub turn_scope : ScopeRoomAt (turn h s1 cs1 r) r.next
   turn_scope =
       let sr = row.scope_room in
       let g = row.going in

@@ -75,7 +75,7 @@ module _ (H w : ℕ) where
   none_fits low n l = sym (leaf_term low) ∙ simp (n, l)
 
   -- a fresh variable is one by its head
-  fresh_term : fresh_base ≤ w → ltb ((w - fresh_base) / limit16) (min H limit12) ≡ is_term (with_heads H) w
+  pub fresh_term : fresh_base ≤ w → ltb ((w - fresh_base) / limit16) (min H limit12) ≡ is_term (with_heads H) w
   fresh_term high =
       rw (heads_below fresh_base (heads (with_heads H)) w high, heads_with H, false_above name_base limit12 w (omega arith), false_above literal_base limit16 w (omega arith))
       (nothing_else (ltb ((w - fresh_base) / limit16) (min H limit12)))

@@ -15,7 +15,6 @@ use refusals::{Reason, Refusal};
 use words::{
     Atom, FRESH_BASE, HeadOrEq, LIMIT_12, LIMIT_16, LITERAL_BASE, NAME_BASE, Term, Word, word_at,
 };
-use written::row;
 
 // A flat rule's words, and the numbers of heads and of globals that they are read under. What is read ends at the index behind it, or with a refusal.
 // It is not the record of `written`: a written rule is read without G, and a struct has its methods in its own crate.
@@ -114,7 +113,11 @@ impl Record<'_> {
     fn terms(&self, at: usize, count: u32) -> Result<usize, Refusal>
         ensures { said result ≡ ending_of (read_row (read_term (with_heads self.now.heads) (words self.now.rule.now)) count at) }
     {
-        row(|next| self.term(next), at, count)
+        let mut next = at;
+        for _ in 0..count {
+            next = self.term(next)?;
+        }
+        Ok(next)
     }
 }
 

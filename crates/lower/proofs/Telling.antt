@@ -1,14 +1,16 @@
 -- From the contract of `tulgarent_lower`, on the bytes that the program lends, to what its answer tells of `lower_all`. What is known of the bytes lent is
--- a record, `Lent`. Assumes nothing.
-use mathlib.Core.Path.{◌≡◌, sym, ap, ◌∙◌}
+-- a record, `Cut`. Assumes nothing.
+use mathlib.Core.Path.{◌≡◌, sym, ap, ◌∙◌, subst}
 use mathlib.Core.Bool.{Bool, true, false≢true}
 use mathlib.Core.List.{List, [], ◌∷◌, ◌++◌}
-use Prim.Native.Nat.{ℕ, zero, suc, ◌*◌, ◌/◌, ◌%◌, ◌≤◌, ◌<◌, min}
+use Prim.Native.Nat.{ℕ, zero, suc, ◌-◌, ◌*◌, ◌/◌, ◌%◌, ◌<◌, min}
 use native.Mathlib.Omega.{arith}
-use lib.ListN.{length, take, drop, replicate, length-take, length-drop}
+use lib.ListN.{length, take, drop, replicate, length-take}
 use lib.Seq.{length-take-le}
 use borrow.Author.Tests.{eq-eqb}
+use borrow.Rule.Slice.PartMut.{mid_of, mid_len}
 use Rattle.octets.specs.Words.{words, bytes_of}
+use Rattle.octets.specs.Regions.{part}
 use Rattle.octets.proofs.Words.{words_take}
 use Rattle.rules.specs.Words.{max_lines, scratch_words}
 use Rattle.rules.specs.Refusals.{Res, ok, refuse, ◌>>=◌, demand, ragged}
@@ -19,11 +21,10 @@ use Rattle.meaning.specs.Numbers.{lower_numbers}
 use Rattle.meaning.proofs.Numbers.{lower_numbers_lem}
 use Rattle.meaning.proofs.Results.{bind_ok}
 use Rattle.meaning.proofs.Demand3Bytes.{lowered_words}
-use Rattle.lines.proofs.SignatureLengths.{length_most}
 use Rattle.answers.specs.declared.Answer.{Answer}
 use Rattle.answers.specs.Answers.{answer_of, GivesBoth}
 use Rattle.lower.specs.Answers.{Tells}
-use Rattle.lower.specs.Room.{Zeros}
+use Rattle.lower.proofs.Cut.{Given, Cut}
 use Rattle.lower.proofs.Cutting.{signature_cut, rule_cut, zeros_words}
 
 -- ---- any call
@@ -75,56 +76,64 @@ module _ (sb rb cb ob : List ℕ) (sc : ℕ) {r : Answer} {m d : List ℕ} (g : 
 
 -- ---- the program's call
 
--- the bytes of the words, the signature's length, the two parts lent, and the bytes of counters, output and scratch
-pub record Lent (given : List ℕ) (signature : ℕ) (front rule counters output scratch : List ℕ) : Type 0 where
-  pub few : length (words given) ≤ max_lines
-  pub whole : length given ≡ 4 * length (words given)
-  pub is : signature ≡ signature_length (words given)
-  pub zeros : Zeros (4 * max_lines) counters
-  pub room : length output ≡ 4 * scratch_words
-  pub work : length scratch ≡ 4 * scratch_words
-  pub begins : front ≡ take (min (length given) (4 * signature)) given
-  pub ends : rule ≡ drop (min (length given) (4 * signature)) given
+module _ {k : Given} (h : Cut k) where
+  abbrev ws : List ℕ
+  ws = part (words k.given) 0 k.count
 
--- there is a counter for each word of the signature
-signature_most : (given : List ℕ) {signature : ℕ} → length (words given) ≤ max_lines → signature ≡ signature_length (words given) → signature ≤ max_lines
-signature_most given few is = omega (arith, is, length_most (words given) few)
+  abbrev sb : List ℕ
+  sb = take (4 * k.cut) k.given
 
-module _ {given front rule counters output scratch : List ℕ} {signature : ℕ} (h : Lent given signature front rule counters output scratch) where
+  abbrev rb : List ℕ
+  rb = mid_of (4 * k.cut) (4 * k.count - 4 * k.cut) k.given
+
   abbrev cb : List ℕ
-  cb = take (4 * signature) counters
+  cb = take (4 * k.signature) k.counters
 
   abbrev lengths : List ℕ
-  lengths = length front ∷ length rule ∷ length cb ∷ length output ∷ length scratch ∷ []
+  lengths = length sb ∷ length rb ∷ length cb ∷ length k.output ∷ length k.scratch ∷ []
 
-  whole_lem : whole_words lengths ≡ true
-  whole_lem =
-      let a = ap length h.begins ∙ length-take (min (length given) (4 * signature)) given in
-      let b = ap length h.ends ∙ length-drop (min (length given) (4 * signature)) given in
-      let most = signature_most given h.few h.is in
-      let c = length-take-le (4 * signature) counters (omega (arith, most, h.zeros.size)) in
+  pub signature_lent : length sb ≡ 4 * k.cut
+  signature_lent = length-take-le (4 * k.cut) k.given (omega (arith, h.inside, h.bytes))
+
+  pub counters_lent : length cb ≡ 4 * k.signature
+  counters_lent = length-take-le (4 * k.signature) k.counters h.counted
+
+  whole : whole_words lengths ≡ true
+  whole =
+      let a = signature_lent in
+      let b : length rb ≡ 4 * k.count - 4 * k.cut = mid_len (4 * k.cut) (4 * k.count) k.given (omega (arith, h.bytes)) in
+      let c = counters_lent in
+      let o = h.room in
+      let s = h.work in
       rw (
-        eq-eqb (length front % 4) 0 (omega (arith, a, h.whole)),
-        eq-eqb (length rule % 4) 0 (omega (arith, b, h.whole)),
-        eq-eqb (length cb % 4) 0 (omega (arith, c)),
-        eq-eqb (length output % 4) 0 (omega (arith, h.room)),
-        eq-eqb (length scratch % 4) 0 (omega (arith, h.work)),
+        eq-eqb (length sb % 4) 0 (omega arith),
+        eq-eqb (length rb % 4) 0 (omega arith),
+        eq-eqb (length cb % 4) 0 (omega arith),
+        eq-eqb (length k.output % 4) 0 (omega arith),
+        eq-eqb (length k.scratch % 4) 0 (omega arith),
       )
 
-  comes : lower_res front rule cb output (length scratch) ≡ lower_all (words given)
+  comes : lower_res sb rb cb k.output (length k.scratch) ≡ lower_all ws
   comes =
-      let sb : words front ≡ take (signature_length (words given)) (words given) =
-      ap words h.begins ∙ signature_cut given signature ∙ ap (λ (i : ℕ). take i (words given)) h.is in
-      let rb : words rule ≡ drop (signature_length (words given)) (words given) =
-      ap words h.ends ∙ rule_cut given signature ∙ ap (λ (i : ℕ). drop i (words given)) h.is in
-      let zero : words cb ≡ replicate (signature_length (words given)) 0 =
-      zeros_words counters max_lines signature h.zeros (signature_most given h.few h.is) ∙ ap (λ (i : ℕ). replicate i 0) h.is in
-      let room : length output / 4 ≡ scratch_words = omega (arith, h.room) in
-      let work : length scratch / 4 ≡ scratch_words = omega (arith, h.work) in
-      ap
-      (λ (t : Bool). ◌>>=◌ (demand t ragged 0 lengths)
-      (λ ns. lower_words (words front) (words rule) (words cb) (length output / 4) (length scratch / 4))) whole_lem
-      ∙ (λ i. lower_words (sb i) (rb i) (zero i) (room i) (work i))
+      let signature : words sb ≡ take (signature_length ws) ws =
+      ap (λ (i : ℕ). words (take (4 * i) k.given)) h.here ∙ signature_cut k.given k.count k.signature h.all ∙ ap (λ (i : ℕ). take i ws) h.is in
+      let rule : words rb ≡ drop (signature_length ws) ws =
+      ap (λ (i : ℕ). words (mid_of (4 * i) (4 * k.count - 4 * i) k.given)) h.here ∙ rule_cut k.given k.count k.signature h.all
+      ∙ ap (λ (i : ℕ). drop i ws) h.is in
+      let counters : words cb ≡ replicate (signature_length ws) 0 =
+      zeros_words k.counters max_lines k.signature h.zeros h.most ∙ ap (λ (i : ℕ). replicate i 0) h.is in
+      let room : length k.output / 4 ≡ scratch_words = omega (arith, h.room) in
+      let work : length k.scratch / 4 ≡ scratch_words = omega (arith, h.work) in
+      ap (λ (t : Bool). ◌>>=◌ (demand t ragged 0 lengths) (λ ns. lower_words (words sb) (words rb) (words cb) (length k.output / 4) (length k.scratch / 4))) whole
+      ∙ (λ i. lower_words (signature i) (rule i) (counters i) (room i) (work i))
 
-  pub tells_all : {r : Answer} {m d : List ℕ} → GivesBoth (lower front rule cb output (length scratch)) r m d → Tells (lower_all (words given)) r (words m)
-  tells_all g = tells front rule cb output (length scratch) g (lower_all (words given)) comes
+  pub tells_all : {r : Answer} {m d : List ℕ} → GivesBoth (lower sb rb cb k.output (length k.scratch)) r m d → Tells (lower_all ws) r (words m)
+  tells_all g = tells sb rb cb k.output (length k.scratch) g (lower_all ws) comes
+
+  -- and of parts that are these
+  pub tells_lent : {front rule : List ℕ} → front ≡ sb → rule ≡ rb → {r : Answer} {m d : List ℕ}
+      → GivesBoth (lower front rule cb k.output (length k.scratch)) r m d → Tells (lower_all ws) r (words m)
+  tells_lent {front} {rule} f e {r} {m} {d} g =
+      tells_all
+      (subst (λ (l : List ℕ). GivesBoth (lower l rb cb k.output (length k.scratch)) r m d) f
+      (subst (λ (l : List ℕ). GivesBoth (lower front l cb k.output (length k.scratch)) r m d) e g))

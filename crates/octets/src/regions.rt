@@ -8,14 +8,16 @@ ghost use Rattle.octets.specs.Regions.{splice, part, Clear, swap, elem};
 
 use crate::{count, get, put};
 
-// Writes the words of `src` at `at`.
+// Writes the words of `src` at `at`. By words and not by std's `copy_from_slice`: of a length that is known only when it runs this calls the C library's
+// `memmove`, and the archive asks for no name from outside but `memset`.
 #[tactic(auto, using(crate::proofs::Words::length_words))]
 pub fn copy(out: &mut [u8], at: usize, src: &[u8])
     requires { at + length (words src.now) ≤ length (words out.old) }
     ensures { words out.new ≡ splice (words out.old) at (words src.now) }
 {
-    let n = count(src);
-    out[4 * at..4 * (at + n)].copy_from_slice(&src[..4 * n]);
+    for i in 0..count(src) {
+        put(out, at + i, get(src, i));
+    }
 }
 
 // Writes the n words from `from` on at `to` of the same slice. `to` lies at or below `from`, or beyond those words, since a word must not

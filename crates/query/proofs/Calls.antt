@@ -34,13 +34,14 @@ pub record Fronted (p : Spot) (d w v n k : ℕ) (s1 cs1 sl : List ℕ) : Type 0 
   pub put : sl ≡ splice s1 (p.tops.to + 1) (part p.ws (p.at + 1) k)
   pub left : length sl ≡ length s1
 
--- so it is by what is asked of the call, its word, its variable and the arguments in front
+-- so it is by what is asked of the call, its word, its variable, which is what is answered, r, and the arguments in front
 pub fronted : {ws s cs row : List ℕ} {at d w v k : ℕ} {t : Tops} {q : HeadWord} (s1 cs1 sl : List ℕ) (bound : ℕ) → AsksExpr ws d at t s cs
     → (w ≡ get_or ws at 0) × (w < literal_base)
-    → q ≡ head_word_of w → Asked (spot_of ws s cs at t) q.head (Ok v) s1 cs1 → length cs1 ≡ length cs → length s1 ≡ length s
+    → q ≡ head_word_of w → (r : Result ℕ Stopped) → Asked (spot_of ws s cs at t) q.head r s1 cs1 → r ≡ Ok v → length cs1 ≡ length cs → length s1 ≡ length s
     → row ≡ part ws (at + 1) q.count → (k ≡ leaves_up_to bound row) × (sl ≡ splice s1 (t.to + 1) (part row 0 k)) → length sl ≡ length s1
     → Fronted (spot_of ws s cs at t) d w v q.count k s1 cs1 sl
-fronted {ws} {s} {cs} {at = at} {d} {w} {t = t} {q = q} s1 cs1 sl bound asks word is asked counters scratch row leaves left =
+fronted {ws} {s} {cs} {at = at} {d} {w} {v} {t = t} {q = q} s1 cs1 sl bound asks word is r answered taken counters scratch row leaves left =
+    let asked : Asked (spot_of ws s cs at t) q.head (Ok v) s1 cs1 = subst (λ (x : Result ℕ Stopped). Asked (spot_of ws s cs at t) q.head x s1 cs1) taken answered in
     let begins : Begun (spot_of ws s cs at t) d w = begun asks word in
     let count = count_says is in
     let front = leaves_in ws (at + 1) q.count bound s1 (t.to + 1) (omega (arith, begins.atom.inside, count)) row leaves in

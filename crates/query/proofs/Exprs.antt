@@ -90,13 +90,15 @@ module _ {p : Spot} {d w : ℕ} (g : Begun p d w) where
 abbrev pub Asked : Spot → ℕ → Result ℕ Stopped → List ℕ → List ℕ → Type 0
 Asked p h v s1 cs1 = Taken (fresh p.at h p.cs) p.tops.log p.s p.cs s1 cs1 v
 
--- there is none. The head h that was asked is that of w
-pub none_left : {p : Spot} {d w h : ℕ} (g : Begun p d w) {e : Stopped} (s1 cs1 : List ℕ) → h ≡ head_of w → Asked p h (Err e) s1 cs1
+-- there is none: what is answered, r, is the refusal e. The head h that was asked is that of w
+pub none_left : {p : Spot} {d w h : ℕ} (g : Begun p d w) {e : Stopped} (s1 cs1 : List ℕ) → h ≡ head_of w → (r : Result ℕ Stopped) → Asked p h r s1 cs1
+    → r ≡ Err e
     → ExprAnswers p d s1 cs1 (Err e)
-none_left {p} {d} {w} g {e} s1 cs1 is asked =
+none_left {p} {d} {w} {h} g {e} s1 cs1 is r asked refused =
+    let full : Asked p h (Err e) s1 cs1 = subst (λ (x : Result ℕ Stopped). Asked p h x s1 cs1) refused asked in
     answer g s1 cs1 (Err e)
     (λ sig es c high. full_first (1 + es.size) p.at p.tops.to p.tops.sp p.tops.log p.s p.cs s1 cs1 e (fresh p.at (head_of w) p.cs) _
-    (subst (λ (i : ℕ). Asked p i (Err e) s1 cs1) is asked))
+    (subst (λ (i : ℕ). Asked p i (Err e) s1 cs1) is full))
 
 pub record Named {p : Spot} {d w : ℕ} (g : Begun p d w) (v : ℕ) (s1 cs1 : List ℕ) : Type 0 where
   pub asked : Asked p (head_of w) (Ok v) s1 cs1

@@ -3,8 +3,9 @@ use mathlib.Core.Path.{◌≡◌, refl, sym, subst}
 use mathlib.Core.List.{List, ◌∷◌, ◌++◌}
 use Prim.Native.Nat.{ℕ, ◌+◌, ◌-◌, ◌≤◌, ◌<◌}
 use native.Mathlib.Omega.{arith}
-use lib.ListN.{length}
+use lib.ListN.{length, get_or}
 use Rattle.std.specs.Prelude.{Result, Ok, Err}
+use Rattle.rules.specs.Words.{literal_base}
 use Rattle.rules.specs.Refusals.{ok, ◌>>=◌}
 use Rattle.rules.specs.Signature.{Sig}
 use Rattle.rules.specs.Written.{Fact, read_fact, read_row}
@@ -17,7 +18,7 @@ use Rattle.walks.proofs.Rows.{Going, going_start, going_room, going_next}
 use Rattle.walks.proofs.Asks.{counted_kept}
 use Rattle.query.specs.Flattened.{flattened_fact, query, FactAt, FactsAt}
 use Rattle.query.proofs.Pieces.{query_none, query_more}
-use Rattle.query.proofs.Facts.{fact_on}
+use Rattle.query.proofs.Facts.{Begun, begun, fact_on, fact_begins, leaf_fact}
 use Rattle.query.proofs.Spots.{Spot, onward, FactAsked, FactsAsked, FactWalked, FactAnswers, FactsAnswers}
 
 -- the walk of `size` words as the facts fs from the spot p on
@@ -81,6 +82,12 @@ module _ {p : Spot} {n done : ℕ} {s1 cs1 : List ℕ} {w : Walk} (row : Row p n
         (row.rest q.sig q.known.0 q.known.1).rest (omega arith) (λ f fs. f) in
         record { under = record { sig = q.sig; known = (f, counted_kept q.known.1 row.going.kept.heads) }; room = next_room }
 
+    pub row_inside : w.next < length p.ws
+    row_inside = fact_begins row_asked
+
+    pub row_begun : {u : ℕ} → u ≡ get_or p.ws w.next 0 → Begun (onward p s1 cs1 p.tops.sp w) u
+    row_begun is = begun row_asked is
+
     -- a fact that is refused refuses the whole
     pub row_stop : {s2 cs2 : List ℕ} {e : Stopped} → FactAnswers (onward p s1 cs1 p.tops.sp w) s2 cs2 (Err e) → FactsAnswers p n s2 cs2 (Err e)
     row_stop {s2} {cs2} {e} walk sig x c =
@@ -141,3 +148,8 @@ module _ {p : Spot} {n done : ℕ} {s1 cs1 : List ℕ} {w : Walk} (row : Row p n
                       (walk_then f.size fs.size w.next w.to p.tops.sp p.tops.sp w.log s1 cs1 s2 cs2 s' cs' a stack (omega arith) (omega arith) 0 NoTerms
                       (flattened_fact f.value cs1) (query fs.value) (omega arith) z more (λ b q u t v. (λ i. t.0 i ++ v.0 i, v.1))));
                 }
+
+    -- a name or a literal alone leaves one less, and nothing is written
+    pub row_leaf : {u : ℕ} → u ≡ get_or p.ws w.next 0 → literal_base ≤ u → Row p n (done + 1) s1 cs1 (reached_at (w.next + 1) w.to w.log w.term)
+    row_leaf is high =
+        subst (λ (t : ℕ). Row p n (done + 1) s1 cs1 (reached_at (w.next + 1) w.to w.log t)) (sym row.silent) (row_next (leaf_fact row_asked is high))

@@ -11,7 +11,7 @@ use lib.ListN.{length, get_or}
 use borrow.Author.Tests.{lt-ltb, eqb-true, eq-eqb}
 use Rattle.std.specs.Prelude.{Result, Ok, Err}
 use Rattle.octets.specs.Regions.{splice}
-use Rattle.rules.specs.Words.{max_depth, equality_word}
+use Rattle.rules.specs.Words.{max_depth, equality_word, literal_base}
 use Rattle.rules.specs.Refusals.{Res, ok, ◌>>=◌}
 use Rattle.rules.specs.Signature.{Sig}
 use Rattle.rules.specs.Written.{Expr, Fact, holds, equal, Read, read_expr, read_equal, read_holds, read_fact}
@@ -24,9 +24,10 @@ use Rattle.walks.specs.declared.Stopped.{Stopped}
 use Rattle.walks.specs.declared.Tops.{Tops}
 use Rattle.walks.proofs.Steps.{went, stop, with_terms, placed, walk_then, Own, written}
 use Rattle.walks.proofs.Read.{moved, expr_at}
-use Rattle.walks.proofs.Asks.{counted_kept, There, right_there}
+use Rattle.walks.proofs.Asks.{counted_kept, expr_inside, There, right_there}
 use Rattle.query.specs.Flattened.{flattened, flattened_fact, FactAt, AsksFact, FlattensExpr}
 use Rattle.query.proofs.Pieces.{silent, equated, flattened_holds, flattened_equal}
+use Rattle.query.proofs.Exprs.{leaf_answer}
 use Rattle.query.proofs.Spots.{Spot, spot_of, onward, FactAsked, ExprAsked, ExprAnswers, FactWalked, FactAnswers}
 
 -- ---- what the first word of a fact tells
@@ -201,6 +202,18 @@ module _ {p : Spot} {w : ℕ} (g : Begun p w) where
             stop size p.at (flattened a.value p.cs) (λ q. ◌>>=◌ (flattened b.value q.next) (λ u. ok (both q u))) (walk sig a c) (omega arith) in
             stop size p.at (and_then (flattened a.value p.cs) (flattened b.value)) (λ q. ok (equated q)) one (omega arith)
 
+-- ---- it is a name or a literal alone
+
+pub fact_begins : {p : Spot} → FactAsked p → p.at < length p.ws
+fact_begins {p} q = (begun q refl).inside
+
+-- such a fact has no atom
+pub leaf_fact : {p : Spot} {w : ℕ} → FactAsked p → w ≡ get_or p.ws p.at 0 → literal_base ≤ w
+    → FactAnswers p p.s p.cs (Ok (reached_at (p.at + 1) p.tops.to p.tops.log 0))
+leaf_fact {p} {w} q is high =
+    let ne : w ≡ equality_word → ⊥ = λ e. omega (arith, e, high) in
+    holds_answer (begun q is) ne (leaf_answer p max_depth w is high)
+
 -- ---- the left side of an equality is flattened: l, with s1 and cs1 left behind
 
 pub record Lefted (p : Spot) (w : ℕ) (s1 cs1 : List ℕ) (l : Walk) : Type 0 where
@@ -292,3 +305,25 @@ module _ {p : Spot} {w : ℕ} {s1 cs1 : List ℕ} {l : Walk} {s2 cs2 : List ℕ}
           (and_then (flattened a.value p.cs) (flattened b.value)) equated
           (omega (arith, room.words)) (omega (arith, room.stack)) (omega (arith, room.log)) (omega arith) (omega arith) (omega arith)
           (sides o.left o.walk sig a b c) put (omega arith) own
+
+-- an equality has a left side
+pub left_inside : {ws s cs : List ℕ} {at : ℕ} {t : Tops} → AsksFact ws at t s cs → get_or ws at 0 ≡ equality_word → at + 1 < length ws
+left_inside asks eq = let q = (left_asked (begun asks refl) eq).under in expr_inside q.sig _ max_depth _ q.known.0
+
+-- ---- both sides are names or literals
+
+module _ {ws s cs : List ℕ} {at a : ℕ} {t : Tops} (asks : AsksFact ws at t s cs) (eq : get_or ws at 0 ≡ equality_word)
+    (is : a ≡ get_or ws (at + 1) 0) (high : literal_base ≤ a) where
+  -- the left one is its own term
+  leaf_left : Lefted (spot_of ws s cs at t) (get_or ws at 0) s cs (reached_at (at + 1 + 1) t.to t.log a)
+  leaf_left = lefted asks refl eq (leaf_answer (behind (spot_of ws s cs at t)) max_depth a is high) refl refl
+
+  pub leaf_behind : at + 1 + 1 < length ws
+  leaf_behind = let q = (right_asked leaf_left).under in expr_inside q.sig _ max_depth _ q.known.0
+
+  -- and so is the right one
+  pub leaves_met : {b : ℕ} → b ≡ get_or ws (at + 1 + 1) 0 → literal_base ≤ b
+      → Righted (spot_of ws s cs at t) (get_or ws at 0) s cs (reached_at (at + 1 + 1) t.to t.log a) s cs (reached_at (at + 1 + 1 + 1) t.to t.log b)
+  leaves_met {b} is' high' =
+      righted leaf_left
+      (leaf_answer (onward (spot_of ws s cs at t) s cs t.sp (reached_at (at + 1 + 1) t.to t.log a)) max_depth b is' high') refl

@@ -8,7 +8,7 @@
 ghost use Rattle.std.specs.Prelude.{◌≡◌, ◌∷◌, [], ◌++◌, ◌+◌, ◌≤◌, ◌<◌, length, get_or};
 ghost use Rattle.octets.specs.Words.{words};
 ghost use Rattle.octets.specs.Regions.{splice, part};
-ghost use Rattle.rules.specs.Words.{literal_base};
+ghost use Rattle.rules.specs.Words.{literal_base, equality_word};
 ghost use Rattle.query.specs.Flattened.{AsksExpr, AsksExprs, AsksFact, AsksFacts};
 ghost use Rattle.query.specs.Flattened.{FlattensExpr, FlattensExprs, FlattensFact, FlattensFacts};
 
@@ -132,23 +132,34 @@ fn flatten_all(
     Ok(Walk { term: 0, ..walk })
 }
 
-// Flattens the fact at `at`. The atom of an equality comes behind those of its left and of its right side; a bare name or literal has none.
-fn flatten_fact(
+// Flattens the equality at `at`. Its atom comes behind those of its left and of its right side. Two sides that are names or literals, as most are, are told
+// by their words: as walks their answers would stand in memory.
+fn flatten_equality(
     rule: &[u8],
     at: usize,
     counters: &mut [u8],
     scratch: &mut [u8],
     tops: Tops,
 ) -> Result<Walk, Stopped>
-    requires { AsksFact (words rule.now) at tops (words scratch.old) (words counters.old) }
+    requires asks { AsksFact (words rule.now) at tops (words scratch.old) (words counters.old) }
+    requires equality { get_or (words rule.now) at 0 ≡ equality_word }
     ensures { FlattensFact (words rule.now) at tops (words scratch.old) (words counters.old) (words scratch.new) (words counters.new) result }
 {
-    let w = octets::get(rule, at);
-    if w != EQUALITY {
-        let e = flatten(rule, at, MAX_DEPTH, counters, scratch, tops)?;
-        return Ok(Walk { term: 0, ..e });
+    let first = at + 1;
+    let a = octets::get(rule, first);
+    if words::is_leaf(a) {
+        let second = first + 1;
+        let b = octets::get(rule, second);
+        if words::is_leaf(b) {
+            return Ok(Walk {
+                next: second + 1,
+                to: octets::rows::put_all(scratch, tops.to, &[EQUALITY, a, b]),
+                log: tops.log,
+                term: 0,
+            });
+        }
     }
-    let left = flatten(rule, at + 1, MAX_DEPTH, counters, scratch, tops)?;
+    let left = flatten(rule, first, MAX_DEPTH, counters, scratch, tops)?;
     let right = flatten(
         rule,
         left.next,
@@ -165,7 +176,8 @@ fn flatten_fact(
     })
 }
 
-// Flattens the n facts from `at` on.
+// Flattens the n facts from `at` on, each by its first word. A bare name or literal has no atom. That word and a call are dealt with here and not in a
+// function of their own, since the compiler clears the place of an answer in memory for each.
 pub fn to_query(
     rule: &[u8],
     at: usize,
@@ -184,7 +196,18 @@ pub fn to_query(
         term: 0,
     };
     for _ in 0..n {
-        walk = flatten_fact(rule, walk.next, counters, scratch, walk.tops(tops.sp))?;
+        let w = octets::get(rule, walk.next);
+        if words::is_leaf(w) {
+            walk.next += 1;
+            continue;
+        }
+        let here = walk.tops(tops.sp);
+        if w == EQUALITY {
+            walk = flatten_equality(rule, walk.next, counters, scratch, here)?;
+            continue;
+        }
+        let call = flatten_call(rule, walk.next, w, MAX_DEPTH, counters, scratch, here)?;
+        walk = Walk { term: 0, ..call };
     }
     Ok(walk)
 }

@@ -14,7 +14,7 @@ ghost use Rattle.written.specs.Written.{whole_of};
 ghost use Rattle.reads.specs.Answers.{reader_of, Says, heads_behind, written_alone, flat_alone, Answers};
 
 use refusals::Refusal;
-use std::io::{Stdout, Write};
+use std::io::Stdout;
 
 // The bytes of a word in a line: a space and eight digits.
 const SPACED: usize = 9;
@@ -123,18 +123,23 @@ fn read_record(reader: Reader, bytes: &[u8], heads: u32) -> Answer
 
 // ---- printing
 
-// Prints a reader's letter and what it answers for a record. What can't be printed is passed over, here and below: the lines that follow are read all the same.
+// Prints a reader's letter and what it answers for a record. A piece that can't be printed is passed over, here and below: the pieces and the lines that follow
+// are printed all the same.
 fn print_answer(out: &mut Stdout, letter: u8, answer: Answer) {
-    let reader = char::from(letter);
-    let _ = match answer.read {
-        Ok(count) => writeln!(out, "{reader} ok {count}"),
-        Err(refusal) => writeln!(
-            out,
-            "{reader} refused {} {}",
-            refusal.reason.number(),
-            refusal.place
-        ),
-    };
+    let _ = streams::write_all(out, &[letter]);
+    match answer.read {
+        Ok(count) => {
+            let _ = streams::write_all(out, b" ok ");
+            let _ = streams::print_decimal(out, count as u64);
+        }
+        Err(refusal) => {
+            let _ = streams::write_all(out, b" refused ");
+            let _ = streams::print_decimal(out, refusal.reason.number());
+            let _ = streams::write_all(out, b" ");
+            let _ = streams::print_decimal(out, refusal.place as u64);
+        }
+    }
+    let _ = streams::write_all(out, b"\n");
 }
 
 // Reads a line's record and prints the answer. Returns H for the lines that follow.

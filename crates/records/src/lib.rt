@@ -1,20 +1,18 @@
-// Reading the records of 01: whether each is good, and else the refusal. What rules hold is read in crates of their own. The header is taken by `let .. else`,
-// the form that document 01 names for each expected word.
+// Reading the records of 01: whether each is good, and else the refusal. What rules hold is read in crates of their own.
 #![tactic(auto)]
 
-ghost use Rattle.std.specs.Prelude.{ℕ, ◌≡◌};
+pub mod rows; // rows.rt: rows of what rules hold, and rules of two of them
+
+ghost use Rattle.std.specs.Prelude.{◌≡◌};
 ghost use Rattle.octets.specs.Words.{words};
 ghost use Rattle.refusals.specs.Numbers.{said};
-ghost use Rattle.rules.specs.Refusals.{Res};
-ghost use Rattle.rules.specs.Written.{read_written};
-ghost use Rattle.rules.specs.Flat.{read_flat};
+ghost use Rattle.rules.specs.Written.{read_row, read_written};
+ghost use Rattle.rules.specs.Flat.{read_atom, read_flat};
 ghost use Rattle.rules.specs.Calls.{length_fits};
-ghost use Rattle.written.specs.Written.{with_heads, whole_of, Tells};
-ghost use Rattle.records.specs.Rows.{whole_ends};
+ghost use Rattle.written.specs.Written.{with_heads, ending_of, whole_of};
 
 use refusals::{Reason, Refusal};
-use words::{Word, word_at};
-use written::row;
+use rows::{Item, row, whole_rule};
 
 // The words of a written rule, and of a flat rule given as input.
 pub const MAX_WRITTEN: usize = 512;
@@ -33,43 +31,23 @@ pub fn length_fits(rule: &[u8], most: usize) -> Result<usize, Refusal>
     }
 }
 
-// A whole rule, with nothing behind it: its header, a row of what its body holds, and a row of its actions. It ends with its words.
-pub fn whole_rule<B: Fn(usize) -> Result<usize, Refusal>, H: Fn(usize) -> Result<usize, Refusal>>(
-    rule: &[u8],
-    body: B,
-    head: H,
-) -> Result<usize, Refusal>
-    requires { B.IsAlwaysCallable body × H.IsAlwaysCallable head }
-    ensures { (f g : ℕ → Res ℕ) → Tells (B.post body) f → Tells (H.post head) g → said result ≡ whole_ends f g (words rule.now) }
-{
-    let Some(Word::Header(some, more)) = word_at(rule, 0) else {
-        return Err(Reason::Unfit.at(0));
-    };
-    let actions = row(body, 1, some)?;
-    let end = row(head, actions, more)?;
-    let count = octets::count(rule);
-    if end < count {
-        return Err(Reason::Unfit.at(end));
-    }
-    Ok(count)
-}
-
-// A whole written rule. Which of its names are globals is not asked here.
+// A whole written rule, with nothing behind it. Which of its names are globals is not asked here, so any G would do.
 pub fn written(rule: &[u8], heads: u32) -> Result<usize, Refusal>
     ensures { said result ≡ whole_of (words rule.now) (read_written (with_heads heads) (words rule.now)) }
 {
-    let record = written::Record { rule, heads };
-    whole_rule(rule, |at| record.fact(at), |at| record.action(at))
+    whole_rule(rule, heads, 0, Item::Fact, Item::Action)
 }
 
-// A whole flat rule.
+// `count` atoms, one after the other.
+pub fn atoms(rule: &[u8], heads: u32, globals: u32, at: usize, count: u32) -> Result<usize, Refusal>
+    ensures { said result ≡ ending_of (read_row (read_atom (with_heads heads) (words rule.now)) count at) }
+{
+    row(rule, heads, globals, at, count, Item::Atom)
+}
+
+// A whole flat rule, with nothing behind it.
 pub fn flat(rule: &[u8], heads: u32, globals: u32) -> Result<usize, Refusal>
     ensures { said result ≡ whole_of (words rule.now) (read_flat (with_heads heads) (words rule.now)) }
 {
-    let record = flat::Record {
-        rule,
-        heads,
-        globals,
-    };
-    whole_rule(rule, |at| record.atom(at), |at| record.action(at))
+    whole_rule(rule, heads, globals, Item::Atom, Item::CoreAction)
 }

@@ -23,11 +23,12 @@ pub enum Reason {
     Ragged,
 }
 
-// A refusal: its reason, and the place that goes with it.
+// A refusal: its reason, and the place that goes with it. The place stands in front, where the value of an answer that is no refusal stands too: so
+// neither is put together from bytes.
 #[derive(Clone, Copy, Debug, PartialEq, Eq)]
 pub struct Refusal {
-    pub reason: Reason,
     pub place: usize,
+    pub reason: Reason,
 }
 
 impl Reason {

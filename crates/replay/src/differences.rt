@@ -5,15 +5,27 @@ ghost use Rattle.replay.specs.Differences.{differ as Differences·differ, answer
 
 use crate::cases::Case;
 use answers::Answer;
+use std::io::Stdout;
 
-// Two numbers. A line that can't be printed is passed over: what differs is counted all the same.
-fn differ(case: &Case, what: &str, found: u64, expected: u64) -> u64
+// Prints a number behind what it is. A piece that can't be printed is passed over, here and below: the pieces that follow are printed all the same, and what
+// differs is counted.
+pub fn say(mut out: Stdout, what: &[u8], n: u64) {
+    let _ = streams::write_all(&mut out, what);
+    let _ = streams::print_decimal(&mut out, n);
+}
+
+// Two numbers.
+fn differ(case: &Case, what: &[u8], found: u64, expected: u64) -> u64
     ensures { (result ≡ Differences·differ found expected) × (result ≤ 1) }
 {
     if found == expected {
         return 0;
     }
-    let _ = println!(case.out; "case {}: {what} {found}, expected {expected}", case.number);
+    let mut out = case.out;
+    say(out, b"case ", case.number as u64);
+    say(out, what, found);
+    say(out, b", expected ", expected);
+    let _ = streams::write_all(&mut out, b"\n");
     1
 }
 
@@ -32,16 +44,16 @@ fn alike(found: &[u8], expected: &[u8]) -> usize
 fn answers(case: &Case, found: Answer, expected: Answer) -> u64
     ensures { (result ≡ answers_differ found expected) × (result ≤ 5) }
 {
-    let number = differ(case, "number", found.number, expected.number);
-    let place = differ(case, "place", found.place, expected.place);
-    let words = differ(case, "words", found.words, expected.words);
+    let number = differ(case, b": number ", found.number, expected.number);
+    let place = differ(case, b": place ", found.place, expected.place);
+    let words = differ(case, b": words ", found.words, expected.words);
     let replacements = differ(
         case,
-        "replacements",
+        b": replacements ",
         found.replacements,
         expected.replacements,
     );
-    let passes = differ(case, "passes", found.passes, expected.passes);
+    let passes = differ(case, b": passes ", found.passes, expected.passes);
     number + place + words + replacements + passes
 }
 
@@ -60,14 +72,14 @@ pub fn compare(
     let same = alike(output, wanted);
     let bytes = differ(
         case,
-        "bytes of output alike",
+        b": bytes of output alike ",
         same as u64,
         output.len() as u64,
     );
     let also = alike(counters, after);
     let counts = differ(
         case,
-        "bytes of counters alike",
+        b": bytes of counters alike ",
         also as u64,
         counters.len() as u64,
     );

@@ -130,7 +130,7 @@ fn replay_case(list: &mut Stdin, out: Stdout, number: usize) -> Option<u64> {
 // ---- the lists
 
 // Runs the cases of a list, and prints how many differ. Where the input ends before the list does, fewer cases are counted than it has.
-fn replay_list(list: &mut Stdin, out: Stdout, what: &str) {
+fn replay_list(list: &mut Stdin, mut out: Stdout, what: &[u8]) {
     let mut ran = 0;
     let mut differ: usize = 0;
     for i in 0..read_count(list) {
@@ -142,7 +142,9 @@ fn replay_list(list: &mut Stdin, out: Stdout, what: &str) {
             differ += 1;
         }
     }
-    let _ = println!(out; "{what}: {ran} cases, {differ} differ");
+    differences::say(out, what, ran as u64);
+    differences::say(out, b" cases, ", differ as u64);
+    let _ = streams::write_all(&mut out, b" differ\n");
 }
 
 // The text in front of the lists is for people.
@@ -154,11 +156,11 @@ fn main(rt: HostRuntime) {
     replay_list(
         &mut list,
         out,
-        "the Rust's answers, of which none may differ",
+        b"the Rust's answers, of which none may differ: ",
     );
     replay_list(
         &mut list,
         out,
-        "answers made wrong, of which all must differ",
+        b"answers made wrong, of which all must differ: ",
     );
 }

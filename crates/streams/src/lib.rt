@@ -4,6 +4,7 @@
 #![tactic(auto)]
 
 ghost use Rattle.std.specs.Prelude.{◌≡◌, ◌<◌, length, take, replicate, OnOk, IfOk};
+ghost use Rattle.std.specs.Fmt.{decimal};
 ghost use Rattle.std.specs.Io.KnownBytes.{Appends, Consumes, IsAtEnd};
 ghost use Rattle.streams.specs.Counts.{IsPrefixLen};
 
@@ -68,6 +69,22 @@ pub fn write_all<W: Write>(to: &mut W, bytes: &[u8]) -> io::Result<()>
         }
     }
     Ok(())
+}
+
+// Writes a number's decimal digits, all by one `write_all`: std's `write!` would try again where a signal interrupts a write.
+pub fn print_decimal<W: Write>(to: &mut W, n: u64) -> io::Result<()>
+    ensures { OnOk result (Appends (W.contents to.old) (W.contents to.new) (decimal n)) }
+{
+    let mut digits = [b'0'; 20];
+    let mut at = 19;
+    let mut left = n;
+    while left >= 10 {
+        digits[at] = b'0' + (left % 10) as u8;
+        left /= 10;
+        at -= 1;
+    }
+    digits[at] = b'0' + left as u8;
+    write_all(to, &digits[at..])
 }
 
 #[cfg(test)]
@@ -143,6 +160,8 @@ mod tests {
     fn tells_whether_all_is_written(rt: HostRuntime) {
         assert!(rt; write_all(&mut Failing { left: 3 }, b"abc").is_ok());
         assert!(rt; write_all(&mut Failing { left: 2 }, b"abc").is_err());
+        assert!(rt; print_decimal(&mut Failing { left: 3 }, 307).is_ok());
+        assert!(rt; print_decimal(&mut Failing { left: 2 }, 307).is_err());
         assert!(rt; write!(&mut Failing { left: 3 }, "{}", 307).is_ok());
         assert!(rt; write!(&mut Failing { left: 2 }, "{}", 307).is_err());
     }

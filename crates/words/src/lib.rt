@@ -248,7 +248,7 @@ pub struct Atom {
     pub next: usize,
 }
 
-// An atom of a head with so many terms, whose first word stands at `at`. Who reads an atom learns here how it is laid out; it is
+// An atom of a head with so many terms, whose first word stands at `at`. This is the one place that knows how an atom is laid out, for all who read one; it is
 // written by `put_atom` of `octets::rows`, by query, and by `resolve_terms` of canonicalize.
 fn laid_out(head: HeadOrEq, count: u32, at: usize) -> Atom
     requires { at < 2 ^ 62 }
@@ -308,9 +308,6 @@ pub fn good_atom_at(s: &[u8], at: usize) -> Atom
     let head = head_of(w);
     laid_out(head, w % LIMIT_16, at)
 }
-
-// The words of an equality of two terms: its own, and theirs.
-pub const EQUALITY_WORDS: usize = 3;
 
 // The place behind an equality of two terms that begins at `at`. It is known without a look at the words, so that a walk over equalities does not wait for them.
 pub fn past_equality(at: usize) -> usize

@@ -17,10 +17,11 @@ use Rattle.rules.specs.Written.{Read, Reader, read_word, read_row, code_at, all_
 use Rattle.std.specs.Prelude.{Some}
 use Rattle.words.specs.Word.{kind}
 use Rattle.words.specs.declared.Word.{Word}
-use Rattle.words.specs.declared.Word.TheVariants.{Head, Action}
+use Rattle.words.specs.declared.Word.TheVariants.{Head, Header, Action}
 use Rattle.words.proofs.WordAt.{There, NotKind}
-use Rattle.words.proofs.WordLaws.{word_of, head_numbers, head_below, no_head, no_action, said}
+use Rattle.words.proofs.WordLaws.{word_of, header_kind, header_numbers, head_numbers, head_below, no_head, no_action, said}
 use Rattle.written.specs.Written.{with_heads, ending_of}
+use Rattle.written.proofs.Walking.{Went, went_then, went_made, went_word, went_row, stops, both, then_same, then_then, Whole}
 
 -- ---- it is taken, or refused
 
@@ -102,6 +103,15 @@ pub record NoneOf (n m : ℕ) : Type 0 where
 pub none_of : {n m : ℕ} {U : Type 0} → (((((U × ¬ (n ≡ 1)) × ¬ (n ≡ 2)) × ¬ (n ≡ 5)) × ¬ (n ≡ 6)) × ¬ (n ≡ m)) → ¬ (n ≡ 3) → ¬ (n ≡ 4) → NoneOf n m
 none_of r n3 n4 = record { one = r.0.0.0.0.1; two = r.0.0.0.1; three = n3; four = n4; five = r.0.0.1; six = r.0.1; last = r.1 }
 
+-- an action ends well, if it does by each code that a word there may have
+pub went_coded : {A : Type 0} (ws : List ℕ) (p : ℕ) (by : Code → Res (Read A)) → ((k : Code) → p < length ws → Went ws p 1 (by k)) → Went ws p 1 (by no_code)
+    → Went ws p 1 (by (code_at ws p))
+went_coded ws p by h none = go (ltb p (length ws)) refl
+  where
+    go : (b : Bool) → ltb p (length ws) ≡ b → Went ws p 1 (by (cond b (code_of (get_or ws p 0)) no_code))
+    go true e = h (code_of (get_or ws p 0)) (ltb-true p (length ws) e)
+    go false e = none
+
 module _ {ws : List ℕ} {p : ℕ} where
   pub no_code_lem : NotKind ws p 6 → code_at ws p ≡ no_code
   no_code_lem n = go (ltb p (length ws)) refl
@@ -143,6 +153,13 @@ module _ {ws : List ℕ} {p : ℕ} where
 -- ---- a rule: its header, a row of one thing, and a row of another
 
 module _ {A B C : Type 0} (ws : List ℕ) (f : List A → List B → C) (one : Reader A) (two : Reader B) where
+  abbrev read_headed : Reader C
+  read_headed p = do
+    w ← read_word ws is_header_word p
+    xs ← read_row one (facts_of w.value) w.at
+    ys ← read_row two (actions_of w.value) xs.at
+    ok (record { value = f xs.value ys.value; at = ys.at })
+
   -- the whole record, with nothing behind it
   abbrev pub whole_headed : Res C
   whole_headed = do
@@ -150,3 +167,44 @@ module _ {A B C : Type 0} (ws : List ℕ) (f : List A → List B → C) (one : R
     xs ← read_row one (facts_of w.value) w.at
     ys ← read_row two (actions_of w.value) xs.at
     all_read ws (record { value = f xs.value ys.value; at = ys.at })
+
+module _ {A B C : Type 0} (ws : List ℕ) (f : List A → List B → C) (one : Reader A) (two : Reader B) (went : (p : ℕ) → Went ws p 1 (one p)) where
+  abbrev read : Reader C
+  read = read_headed ws f one two
+
+  pub header_other : {p : ℕ} → NotKind ws p 5 → refuse unfit p ≡ ending_of (read p)
+  header_other n = rw (kind_unfit is_header_word 5 header_kind n) refl
+
+  module _ {p a b : ℕ} (t : There ws p (Header a b)) where
+    abbrev rest : Read (List A) → Res (Read C)
+    rest xs = ◌>>=◌ (read_row two b xs.at) (λ ys. ok (record { value = f xs.value ys.value; at = ys.at }))
+
+    header_read : read p ≡ ◌>>=◌ (read_row one a (suc p)) rest
+    header_read =
+        let n = header_numbers (get_or ws p 0) a b t.says in
+        rw (kind_fits is_header_word 5 header_kind t refl, n.0, n.1) refl
+
+    pub first_stops : {m q : ℕ} → refuse m q ≡ ending_of (read_row one a (p + 1)) → refuse m q ≡ ending_of (read p)
+    first_stops e = rw header_read (stops (read_row one a (suc p)) rest (rw (add-one p) at e))
+
+    pub then_second : {q : ℕ} {z : Res ℕ} → ok q ≡ ending_of (read_row one a (p + 1)) → z ≡ ending_of (read_row two b q) → z ≡ ending_of (read p)
+    then_second e g = rw header_read (both (read_row one a (suc p)) (read_row two b) (λ xs ys. f xs.value ys.value) (rw (add-one p) at e) g)
+
+  -- where it ends, if each of the second row goes on too
+  module _ (went2 : (p : ℕ) → Went ws p 1 (two p)) where
+    pub went_headed : (p : ℕ) → Went ws p 1 (read p)
+    went_headed p =
+        went_then ws p 1 0 (read_word ws is_header_word p) _ (went_word ws is_header_word p)
+        (λ w. went_then ws w.at 0 0 (read_row one (facts_of w.value) w.at) _ (went_row ws one went (facts_of w.value) w.at)
+        (λ xs. went_made ws xs.at 0 (read_row two (actions_of w.value) xs.at) _ (went_row ws two went2 (actions_of w.value) xs.at)))
+
+    -- a whole record is one that begins at index 0 and has nothing behind it
+    pub headed_whole : Whole ws (read 0) (whole_headed ws f one two)
+    headed_whole = record { went = went_headed 0; is = apart }
+      where
+        apart : whole_headed ws f one two ≡ ◌>>=◌ (read 0) (all_read ws)
+        apart =
+            then_same (read_word ws is_header_word 0) _ _ (λ w.
+            then_same (read_row one (facts_of w.value) w.at) _ _ (λ xs. then_then (read_row two (actions_of w.value) xs.at) _ (all_read ws))
+            ∙ then_then (read_row one (facts_of w.value) w.at) _ (all_read ws))
+            ∙ then_then (read_word ws is_header_word 0) _ (all_read ws)

@@ -29,12 +29,12 @@ use Rattle.written.proofs.Expected.{no_code_lem, as_code, change_code, NoneOf, l
 
 -- ---- an expression, by how it begins
 
-pub starts : (H : ℕ) {ws : List ℕ} {p n : ℕ} {x : Option ℕ} → or_unfit (λ n. n) x p ≡ taken_at (with_heads H) ws p → x ≡ Some n → Starts (with_heads H) ws p n
-starts H {ws} {p} {n} read is =
-    let h : taken_at (with_heads H) ws p ≡ ok n = sym read ∙ ap (λ (y : Option ℕ). or_unfit (λ n. n) y p) is in
+pub starts : {s : Sig} {ws : List ℕ} {p n : ℕ} {x : Option ℕ} → or_unfit (λ n. n) x p ≡ taken_at s ws p → x ≡ Some n → Starts s ws p n
+starts {s} {ws} {p} {n} read is =
+    let h : taken_at s ws p ≡ ok n = sym read ∙ ap (λ (y : Option ℕ). or_unfit (λ n. n) y p) is in
     record { takes = h; inside = go (ltb p (length ws)) refl h }
   where
-    go : (b : Bool) → ltb p (length ws) ≡ b → taken (cond b (shape (with_heads H) (get_or ws p 0)) is_bad) (get_or ws p 0) p ≡ ok n → p < length ws
+    go : (b : Bool) → ltb p (length ws) ≡ b → taken (cond b (shape s (get_or ws p 0)) is_bad) (get_or ws p 0) p ≡ ok n → p < length ws
     go true e h = ltb-true p (length ws) e
     go false e h = let z : ◌≡◌ {A = ℕ} 0 1 = cc in absurd (omega arith)
 
@@ -228,6 +228,20 @@ fact_odd H {ws} {p} {n} t odd =
     let few = (said (get_or ws p 0) t.says).1 in
     let low = start_low H here (omega arith) in
     no_expression (with_heads H) ws max_depth p low refl ∙ sym (fact_by (with_heads H) ws p false (rw (lt-ltb p (length ws) t.inside, other)))
+
+-- a word that takes no arguments is no equality's, and a fact that it is alone ends behind it
+pub leaf_fact : (H : ℕ) {ws : List ℕ} {p n : ℕ} → Starts (with_heads H) ws p n → n ≡ 0 → ok (p + 1) ≡ ending_of (read_fact (with_heads H) ws p)
+leaf_fact H {ws} {p} {n} b none =
+    leaf_read b max_depth none (λ z. omega arith)
+    ∙ sym (fact_by (with_heads H) ws p false (rw (lt-ltb p (length ws) b.inside, ne_eqb (get_or ws p 0) equality_word other)))
+  where
+    other : get_or ws p 0 ≡ equality_word → ⊥
+    other e =
+        let here : Here ws p (get_or ws p 0) = record { inside = b.inside; is = refl } in
+        let low = start_low H here (omega arith) in
+        let takes = b.takes in
+        let z : ◌≡◌ {A = ℕ} 0 1 = cc in
+        omega arith
 
 -- ---- the kind 3 word of a set, a delete or a subsume
 

@@ -1,12 +1,15 @@
 -- Readings put together from others, written or flat: where they end, and what a walk answers for them. Assumes nothing.
 use mathlib.Core.Path.{◌≡◌, refl, sym, ap, ◌∙◌}
+use mathlib.Core.Bool.{Bool, true, false, ◌&&◌}
 use mathlib.Core.List.{List}
 use Prim.Native.Nat.{ℕ, zero, suc, ◌+◌, ◌-◌, ◌≤◌, ◌<◌}
 use native.Mathlib.Omega.{arith}
-use lib.ListN.{length}
-use Rattle.rules.specs.Refusals.{Res, ok, refuse, ◌>>=◌}
-use Rattle.rules.specs.Written.{Expr, Exprs, ◌then◌, Read, Reader, read_many}
-use Rattle.written.specs.Written.{ending_of}
+use lib.ListN.{length, get_or}
+use lib.Dec.{ltb, lit≤}
+use borrow.Author.Tests.{ltb-true, le-leb, lt-leb}
+use Rattle.rules.specs.Refusals.{Res, ok, refuse, ◌>>=◌, demand, unfit}
+use Rattle.rules.specs.Written.{Expr, Exprs, ◌then◌, Read, Reader, read_word, read_many, read_row, all_read}
+use Rattle.written.specs.Written.{ending_of, whole_of}
 
 -- ---- where a reading ends
 
@@ -39,6 +42,23 @@ module _ (ws : List ℕ) where
   pub went_from : {A : Type 0} (p j : ℕ) (x : Res (Read A)) → p < length ws → Went ws (suc p) j x → Went ws p (suc j) x
   went_from p j (ok r) l h = (omega arith, omega arith)
   went_from p j (refuse n q) l h = (h.0, omega arith)
+
+  pub went_word : (fits : ℕ → Bool) (p : ℕ) → Went ws p 1 (read_word ws fits p)
+  went_word fits p = go (ltb p (length ws)) refl (fits (get_or ws p 0))
+    where
+      go : (a : Bool) → ltb p (length ws) ≡ a → (b : Bool) → Went ws p 1 (demand (a && b) unfit p (record { value = get_or ws p 0; at = suc p }))
+      go true e true = let l = ltb-true p (length ws) e in (omega arith, omega arith)
+      go true e false = (omega arith, omega arith)
+      go false e b = (omega arith, omega arith)
+
+  -- behind a word that is there
+  pub behind : {A : Type 0} (p : ℕ) (x : Res (Read A)) → p < length ws → Went ws (suc p) 1 x → Went ws p 1 x
+  behind p x l h = went_less p 2 1 x (lit≤ tt) (went_from p 1 x l h)
+
+  pub went_row : {A : Type 0} (one : Reader A) → ((p : ℕ) → Went ws p 1 (one p)) → (n p : ℕ) → Went ws p 0 (read_row one n p)
+  went_row one h zero p = (omega arith, omega arith)
+  went_row one h (suc n) p =
+      went_then p 0 0 (one p) _ (went_less p 1 0 (one p) (lit≤ tt) (h p)) (λ r. went_made r.at 0 (read_row one n r.at) _ (went_row one h n r.at))
 
 -- ---- a walk follows the reading
 
@@ -83,6 +103,9 @@ then_made (refuse n p) one f = refl
 
 pub many : (ws : List ℕ) (one : Reader Expr) → ((p : ℕ) → Went ws p 1 (one p)) → Several ws one (read_many one)
 many ws one went = record { went = went; none = λ p. refl; more = λ n p. then_made (one p) (read_many one n) _ }
+
+pub row : {A : Type 0} (ws : List ℕ) (one : Reader A) → ((p : ℕ) → Went ws p 1 (one p)) → Several ws one (read_row one)
+row ws one went = record { went = went; none = λ p. refl; more = λ n p. then_made (one p) (read_row one n) _ }
 
 -- of `count` from `at` on, `left` are still to be read from `next` on: the rest answers as the whole does
 pub record Left {A B : Type 0} {ws : List ℕ} {one : Reader A} {several : ℕ → Reader B} (k : Several ws one several) (count at left next : ℕ) : Type 0 where
@@ -148,7 +171,7 @@ last_one one (suc n) p = go (one p) (λ q. last_one one n q)
     go (ok e) h = moved (read_many one n e.at) _ one ∙ h e.at ∙ sym (made (read_many one (suc n) e.at) _)
     go (refuse m q) h = refl
 
--- ---- the rest of a reading
+-- ---- a whole record: what is read from index 0 on, and nothing behind it
 
 -- the rest may be replaced by one that is the same everywhere
 pub then_same : {A B : Type 0} (x : Res A) (f g : A → Res B) → ((a : A) → f a ≡ g a) → ◌>>=◌ x f ≡ ◌>>=◌ x g
@@ -158,3 +181,30 @@ then_same (refuse n p) f g h = refl
 pub then_then : {A B C : Type 0} (x : Res A) (f : A → Res B) (g : B → Res C) → ◌>>=◌ x (λ a. ◌>>=◌ (f a) g) ≡ ◌>>=◌ (◌>>=◌ x f) g
 then_then (ok a) f g = refl
 then_then (refuse n p) f g = refl
+
+-- what x reads from index 0 on is the whole record, y, if nothing is behind it
+pub record Whole {A : Type 0} (ws : List ℕ) (x : Res (Read A)) (y : Res A) : Type 0 where
+  pub went : Went ws 0 1 x
+  pub is : y ≡ ◌>>=◌ x (all_read ws)
+
+module _ {A : Type 0} {ws : List ℕ} {x : Res (Read A)} {y : Res A} (k : Whole ws x y) where
+  pub whole_stops : {n p : ℕ} → refuse n p ≡ ending_of x → refuse n p ≡ whole_of ws y
+  whole_stops {n} {p} e = rw k.is (go x e)
+    where
+      go : (z : Res (Read A)) → refuse n p ≡ ending_of z → refuse n p ≡ whole_of ws (◌>>=◌ z (all_read ws))
+      go (ok r) f = cc
+      go (refuse m q) f = f
+
+  pub surplus : {q : ℕ} → ok q ≡ ending_of x → q < length ws → refuse unfit q ≡ whole_of ws y
+  surplus {q} e l = rw k.is (go x e)
+    where
+      go : (z : Res (Read A)) → ok q ≡ ending_of z → refuse unfit q ≡ whole_of ws (◌>>=◌ z (all_read ws))
+      go (ok r) f = let same : r.at ≡ q = cc in rw (same, lt-leb (length ws) q l) refl
+      go (refuse m p) f = cc
+
+  pub all_read_lem : {q : ℕ} → ok q ≡ ending_of x → length ws ≤ q → ok (length ws) ≡ whole_of ws y
+  all_read_lem {q} e l = rw k.is (go x e)
+    where
+      go : (z : Res (Read A)) → ok q ≡ ending_of z → ok (length ws) ≡ whole_of ws (◌>>=◌ z (all_read ws))
+      go (ok r) f = let same : r.at ≡ q = cc in rw (same, le-leb (length ws) q l) refl
+      go (refuse m p) f = cc

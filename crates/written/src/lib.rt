@@ -5,10 +5,9 @@
 ghost use Rattle.std.specs.Prelude.{ℕ, ◌≡◌, ◌≤◌};
 ghost use Rattle.octets.specs.Words.{words};
 ghost use Rattle.rules.specs.Words.{max_depth, a_let, a_set, a_panic};
-ghost use Rattle.rules.specs.Refusals.{Res};
 ghost use Rattle.rules.specs.Written.{read_many, read_expr, read_target, read_fact, read_code, read_action};
 ghost use Rattle.refusals.specs.Numbers.{said};
-ghost use Rattle.written.specs.Written.{with_heads, ending_of, or_unfit, leaf_end, taken_at, Starts, Tells, ends};
+ghost use Rattle.written.specs.Written.{with_heads, ending_of, or_unfit, leaf_end, taken_at, Starts};
 
 use refusals::{Reason, Refusal};
 use words::{HEAD_BASE, LIMIT_12, LIMIT_16, LITERAL_BASE, MAX_DEPTH, NAME_BASE, Word, word_at};
@@ -17,22 +16,6 @@ use words::{HEAD_BASE, LIMIT_12, LIMIT_16, LITERAL_BASE, MAX_DEPTH, NAME_BASE, W
 const NAME_END: u32 = NAME_BASE + LIMIT_12;
 
 const LITERAL_END: u32 = LITERAL_BASE + LIMIT_16;
-
-// `count` things, one after the other, each read by `one` from where the one before it ends.
-pub fn row<F: Fn(usize) -> Result<usize, Refusal>>(
-    one: F,
-    at: usize,
-    count: u32,
-) -> Result<usize, Refusal>
-    requires { F.IsAlwaysCallable one }
-    ensures { (f : ℕ → Res ℕ) → Tells (F.post one) f → said result ≡ ends f count at }
-{
-    let mut next = at;
-    for _ in 0..count {
-        next = one(next)?;
-    }
-    Ok(next)
-}
 
 // Where the leaves of a kind end: the names are of kind 1, the literals of kind 2. A fresh variable, of kind 0, lies behind the end of the names.
 fn leaf_end(kind: u32) -> u32
@@ -131,18 +114,21 @@ impl Record<'_> {
         if some == 0 {
             return Ok(next);
         }
-        self.arguments(next, some, MAX_DEPTH - 1)
+        // Taken out and given anew: were it handed through, the answer of a leaf would be made in memory too, and waited for there.
+        let end = self.arguments(next, some, MAX_DEPTH - 1)?;
+        Ok(end)
     }
 
-    // The two expressions of an equality or a union, which stand behind its word.
+    // The two expressions of an equality or a union, which stand behind its word. Taken out and given anew, as there.
     fn pair(&self, at: usize) -> Result<usize, Refusal>
         ensures { said result ≡ ending_of (read_many (read_expr (with_heads self.now.heads) (words self.now.rule.now) max_depth) 2 at) }
     {
-        self.arguments(at, 2, MAX_DEPTH)
+        let end = self.arguments(at, 2, MAX_DEPTH)?;
+        Ok(end)
     }
 
-    // A fact: an expression, or an equality of two.
-    pub fn fact(&self, at: usize) -> Result<usize, Refusal>
+    // A fact that may have arguments or be an equality of two, by its first word.
+    fn longer_fact(&self, at: usize) -> Result<usize, Refusal>
         ensures { said result ≡ ending_of (read_fact (with_heads self.now.heads) (words self.now.rule.now) at) }
     {
         let Some(Word::Equality(count)) = word_at(self.rule, at) else {
@@ -153,6 +139,17 @@ impl Record<'_> {
         } else {
             Err(Reason::Unfit.at(at))
         }
+    }
+
+    // A fact: an expression, or an equality of two. One word alone that takes no arguments is told before anything else, so that no answer in memory is made
+    // ready for it.
+    pub fn fact(&self, at: usize) -> Result<usize, Refusal>
+        ensures { said result ≡ ending_of (read_fact (with_heads self.now.heads) (words self.now.rule.now) at) }
+    {
+        if let Some(0) = self.start_at(at) {
+            return Ok(at + 1);
+        }
+        self.longer_fact(at)
     }
 
     // The kind 3 word of a set, a delete or a subsume, and its arguments. A set has one expression more, its value, which is read with them.

@@ -34,7 +34,7 @@ pub returns-then-taken : goal.returns-then-taken
 returns-then-taken c =
     let a = c.args in
     let named = letting a.reading.now a.scratch.now a.counters.now c.requires.known c.requires.top (omega arith) (omega arith) c.get-name.ensures.is in
-    let_twice named (taken_as c.get-name.result c.taken.ensures) c.if-taken.true c.at.ensures
+    let_twice named (taken_as c.get-name.result c.taken.ensures) c.if-taken.true c.at.ensures (omega arith)
 
 -- ---- it is free
 

@@ -47,4 +47,4 @@ returns c =
     let passed = tests_passed k c.whole_words.ensures c.if-not-whole_words.false c.in_ok-sign.ensures in
     let v = c.get_free_vars in
     let done = free_done k passed v.ensures v.auto.out (search rules) (search rules) in
-    free_gives k (ends_within {y = passed} done c.count.ensures _ c.within.ensures (λ l. refl) (λ l. refl))
+    free_gives k (ends_within {y = passed} done c.count.ensures _ (grind rules) (λ l. refl) (λ l. refl))

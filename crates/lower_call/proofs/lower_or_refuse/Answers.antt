@@ -75,4 +75,4 @@ returns-clause-gives_both c =
     let k = (goal.at.returns-clause-gives_both c).After-count-size in
     let g = c.lower_good in
     let done = worked (call k) (passed k) c.in_ok-counts.ensures g.auto.output g.auto.counters (search rules) (search rules) (search rules) (search rules) in
-    lower_gives (call k) (lower_within {y = passed k} done c.count.ensures _ c.within.ensures)
+    lower_gives (call k) (lower_within {y = passed k} done c.count.ensures _ (grind rules))

@@ -3,6 +3,7 @@
 use mathlib.Core.Path.{ap, ◌∙◌}
 use Prim.Native.Nat.{◌-◌, ◌+◌, ◌^◌}
 use native.Mathlib.Omega.{arith}
+use Rattle.std.proofs.lemmas.Grind.{common_steps}
 use Rattle.std.proofs.lemmas.Result.{err_from_is_err_and}
 use Rattle.octets.specs.Words.{words}
 use Rattle.octets.proofs.Words.{length_words, length_words_kept}
@@ -77,7 +78,7 @@ pub flatten_call-returns-in_err-v : goal.flatten_call-returns-in_err-v
 flatten_call-returns-in_err-v t c =
     let start = begun c.requires.asks c.requires.call in
     let p = err_from_is_err_and c.from_residual.result c.from_residual.ensures.1 in
-    rw (p.1, p.2) (none_left start _ _ (head_says c.head_word-call.ensures) c.in_err-v.ensures)
+    rw (p.1, p.2) (none_left start _ _ (head_says c.head_word-call.ensures) c.take.result c.take.ensures (grind (arith, common_steps)))
 
 pub flatten_call-overflow_add-tops : goal.flatten_call-overflow_add-tops
 flatten_call-overflow_add-tops t c = omega (arith, begun c.requires.asks c.requires.call, length_words c.args.scratch.now)
@@ -106,7 +107,7 @@ pub flatten_call-put_around-to-requires : goal.flatten_call-put_around-to-requir
 flatten_call-put_around-to-requires t c =
     let v = c.take in
     let front =
-    fronted _ _ _ (2 ^ 32 - 1) c.requires.asks c.requires.call c.head_word-call.ensures c.in_ok-v.ensures
+    fronted {v = c.in_ok-v.v} _ _ _ (2 ^ 32 - 1) c.requires.asks c.requires.call c.head_word-call.ensures v.result v.ensures (grind (arith, common_steps))
     (length_words_kept _ _ v.auto.counters) (length_words_kept _ _ v.auto.scratch) c.part-row.ensures c.leaves-k.ensures (length_words_kept _ _ c.leaves-k.auto.scratch) in
     around_room front
 
@@ -119,7 +120,7 @@ pub flatten_call-returns-then-k-n : goal.flatten_call-returns-then-k-n
 flatten_call-returns-then-k-n t c =
     let v = c.take in
     let front =
-    fronted _ _ _ (2 ^ 32 - 1) c.requires.asks c.requires.call c.head_word-call.ensures c.in_ok-v.ensures
+    fronted {v = c.in_ok-v.v} _ _ _ (2 ^ 32 - 1) c.requires.asks c.requires.call c.head_word-call.ensures v.result v.ensures (grind (arith, common_steps))
     (length_words_kept _ _ v.auto.counters) (length_words_kept _ _ v.auto.scratch) c.part-row.ensures c.leaves-k.ensures (length_words_kept _ _ c.leaves-k.auto.scratch) in
     let e = c.put_around-to.ensures in
     leaves_answer front _ _ c.if-k-n.true e.0 e.1
@@ -130,7 +131,7 @@ pub flatten_call-flatten_all-requires : goal.flatten_call-flatten_all-requires
 flatten_call-flatten_all-requires t c =
     let v = c.take in
     let front =
-    fronted _ _ _ (2 ^ 32 - 1) c.requires.asks c.requires.call c.head_word-call.ensures c.in_ok-v.ensures
+    fronted {v = c.in_ok-v.v} _ _ _ (2 ^ 32 - 1) c.requires.asks c.requires.call c.head_word-call.ensures v.result v.ensures (grind (arith, common_steps))
     (length_words_kept _ _ v.auto.counters) (length_words_kept _ _ v.auto.scratch) c.part-row.ensures c.leaves-k.ensures (length_words_kept _ _ c.leaves-k.auto.scratch) in
     let f = front.start.facts in
     (omega (arith, c.decreases, f.inside, f.deep), args_asked front)
@@ -139,7 +140,7 @@ pub flatten_call-returns-in_err-args : goal.flatten_call-returns-in_err-args
 flatten_call-returns-in_err-args t c =
     let v = c.take in
     let front =
-    fronted _ _ _ (2 ^ 32 - 1) c.requires.asks c.requires.call c.head_word-call.ensures c.in_ok-v.ensures
+    fronted {v = c.in_ok-v.v} _ _ _ (2 ^ 32 - 1) c.requires.asks c.requires.call c.head_word-call.ensures v.result v.ensures (grind (arith, common_steps))
     (length_words_kept _ _ v.auto.counters) (length_words_kept _ _ v.auto.scratch) c.part-row.ensures c.leaves-k.ensures (length_words_kept _ _ c.leaves-k.auto.scratch) in
     let p = err_from_is_err_and c.from_residual-in_err-args.result c.from_residual-in_err-args.ensures.1 in
     rw (p.1, p.2) (args_refused front c.in_err-args.ensures)
@@ -148,7 +149,7 @@ pub flatten_call-put_atom-to-requires : goal.flatten_call-put_atom-to-requires
 flatten_call-put_atom-to-requires t c =
     let v = c.take in
     let front =
-    fronted _ _ _ (2 ^ 32 - 1) c.requires.asks c.requires.call c.head_word-call.ensures c.in_ok-v.ensures
+    fronted {v = c.in_ok-v.v} _ _ _ (2 ^ 32 - 1) c.requires.asks c.requires.call c.head_word-call.ensures v.result v.ensures (grind (arith, common_steps))
     (length_words_kept _ _ v.auto.counters) (length_words_kept _ _ v.auto.scratch) c.part-row.ensures c.leaves-k.ensures (length_words_kept _ _ c.leaves-k.auto.scratch) in
     atom_asks front c.in_ok-args.ensures (length_words_kept _ _ c.flatten_all.auto.scratch)
 
@@ -156,7 +157,7 @@ pub flatten_call-returns : goal.flatten_call-returns
 flatten_call-returns t c =
     let v = c.take in
     let front =
-    fronted _ _ _ (2 ^ 32 - 1) c.requires.asks c.requires.call c.head_word-call.ensures c.in_ok-v.ensures
+    fronted {v = c.in_ok-v.v} _ _ _ (2 ^ 32 - 1) c.requires.asks c.requires.call c.head_word-call.ensures v.result v.ensures (grind (arith, common_steps))
     (length_words_kept _ _ v.auto.counters) (length_words_kept _ _ v.auto.scratch) c.part-row.ensures c.leaves-k.ensures (length_words_kept _ _ c.leaves-k.auto.scratch) in
     let e = c.put_atom-to.ensures in
     call_answer front c.in_ok-args.ensures (length_words_kept _ _ c.flatten_all.auto.scratch) _ _ e.0 e.1

@@ -2,16 +2,14 @@
 use mathlib.Core.Path.{◌∙◌}
 use mathlib.Core.List.{List}
 use Prim.Native.Nat.{ℕ}
-use Rattle.std.proofs.Common.{rules}
 use Rattle.octets.specs.Words.{words}
 use Rattle.rules.specs.Flat.{read_atom, read_core_action}
-use Rattle.written.specs.Written.{with_heads, ending_of}
-use Rattle.records.proofs.Items.{flat_rule, whole_made}
+use Rattle.written.specs.Written.{with_heads}
+use Rattle.records.proofs.Items.{pair, flat_rule, whole_made}
 use Rattle.records.proofs.flat.Goals as goal
 
 pub returns : goal.returns
 returns c =
     let s = with_heads c.args.heads in
     let ws : List ℕ = words c.args.rule.now in
-    c.whole_rule.ensures (λ (p : ℕ). ending_of (read_atom s ws p)) (λ (p : ℕ). ending_of (read_core_action s ws p)) (λ p r h. search rules) (λ p r h. search rules)
-    ∙ whole_made ws (read_atom s ws) (read_core_action s ws) flat_rule
+    c.whole_rule.ensures ∙ whole_made ws (read_atom s ws) (read_core_action s ws) pair flat_rule

@@ -68,4 +68,4 @@ returns-clause-gives c =
     let k = (goal.at.returns-clause-gives c).After-count-n in
     let g = c.settle_good-counts in
     let done = settle_done (call k) (passed k) g.ensures g.auto.output (search rules) (search rules) in
-    settle_gives (call k) (ends_within {y = passed k} done c.count-2.ensures _ c.within.ensures (λ l. refl) (λ l. refl))
+    settle_gives (call k) (ends_within {y = passed k} done c.count-2.ensures _ (grind rules) (λ l. refl) (λ l. refl))

@@ -14,7 +14,8 @@ overflow_add-result c =
 pub returns-then-get-ne0 : goal.returns-then-get-ne0
 returns-then-get-ne0 c =
     let at_start = begun c.requires (omega (arith, length_words c.args.s.now, c.well_formed)) in
-    one_dropped at_start c.get.ensures.is c.if-get-ne0.true c.size-z.ensures c.end_run-kept.ensures
+    let e = c.end_run-kept.ensures in
+    one_dropped at_start c.get.ensures.is c.if-get-ne0.true c.size-z.ensures (omega (arith, e.0), e.1)
 
 pub group-e-requires : goal.group-e-requires
 group-e-requires c =

@@ -1,29 +1,27 @@
--- What is copied begins and ends at words' boundaries on both sides. Assumes nothing.
-use mathlib.Core.Path.{sym, ap, ◌∙◌}
+-- The row that it fills is what it has read of the source so far, and the source is not written. Assumes nothing.
+use mathlib.Core.Path.{◌≡◌, refl, ap, ◌∙◌}
+use Prim.Native.Nat.{◌+◌, ◌<◌}
 use native.Mathlib.Omega.{arith}
-use lib.ListN.{take, length}
-use lib.Seq.{length-take-le}
-use Rattle.std.proofs.Common.{rules, ◌+◌, ◌*◌, ◌≡◌}
+use lib.ListN.{length, get_or}
 use Rattle.octets.specs.Words.{words}
 use Rattle.octets.specs.Regions.{splice}
-use Rattle.octets.proofs.Words.{length_words, words_take}
-use Rattle.octets.proofs.Splice.{part_all}
-use Rattle.octets.proofs.Returned.{words_given_back}
+use Rattle.octets.proofs.Splice.{part_more, part_all}
+use Rattle.octets.proofs.Filling.{filled_start, filled_next, filled_end, filled_count}
 use Rattle.octets.proofs.regions.copy.Goals as goal
 
-pub slice_bounds-copy_from_slice-end-2 : goal.slice_bounds-copy_from_slice-end-2
-slice_bounds-copy_from_slice-end-2 c = sym (length-take-le (4 * c.count-n.result) c.args.src.now (omega (arith, length_words c.args.src.now)))
+pub loop-i-init : goal.loop-i-init
+loop-i-init c = filled_start _ _ _ _ refl
 
-pub copy_from_slice-requires : goal.copy_from_slice-requires
-copy_from_slice-requires c =
-    let n = c.count-n.result in
-    let whole : length (take (4 * n) c.args.src.now) ≡ 4 * n = length-take-le (4 * n) c.args.src.now (omega (arith, length_words c.args.src.now)) in
-    rw whole (search rules)
+pub put-requires : goal.put-requires
+put-requires c = omega (arith, filled_count c.loop-i.invariant)
+
+pub loop-i-preserved : goal.loop-i-preserved
+loop-i-preserved c =
+    let ws = words c.args.src.now in
+    let i = c.loop-i in
+    let here : i.i ≡ 0 + i.i = omega arith in
+    let room : 0 + i.i < length ws = omega arith in
+    filled_next i.invariant (omega arith) (omega arith) c.put.auto.s c.put.ensures (c.get.ensures.is ∙ ap (λ k. get_or ws k 0) here) (part_more ws 0 i.i room)
 
 pub returns : goal.returns
-returns c =
-    let a = c.args in
-    let n = c.count-n.result in
-    words_given_back a.out.now c.copy_from_slice.new.self a.at (a.at + n) (omega arith) (omega arith) (search rules)
-    ∙ ap (splice (words a.out.now) a.at)
-    (ap words c.copy_from_slice.ensures.after ∙ words_take n a.src.now ∙ ap (λ k. take k (words a.src.now)) c.count-n.ensures ∙ part_all (words a.src.now))
+returns c = filled_end c.loop-i.invariant (omega arith) ∙ ap (splice (words c.args.out.now) c.args.at) (part_all (words c.args.src.now))

@@ -23,26 +23,26 @@ arguments-returns-in_default t c =
 
 -- it is a name or a literal
 pub arguments-overflow_add-next : goal.arguments-overflow_add-next
-arguments-overflow_add-next t c = omega (arith, (starts c.args.self.now.heads c.start_at.ensures c.in-Some.is).inside, length_words c.args.self.now.rule.now)
+arguments-overflow_add-next t c = omega (arith, (starts {s = with_heads c.args.self.now.heads} c.start_at.ensures c.in-Some.is).inside, length_words c.args.self.now.rule.now)
 
 pub arguments-loop-left-preserved-then-some-eq0 : goal.arguments-loop-left-preserved-then-some-eq0
 arguments-loop-left-preserved-then-some-eq0 t c =
-    let begins = starts c.args.self.now.heads c.start_at.ensures c.in-Some.is in
+    let begins = starts {s = with_heads c.args.self.now.heads} c.start_at.ensures c.in-Some.is in
     rest_next c.loop-left.invariant (leaf_read begins c.loop-left.deep c.if-some-eq0.true (λ z. omega arith)) (omega arith)
 
 -- it is the last one
 pub arguments-overflow_add-next-then-left-eq0 : goal.arguments-overflow_add-next-then-left-eq0
 arguments-overflow_add-next-then-left-eq0 t c =
-    omega (arith, (starts c.args.self.now.heads c.start_at.ensures c.in-Some.is).inside, length_words c.args.self.now.rule.now)
+    omega (arith, (starts {s = with_heads c.args.self.now.heads} c.start_at.ensures c.in-Some.is).inside, length_words c.args.self.now.rule.now)
 
 pub arguments-loop-left-preserved-then-left-eq0 : goal.arguments-loop-left-preserved-then-left-eq0
 arguments-loop-left-preserved-then-left-eq0 t c =
-    rest_last c.loop-left.invariant (starts c.args.self.now.heads c.start_at.ensures c.in-Some.is) (omega arith) c.if-left-eq0.true (omega arith)
+    rest_last c.loop-left.invariant (starts {s = with_heads c.args.self.now.heads} c.start_at.ensures c.in-Some.is) (omega arith) c.if-left-eq0.true (omega arith)
 
 -- it is read by itself
 pub arguments-expression-requires : goal.arguments-expression-requires
 arguments-expression-requires t c =
-    (omega (arith, c.decreases, c.loop-left.invariant.on, c.loop-left.invariant.down), starts c.args.self.now.heads c.start_at.ensures c.in-Some.is)
+    (omega (arith, c.decreases, c.loop-left.invariant.on, c.loop-left.invariant.down), starts {s = with_heads c.args.self.now.heads} c.start_at.ensures c.in-Some.is)
 
 pub arguments-returns-in_err-next : goal.arguments-returns-in_err-next
 arguments-returns-in_err-next t c =
@@ -51,7 +51,7 @@ arguments-returns-in_err-next t c =
 -- what was read ends behind its first word
 pub arguments-loop-left-smaller : goal.arguments-loop-left-smaller
 arguments-loop-left-smaller t c =
-    omega (arith, (starts c.args.self.now.heads c.start_at.ensures c.in-Some.is).inside, rest_on c.loop-left.invariant c.in_ok-next.ensures)
+    omega (arith, (starts {s = with_heads c.args.self.now.heads} c.start_at.ensures c.in-Some.is).inside, rest_on c.loop-left.invariant c.in_ok-next.ensures)
 
 pub arguments-loop-left-preserved : goal.arguments-loop-left-preserved
 arguments-loop-left-preserved t c = rest_next c.loop-left.invariant c.in_ok-next.ensures (omega arith)
