@@ -1,5 +1,4 @@
 -- What the proofs of this crate share, and what those above it cite.
-pub mod Several
 pub mod Items
 pub mod WrittenWhole
 pub mod FlatWhole

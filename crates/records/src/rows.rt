@@ -1,12 +1,11 @@
 // Rows: what a rule holds stands one after the other, written or flat. One loop reads them all, and a rule is two of them behind its header, which is taken by
 // `let .. else`, the form that document 01 names for each expected word.
-ghost use Rattle.std.specs.Prelude.{ℕ, ◌≡◌};
+ghost use Rattle.std.specs.Prelude.{◌≡◌};
 ghost use Rattle.octets.specs.Words.{words};
 ghost use Rattle.refusals.specs.Numbers.{said};
-ghost use Rattle.rules.specs.Refusals.{Res};
 ghost use Rattle.rules.specs.Written.{read_row};
 ghost use Rattle.written.specs.Written.{with_heads, ending_of, whole_of};
-ghost use Rattle.records.specs.Rows.{read_item, Tells, ends, read_headed, read_whole};
+ghost use Rattle.records.specs.Rows.{read_item, read_headed, read_whole};
 
 use refusals::{Reason, Refusal};
 use words::{Word, word_at};
@@ -18,23 +17,6 @@ pub enum Item {
     Action,
     Atom,
     CoreAction,
-}
-
-// `count` things, one after the other, each read by `one` from where the one before it ends. It is private, since its caller has to show that `one` may be
-// called: what is read from outside is chosen by an `Item`, which asks for nothing.
-fn several<F: Fn(usize) -> Result<usize, Refusal>>(
-    one: F,
-    at: usize,
-    count: u32,
-) -> Result<usize, Refusal>
-    requires { F.IsAlwaysCallable one }
-    ensures { (f : ℕ → Res ℕ) → Tells (F.post one) f → said result ≡ ends f count at }
-{
-    let mut next = at;
-    for _ in 0..count {
-        next = one(next)?;
-    }
-    Ok(next)
 }
 
 // `count` of them, one after the other. G tells which terms are globals; an expression is read without that. What they are is asked once for the row, and
@@ -57,10 +39,10 @@ pub fn row(
         globals,
     };
     match of {
-        Item::Fact => several(|next| by_heads.fact(next), at, count),
-        Item::Action => several(|next| by_heads.action(next), at, count),
-        Item::Atom => several(|next| by_both.atom(next), at, count),
-        Item::CoreAction => several(|next| by_both.action(next), at, count),
+        Item::Fact => written::row(|next| by_heads.fact(next), at, count),
+        Item::Action => written::row(|next| by_heads.action(next), at, count),
+        Item::Atom => written::row(|next| by_both.atom(next), at, count),
+        Item::CoreAction => written::row(|next| by_both.action(next), at, count),
     }
 }
 

@@ -1,9 +1,11 @@
 -- 01, "Words and records" and "Turned back": what the code answers for a written rule, refusals 5 and 6 included.
 -- The readings themselves are those of `rules`.
 -- Assumes nothing: these are definitions.
-use Rattle.std.specs.Prelude.{ℕ, Option, Some, None, ◌+◌, ◌<◌, min, ◌≡◌, false, cond, List, length, get_or, replicate, ltb}
+use Rattle.std.specs.Prelude.{ℕ, zero, suc, Option, Some, None, Result, ◌+◌, ◌<◌, min, ◌≡◌, false, cond, List, length, get_or, replicate, ltb}
 use Rattle.rules.specs.Words.{limit12, limit16, name_base, literal_base, count_of}
-use Rattle.rules.specs.Refusals.{Res, ok, refuse, unfit}
+use Rattle.rules.specs.Refusals.{Res, ok, refuse, ◌>>=◌, unfit}
+use Rattle.refusals.specs.Numbers.{said}
+use Rattle.refusals.specs.declared.Refusal.{Refusal}
 use Rattle.rules.specs.Signature.{Sig}
 use Rattle.rules.specs.Written.{Read, Shape, is_leaf, is_call, is_bad, shape_at}
 
@@ -31,6 +33,17 @@ whole_of ws (refuse n p) = refuse n p
 abbrev pub or_unfit : {A B : Type 0} → (A → B) → Option A → (p : ℕ) → Res B
 or_unfit f (Some x) p = ok (f x)
 or_unfit f None p = refuse unfit p
+
+-- ---- several things, one after the other
+
+-- f gives what a reader may answer
+abbrev pub Tells : (ℕ → Result ℕ Refusal → Type 0) → (ℕ → Res ℕ) → Type 0
+Tells answers f = (p : ℕ) (r : Result ℕ Refusal) → answers p r → said r ≡ f p
+
+-- n of them from p on, each from where the one before it ends
+unfoldable pub ends : (ℕ → Res ℕ) → (n p : ℕ) → Res ℕ
+ends f zero p = ok p
+ends f (suc n) p = ◌>>=◌ (f p) (ends f n)
 
 -- ---- how an expression begins
 

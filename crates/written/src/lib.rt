@@ -5,9 +5,10 @@
 ghost use Rattle.std.specs.Prelude.{ℕ, ◌≡◌, ◌≤◌};
 ghost use Rattle.octets.specs.Words.{words};
 ghost use Rattle.rules.specs.Words.{max_depth, a_let, a_set, a_panic};
+ghost use Rattle.rules.specs.Refusals.{Res};
 ghost use Rattle.rules.specs.Written.{read_many, read_expr, read_target, read_fact, read_code, read_action};
 ghost use Rattle.refusals.specs.Numbers.{said};
-ghost use Rattle.written.specs.Written.{with_heads, ending_of, or_unfit, leaf_end, taken_at, Starts};
+ghost use Rattle.written.specs.Written.{with_heads, ending_of, or_unfit, leaf_end, taken_at, Starts, Tells, ends};
 
 use refusals::{Reason, Refusal};
 use words::{HEAD_BASE, LIMIT_12, LIMIT_16, LITERAL_BASE, MAX_DEPTH, NAME_BASE, Word, word_at};
@@ -16,6 +17,22 @@ use words::{HEAD_BASE, LIMIT_12, LIMIT_16, LITERAL_BASE, MAX_DEPTH, NAME_BASE, W
 const NAME_END: u32 = NAME_BASE + LIMIT_12;
 
 const LITERAL_END: u32 = LITERAL_BASE + LIMIT_16;
+
+// `count` things, one after the other, each read by `one` from where the one before it ends.
+pub fn row<F: Fn(usize) -> Result<usize, Refusal>>(
+    one: F,
+    at: usize,
+    count: u32,
+) -> Result<usize, Refusal>
+    requires { F.IsAlwaysCallable one }
+    ensures { (f : ℕ → Res ℕ) → Tells (F.post one) f → said result ≡ ends f count at }
+{
+    let mut next = at;
+    for _ in 0..count {
+        next = one(next)?;
+    }
+    Ok(next)
+}
 
 // Where the leaves of a kind end: the names are of kind 1, the literals of kind 2. A fresh variable, of kind 0, lies behind the end of the names.
 fn leaf_end(kind: u32) -> u32
@@ -205,6 +222,32 @@ impl Record<'_> {
             6 => self.panic_action(next),
             8 => self.outermost(next),
             _ => Err(Reason::Unfit.at(at)),
+        }
+    }
+}
+
+#[cfg(test)]
+mod tests {
+    use super::*;
+
+    // Reads one word, of which five are there.
+    fn one_of_five(at: usize) -> Result<usize, Refusal> {
+        if at < 5 {
+            Ok(at + 1)
+        } else {
+            Err(Reason::Unfit.at(at))
+        }
+    }
+
+    #[test]
+    fn reads_a_row_by_any_reader(rt: HostRuntime) {
+        let cases = [(0, Ok(2)), (3, Ok(5)), (4, Err(Reason::Unfit.at(5)))];
+        for (count, want) in cases {
+            assert_eq!(rt;
+                row(|at| one_of_five(at), 2, count),
+                want,
+                "{count} from 2 on"
+            );
         }
     }
 }

@@ -5,11 +5,11 @@ use Prim.Native.Nat.{ℕ}
 use Rattle.octets.specs.Words.{words}
 use Rattle.rules.specs.Flat.{read_atom, read_core_action}
 use Rattle.written.specs.Written.{with_heads}
-use Rattle.records.proofs.Items.{pair, flat_rule, whole_made}
+use Rattle.records.proofs.Items.{pair, flat_rule, whole_alike}
 use Rattle.records.proofs.flat.Goals as goal
 
 pub returns : goal.returns
 returns c =
     let s = with_heads c.args.heads in
     let ws : List ℕ = words c.args.rule.now in
-    c.whole_rule.ensures ∙ whole_made ws (read_atom s ws) (read_core_action s ws) pair flat_rule
+    c.whole_rule.ensures ∙ whole_alike ws (read_atom s ws) (read_core_action s ws) pair flat_rule

@@ -6,11 +6,11 @@ use Rattle.std.proofs.Common.{rules}
 use Rattle.octets.specs.Words.{words}
 use Rattle.rules.specs.Refusals.{Res}
 use Rattle.rules.specs.Written.{read_row}
-use Rattle.written.specs.Written.{with_heads, ending_of}
-use Rattle.records.specs.Rows.{read_item, ends}
+use Rattle.written.specs.Written.{with_heads, ending_of, ends}
+use Rattle.records.specs.Rows.{read_item}
 use Rattle.records.specs.declared.rows.Item.{Item}
 use Rattle.records.specs.declared.rows.Item.TheVariants.{Fact, Action, Atom, CoreAction}
-use Rattle.records.proofs.Several.{ends_row}
+use Rattle.written.proofs.Rows.{ends_row}
 use Rattle.records.proofs.rows.row.Goals as goal
 
 module _ (heads : ℕ) (ws : List ℕ) where
@@ -29,22 +29,22 @@ pub returns-in-Fact : goal.returns-in-Fact
 returns-in-Fact c =
     let a = c.args in
     let ws : List ℕ = words a.rule.now in
-    by_case a.heads ws a.count a.at c.in-Fact.is (c.several.ensures (one_ends a.heads ws Fact) (λ p r h. search rules))
+    by_case a.heads ws a.count a.at c.in-Fact.is (c.row.ensures (one_ends a.heads ws Fact) (λ p r h. search rules))
 
 pub returns-in-Action : goal.returns-in-Action
 returns-in-Action c =
     let a = c.args in
     let ws : List ℕ = words a.rule.now in
-    by_case a.heads ws a.count a.at c.in-Action.is (c.several-in-Action.ensures (one_ends a.heads ws Action) (λ p r h. search rules))
+    by_case a.heads ws a.count a.at c.in-Action.is (c.row-in-Action.ensures (one_ends a.heads ws Action) (λ p r h. search rules))
 
 pub returns-in-Atom : goal.returns-in-Atom
 returns-in-Atom c =
     let a = c.args in
     let ws : List ℕ = words a.rule.now in
-    by_case a.heads ws a.count a.at c.in-Atom.is (c.several-in-Atom.ensures (one_ends a.heads ws Atom) (λ p r h. search rules))
+    by_case a.heads ws a.count a.at c.in-Atom.is (c.row-in-Atom.ensures (one_ends a.heads ws Atom) (λ p r h. search rules))
 
 pub returns-in-CoreAction : goal.returns-in-CoreAction
 returns-in-CoreAction c =
     let a = c.args in
     let ws : List ℕ = words a.rule.now in
-    by_case a.heads ws a.count a.at c.in-CoreAction.is (c.several-in-CoreAction.ensures (one_ends a.heads ws CoreAction) (λ p r h. search rules))
+    by_case a.heads ws a.count a.at c.in-CoreAction.is (c.row-in-CoreAction.ensures (one_ends a.heads ws CoreAction) (λ p r h. search rules))

@@ -1,8 +1,8 @@
 use Prim.Native.Nat.{ℕ, ◌-◌}
 use mathlib.Core.Path.{◌≡◌}
 use Rattle.rules.specs.Refusals.{Res}
-use Rattle.records.specs.Rows.{Tells, ends}
-use Rattle.records.proofs.rows.several.Given as goal
+use Rattle.written.specs.Written.{Tells, ends}
+use Rattle.written.proofs.row.Given as goal
 
 -- what is left of them answers as the whole does
 abbrev pub invariant-loop : goal.invariant-loop

@@ -3,8 +3,8 @@ use mathlib.Core.Path.{◌≡◌, ◌∙◌}
 use Prim.Native.Nat.{◌-◌, ◌+◌, suc}
 use native.Mathlib.Omega.{arith}
 use Rattle.refusals.proofs.Passing.{passed_on}
-use Rattle.records.proofs.Several.{ends_none, ends_next, ends_stops}
-use Rattle.records.proofs.rows.several.Goals as goal
+use Rattle.written.proofs.Rows.{ends_none, ends_next, ends_stops}
+use Rattle.written.proofs.row.Goals as goal
 
 pub returns-in_err-next : goal.returns-in_err-next
 returns-in_err-next g c f t =

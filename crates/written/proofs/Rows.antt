@@ -3,9 +3,8 @@ use mathlib.Core.Path.{◌≡◌, refl, sym, ◌∙◌}
 use Prim.Native.Nat.{ℕ, zero, suc}
 use Rattle.rules.specs.Refusals.{Res, ok, refuse, ◌>>=◌}
 use Rattle.rules.specs.Written.{Read, Reader, read_row}
-use Rattle.written.specs.Written.{ending_of}
+use Rattle.written.specs.Written.{ending_of, ends}
 use Rattle.written.proofs.Walking.{then_made}
-use Rattle.records.specs.Rows.{ends}
 
 module _ (f : ℕ → Res ℕ) {n p : ℕ} where
   pub ends_none : n ≡ 0 → ok p ≡ ends f n p
