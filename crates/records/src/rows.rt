@@ -1,5 +1,5 @@
-// Rows: what a rule holds stands one after the other, written or flat. One loop reads them all, and a rule is two of them behind its header, which is taken by
-// `let .. else`, the form that document 01 names for each expected word.
+// Rows: what a rule holds stands one after the other, written or flat. One loop reads them all, `row` of crates/written, and a rule is two of them behind its
+// header, which is taken by `let .. else`, the form that document 01 names for each expected word.
 ghost use Rattle.std.specs.Prelude.{◌≡◌};
 ghost use Rattle.octets.specs.Words.{words};
 ghost use Rattle.refusals.specs.Numbers.{said};
