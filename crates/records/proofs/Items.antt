@@ -1,6 +1,6 @@
 -- What holds of the items of a rule, whatever they are: each goes on behind its first word, so a row is read one by one, and a rule of two rows ends with its
 -- words or is refused; and where a rule ends whose rows are read by readers that are lent. Assumes nothing.
-use mathlib.Core.Path.{◌≡◌, refl}
+use mathlib.Core.Path.{◌≡◌, refl, sym, ◌∙◌}
 use mathlib.Core.Bool.{Bool, true, false}
 use mathlib.Core.List.{List}
 use Prim.Native.Nat.{ℕ, ◌≤◌, ◌<◌}
@@ -47,32 +47,15 @@ rule fs xs = record { facts = fs; actions = xs }
 abbrev pub flat_rule : List Flat.Atom → List Flat.CoreAction → FlatRule
 flat_rule as' xs = record { atoms = as'; actions = xs }
 
--- a whole rule ends where it ends, whatever is made of it
-module _ {A B C D : Type 0} (ws : List ℕ) (one : Reader A) (two : Reader B) (f : List A → List B → C) (g : List A → List B → D) where
-  on : {X : Type 0} (x : Res X) (h : X → Res C) (k : X → Res D) → ((a : X) → whole_of ws (h a) ≡ whole_of ws (k a)) → whole_of ws (◌>>=◌ x h) ≡ whole_of ws (◌>>=◌ x k)
-  on (ok a) h k same = same a
-  on (refuse n p) h k same = refl
-
-  last : (b : Bool) (p : ℕ) (x : C) (y : D) → whole_of ws (demand b unfit p x) ≡ whole_of ws (demand b unfit p y)
-  last true p x y = refl
-  last false p x y = refl
-
-  pub whole_alike : whole_of ws (whole_headed ws f one two) ≡ whole_of ws (whole_headed ws g one two)
-  whole_alike =
-      on (read_word ws is_header_word 0) _ _ (λ w.
-      on (read_row one (facts_of w.value) w.at) _ _ (λ xs.
-      on (read_row two (actions_of w.value) xs.at) _ _ (λ ys.
-      last (leb (length ws) ys.at) ys.at (f xs.value ys.value) (g xs.value ys.value))))
-
 -- ---- a rule that is read by two readers ends where they do
 
 module _ {A B C : Type 0} (ws : List ℕ) (one : Reader A) (two : Reader B) (h : List A → List B → C) where
   abbrev Ends : {X : Type 0} → Reader X → ℕ → Res ℕ
   Ends read p = ending_of (read p)
 
-  then : {X : Type 0} (n : ℕ) (x : Res X) (f : X → Res ℕ) (k : X → Res C) → ((a : X) → f a ≡ whole_of ws (k a)) → ◌>>=◌ x f ≡ whole_of ws (◌>>=◌ x k)
-  then n (ok a) f k same = same a
-  then n (refuse m p) f k same = refl
+  then : {X : Type 0} (x : Res X) (f : X → Res ℕ) (k : X → Res C) → ((a : X) → f a ≡ whole_of ws (k a)) → ◌>>=◌ x f ≡ whole_of ws (◌>>=◌ x k)
+  then (ok a) f k same = same a
+  then (refuse m p) f k same = refl
 
   -- what is read ends where its reading does
   then_ends : {X : Type 0} (e : Res ℕ) (x : Res (Read X)) (f : ℕ → Res ℕ) (k : Read X → Res C) → e ≡ ending_of x → ((a : Read X) → f a.at ≡ whole_of ws (k a))
@@ -80,16 +63,21 @@ module _ {A B C : Type 0} (ws : List ℕ) (one : Reader A) (two : Reader B) (h :
   then_ends e (ok a) f k is same = rw is (same a)
   then_ends e (refuse m p) f k is same = rw is refl
 
-  last_ends : (q : ℕ) (c : C) (b : Bool) → demand b unfit q (length ws) ≡ whole_of ws (demand b unfit q c)
-  last_ends q c true = refl
-  last_ends q c false = refl
+  last : (q : ℕ) (c : C) (b : Bool) → demand b unfit q (length ws) ≡ whole_of ws (demand b unfit q c)
+  last q c true = refl
+  last q c false = refl
 
   pub whole_made : whole_ends (Ends one) (Ends two) ws ≡ whole_of ws (whole_headed ws h one two)
   whole_made =
-      then 0 (read_word ws is_header_word 0) _ _ (λ w.
+      then (read_word ws is_header_word 0) _ _ (λ w.
       then_ends _ (read_row one (facts_of w.value) w.at) _ _ (ends_row one (facts_of w.value) w.at) (λ xs.
       then_ends _ (read_row two (actions_of w.value) xs.at) _ _ (ends_row two (actions_of w.value) xs.at) (λ ys.
-      last_ends ys.at (h xs.value ys.value) (leb (length ws) ys.at))))
+      last ys.at (h xs.value ys.value) (leb (length ws) ys.at))))
+
+-- so it ends where it ends, whatever is made of it
+pub whole_alike : {A B C D : Type 0} (ws : List ℕ) (one : Reader A) (two : Reader B) (f : List A → List B → C) (g : List A → List B → D)
+    → whole_of ws (whole_headed ws f one two) ≡ whole_of ws (whole_headed ws g one two)
+whole_alike ws one two f g = sym (whole_made ws one two f) ∙ whole_made ws one two g
 
 -- ---- the code's way through a whole rule
 
